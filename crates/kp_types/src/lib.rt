@@ -1,0 +1,20 @@
+//! What every crate speaks of: offsets, epochs, node numbers, limits, refusals, and devices that count
+//! their failed calls. It stands on std alone. The layers above use the refusals' exact texts, and that
+//! a device refusal comes exactly where a count rose.
+#![tactic(auto)]
+
+mod counted;
+mod faulty;
+mod limits;
+mod refusal;
+
+pub use counted::Counted;
+pub use faulty::Faulty;
+pub use limits::{
+    Epoch, GREATEST_EPOCH, GREATEST_OFFSET, GREATEST_SEGMENT_BYTES, GREATEST_VERSION,
+    LEAST_SEGMENT_BYTES, Limits, MAX_BATCH, MAX_INDEX_INTERVAL, MOST_NODES, NodeId, Offset,
+};
+pub use refusal::Refusal;
+
+#[cfg(test)]
+mod tests;
