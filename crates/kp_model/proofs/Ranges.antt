@@ -1,0 +1,284 @@
+-- The controller's record stays in range.
+use Rattle.std.proofs.Common.{◌≡◌, ℕ, zero, suc, ◌+◌, zero-add, ◌<◌, ◌≤◌, leb, ltb, Bool, true, false, cond, eqb, List, [], ◌∷◌, ◌++◌, Option, Some, None, Result, Ok, Err, refl, sym, ap, ◌∙◌, subst, arith, inl, inr}
+use Rattle.std.specs.Prelude.{filter, ◌||◌, is_some, max, unwrap_or, slice_index_or, slice_set}
+use Rattle.std.specs.List.{AllByRecursion, range_with_len}
+use Rattle.std.proofs.lemmas.Bool.{cond_both, ltb-true, ltb-false, leb-false, false≢true, not-false}
+use Rattle.kp_batch.specs.Batch.{Body}
+use Rattle.kp_types.specs.declared.refusal.Refusal.{Refusal}
+use Rattle.kp_model.specs.Log.{end_of}
+use Rattle.kp_model.specs.Admission.{Admission, Append, Duplicate, Refused as NotAdmitted, admit, admit_marker}
+use Rattle.kp_model.specs.World.{Leader, LeaderAndIsr, Leading, Following, Mode, Down, Idle, Leads, Follows, Node, Request, Answer, Message, Asks, Answers, World, start, with_record, no_reports, report_of, IsSent}
+use Rattle.kp_model.specs.Event.{Act, Adopt, Produce, Mark, Ask, Receive, Raise, Join, Leave, Checkpoint, Stop, Restart, Show, Read, Committed, Event, Reply, Outcome, NowLeads, NowFollows}
+use Rattle.kp_model.specs.Local
+use Rattle.kp_model.specs.Local.{Effect, becomes, cause, Happens, LacksMemory, LacksMemoryFor, Adopts, Appends, Produces, Marks, Accepts, Receives, Serves, Cuts, Alters, marker_body, with_member, without_member, is_member, is_empty, join_cause, leave_cause, next_epoch, elected, cannot_elect, greatest_epoch, greatest_version}
+use Rattle.kp_model.specs.Step.{Step, moved, IsGiven, Rise, IsInRange, elect_cause}
+use Rattle.kp_model.specs.Run.{Moment, IsRun, Run, now, worlds, IsOf}
+use Rattle.kp_model.proofs.Steps.{passed, where_leads, where_follows, leads_cause, step_cases, each_sent, each_append}
+use Rattle.kp_model.proofs.Runs.{among_each}
+use Rattle.kp_model.proofs.RunLaws.{step_onward}
+use Rattle.kp_model.proofs.Kin.{with_node_each}
+use Rattle.kp_model.proofs.Held.{IsIn}
+use Rattle.kp_model.proofs.HeldMessages.{set_cases, leads_is}
+use Rattle.kp_model.proofs.HeldSteps.{down_leads, idle_leads, follows_leads}
+use Rattle.kp_model.proofs.Members.{in_cases, named, same_version, caught_up}
+use Rattle.kp_model.proofs.HeldLeads.{replicate_each}
+use Rattle.kp_model.proofs.HeldEvents.{isr_is}
+use Rattle.kp_model.proofs.HeldRuns.{run_is_held}
+
+-- ---- rising lists
+
+rise_from : (low lower high : ℕ) (xs : List ℕ) → lower ≤ low → Rise low high xs → Rise lower high xs
+rise_from low lower high [] l h = tt
+rise_from low lower high (x ∷ xs) l h = (let at = h.0 in omega arith, h.1, h.2)
+
+rise_filter : (p : ℕ → Bool) (low high : ℕ) (xs : List ℕ) → Rise low high xs → Rise low high (filter p xs)
+rise_filter p low high [] h = tt
+rise_filter p low high (x ∷ xs) h =
+    cond_both (p x) (x ∷ filter p xs) (filter p xs) (Rise low high)
+    (λ e. (h.0, h.1, rise_filter p (x + 1) high xs h.2))
+    (λ e. rise_from (x + 1) low high (filter p xs) (let at = h.0 in omega arith) (rise_filter p (x + 1) high xs h.2))
+
+rise_lower : (m low high : ℕ) (xs : List ℕ) → Rise low high xs → Rise low m (filter (λ x. ltb x m) xs)
+rise_lower m low high [] h = tt
+rise_lower m low high (x ∷ xs) h =
+    cond_both (ltb x m) (x ∷ filter (λ y. ltb y m) xs) (filter (λ y. ltb y m) xs) (Rise low m)
+    (λ e. (h.0, ltb-true x m e, rise_lower m (x + 1) high xs h.2))
+    (λ e. rise_from (x + 1) low m (filter (λ y. ltb y m) xs) (let at = h.0 in omega arith) (rise_lower m (x + 1) high xs h.2))
+
+rise_upper : (m low high : ℕ) (xs : List ℕ) → Rise low high xs → Rise (m + 1) high (filter (λ x. ltb m x) xs)
+rise_upper m low high [] h = tt
+rise_upper m low high (x ∷ xs) h =
+    cond_both (ltb m x) (x ∷ filter (λ y. ltb m y) xs) (filter (λ y. ltb m y) xs) (Rise (m + 1) high)
+    (λ e. (let lower = ltb-true m x e in omega arith, h.1, rise_filter (λ y. ltb m y) (x + 1) high xs h.2))
+    (λ e. rise_upper m (x + 1) high xs h.2)
+
+rise_join : (m low high : ℕ) (xs ys : List ℕ) → low ≤ m → m < high → Rise low m xs → Rise (m + 1) high ys → Rise low high (xs ++ m ∷ ys)
+rise_join m low high [] ys l u h k = (l, u, k)
+rise_join m low high (x ∷ xs) ys l u h k = (h.0, (let at = h.1 in omega arith), rise_join m (x + 1) high xs ys (let at = h.1 in omega arith) u h.2 k)
+
+rise_with : (m high : ℕ) (xs : List ℕ) → m < high → Rise 0 high xs → Rise 0 high (with_member m xs)
+rise_with m high xs u h = rise_join m 0 high (filter (λ x. ltb x m) xs) (filter (λ x. ltb m x) xs) (omega arith) u (rise_lower m 0 high xs h) (rise_upper m 0 high xs h)
+
+rise_below : (low high : ℕ) (xs : List ℕ) (m : ℕ) → Rise low high xs → IsIn m xs → m < high
+rise_below low high [] m h i = absurd (false≢true i)
+rise_below low high (x ∷ xs) m h i =
+    elim (in_cases x m xs i) [ inl here ↦ (let at = h.1 in omega arith) | inr there ↦ rise_below (x + 1) high xs m h.2 there ]
+
+rise_range : (a c : ℕ) → Rise a (a + c) (range_with_len a c)
+rise_range a zero = tt
+rise_range a (suc c) =
+    (omega arith, omega arith, (let same : (a + 1) + c ≡ a + suc c = omega arith in subst (λ (k : ℕ). Rise (a + 1) k (range_with_len (a + 1) c)) same (rise_range (a + 1) c)))
+
+-- ---- what is in range besides the record: who asked, and who reported
+
+abbrev MessageIsInRange : ℕ → Message → Type 0
+MessageIsInRange count (Asks r) = r.from < count
+MessageIsInRange count (Answers a) = Unit {0}
+
+abbrev ModeIsInRange : ℕ → Mode → Type 0
+ModeIsInRange count mode = (l : Leading) → mode ≡ Leads l → (m v : ℕ) → report_of l m ≡ Some v → m < count
+
+record WorldIsInRange (count : ℕ) (w : World) : Type 0 where
+  controller : IsInRange count w.controller
+  messages : AllByRecursion (MessageIsInRange count) w.messages
+  nodes : (n : ℕ) → ModeIsInRange count (w.nodes n).mode
+
+record EffectIsInRange (count : ℕ) (e : Effect) : Type 0 where
+  controller : IsInRange count e.controller
+  sent : AllByRecursion (MessageIsInRange count) e.sent
+  mode : ModeIsInRange count e.node.mode
+
+moved_in_range : (count : ℕ) (w : World) (n : ℕ) (e : Effect) → WorldIsInRange count w → EffectIsInRange count e → WorldIsInRange count (moved w n e)
+moved_in_range count w n e h f =
+    record {
+      controller = f.controller;
+      messages = each_append (MessageIsInRange count) w.messages e.sent h.messages f.sent;
+      nodes = with_node_each (λ m y. ModeIsInRange count y.mode) w.nodes n e.node (λ m ne. h.nodes m) f.mode;
+    }
+
+module _ (count : ℕ) (c : LeaderAndIsr) (n : ℕ) (x : Node) (counted : n < count) (h : IsInRange count c) (k : ModeIsInRange count x.mode)
+    (isr : (l : Leading) → x.mode ≡ Leads l → c.leader ≡ Some (record { node = n; epoch = l.epoch }) → l.isr ≡ c.isr) where
+  plain : (e : Effect) (y : Node) (reply : Reply) → e ≡ becomes c y reply → ModeIsInRange count y.mode → EffectIsInRange count e
+  plain e y reply is mode = subst (EffectIsInRange count) (sym is) (record { controller = h; sent = tt; mode = mode })
+
+  no_leads_down : ModeIsInRange count Down
+  no_leads_down l e m v q = absurd (down_leads l e)
+
+  no_leads_idle : ModeIsInRange count Idle
+  no_leads_idle l e m v q = absurd (idle_leads l e)
+
+  no_leads_follows : (f : Following) → ModeIsInRange count (Follows f)
+  no_leads_follows f l e m v q = absurd (follows_leads f l e)
+
+  adopt_by : (l : Leader) (b : Bool) → ModeIsInRange count (cond {A = Mode × Reply} b
+      (Leads (record { epoch = l.epoch; isr = c.isr; version = c.version; start = end_of x.log; reported = no_reports }), NowLeads l.epoch (end_of x.log))
+      (Follows (record { leader = l.node; epoch = l.epoch; fetching = is_empty x.log }), NowFollows l.node l.epoch (is_empty x.log))).0
+  adopt_by l true z e m v q =
+      let none : report_of z m ≡ None = ap (λ (y : Leading). report_of y m) (sym (leads_is _ z e)) ∙ replicate_each 7 m None in
+      absurd (false≢true (ap is_some (sym none ∙ q)))
+  adopt_by l false z e m v q = absurd (follows_leads _ z e)
+
+  adopts : (leader : Option Leader) (e : Effect) → Adopts c n x leader e → EffectIsInRange count e
+  adopts None e a = absurd a
+  adopts (Some l) e a = plain e _ _ a (adopt_by l (eqb l.node n))
+
+  appends : (l : Leading) (body : Body) (admission : Admission) (e : Effect) → Appends c x l body admission e → EffectIsInRange count e
+  appends l body Append e a = plain e _ _ a k
+  appends l body (Duplicate base) e a = plain e _ _ a k
+  appends l body (NotAdmitted r) e a = absurd a
+
+  produces : (l : Leading) (offer : Result Body Refusal) (e : Effect) → Produces c x l offer e → EffectIsInRange count e
+  produces l (Ok body) e a = appends l body (admit x.log body.content) e a.1
+  produces l (Err fault) e a = absurd a
+
+  serve_mode : (r : Request) (l : Leading) → x.mode ≡ Leads l → r.from < count → (m v : ℕ) → (b : Bool)
+      → slice_index_or (cond b (slice_set l.reported r.from (Some (max (unwrap_or (report_of l r.from) 0) (end_of r.log)))) l.reported) m None ≡ Some v → m < count
+  serve_mode r l mode from m v false q = k l mode m v q
+  serve_mode r l mode from m v true q =
+      elim (set_cases l.reported r.from m _ v q) [ inl new ↦ (let same = new.0 in omega arith) | inr old ↦ k l mode m v old ]
+
+  serves : (r : Request) (l : Leading) (e : Effect) → x.mode ≡ Leads l → r.from < count → Serves c x r l e → EffectIsInRange count e
+  serves r l e mode from a =
+      subst (EffectIsInRange count) (sym a)
+      (record {
+        controller = h;
+        sent = (tt, tt);
+        mode = λ z q m v p. serve_mode r l mode from m v r.fetching (subst (λ (y : Leading). report_of y m ≡ Some v) (sym (leads_is _ z q)) p);
+      })
+
+  accepts : (b : Answer) (fetching : Bool) (e : Effect) → Accepts c x b fetching e → EffectIsInRange count e
+  accepts b true e a = plain e _ _ a k
+  accepts b false e a = let f = where_follows x.mode (Cuts c x b e) a in plain e _ _ f.2.effect_is (no_leads_follows _)
+
+  receives : (m : Message) (e : Effect) → MessageIsInRange count m → Receives c x m e → EffectIsInRange count e
+  receives (Asks r) e from a = let l = where_leads x.mode (λ l. Serves c x r l e) a in serves r l.0 e l.1 from l.2
+  receives (Answers b) e from a = accepts b b.request.fetching e a
+
+  lacks : (m : Message) (e : Effect) → LacksMemoryFor c x m e → EffectIsInRange count e
+  lacks (Asks r) e a = plain e _ _ a k
+  lacks (Answers b) e a = plain e _ _ a.1.effect_is no_leads_down
+
+  alters : (set : List ℕ) (l : Leading) (e : Effect) → x.mode ≡ Leads l → Rise 0 count set → c.version < greatest_version → Alters c x set l e → EffectIsInRange count e
+  alters set l e mode rise low a =
+      subst (EffectIsInRange count) (sym a)
+      (record {
+        controller = record { leader = h.leader; isr = rise; version = (let v = h.version in omega arith) };
+        sent = tt;
+        mode = λ z q m v p. k l mode m v (subst (λ (y : Leading). report_of y m ≡ Some v) (sym (leads_is _ z q)) p);
+      })
+
+  does : (act : Act) (e : Effect) → ((m : Message) → act ≡ Receive m → MessageIsInRange count m) → cause c n x act ≡ None → Happens c n x act e → EffectIsInRange count e
+  does Adopt e given free a = adopts c.leader e a
+  does (Produce offer) e given free a = let l = where_leads x.mode (λ l. Produces c x l offer e) a in produces l.0 offer e l.2
+  does (Mark time producer epoch coordinator commit) e given free a =
+      let l = where_leads x.mode (λ l. Marks c x l (marker_body time producer epoch coordinator commit) (admit_marker x.log producer epoch coordinator) e) a in
+      appends l.0 _ (admit_marker x.log producer epoch coordinator) e l.2.1
+  does Ask e given free a =
+      let f = where_follows x.mode _ a in
+      subst (EffectIsInRange count) (sym f.2) (record { controller = h; sent = (counted, tt); mode = k })
+  does (Receive m) e given free a = receives m e (given m refl) a
+  does Raise e given free a = let l = where_leads x.mode (λ l. Local.Raises c n x l e) a in plain e _ _ l.2 k
+  does (Join member) e given free a =
+      let l = where_leads x.mode (λ l. Alters c x (with_member member l.isr) l e) a in
+      let known = passed _ _ _ (leads_cause x.mode (join_cause c n x member) l.0 l.1 free) in
+      let ready = passed _ _ _ known.1 in
+      let full = passed _ _ _ ready.1 in
+      let same = same_version c n l.0 (not-false _ known.0) in
+      let low = leb-false greatest_version l.0.version full.0 in
+      let up = caught_up x.watermark l.0 member (not-false _ ready.0) in
+      let recorded = named c n l.0 (not-false _ known.0) in
+      alters (with_member member l.0.isr) l.0 e l.1
+      (rise_with member count l.0.isr (k l.0 l.1 member up.0 up.1) (subst (Rise 0 count) (sym (isr l.0 l.1 recorded)) h.isr)) (omega arith) l.2
+  does (Leave member) e given free a =
+      let l = where_leads x.mode (λ l. Alters c x (without_member member l.isr) l e) a in
+      let known = passed _ _ _ (leads_cause x.mode (leave_cause c n member) l.0 l.1 free) in
+      let other = passed _ _ _ known.1 in
+      let full = passed _ _ _ other.1 in
+      let same = same_version c n l.0 (not-false _ known.0) in
+      let low = leb-false greatest_version l.0.version full.0 in
+      let recorded = named c n l.0 (not-false _ known.0) in
+      alters (without_member member l.0.isr) l.0 e l.1
+      (rise_filter _ 0 count l.0.isr (subst (Rise 0 count) (sym (isr l.0 l.1 recorded)) h.isr)) (omega arith) l.2
+  does Checkpoint e given free a = plain e _ _ a k
+  does Stop e given free a = plain e _ _ a no_leads_down
+  does Restart e given free a = plain e _ _ a no_leads_idle
+  does Show e given free a = plain e _ _ a k
+  does (Read from) e given free a = plain e _ _ a k
+  does (Committed from) e given free a = plain e _ _ a k
+
+  lacks_memory : (act : Act) (e : Effect) → LacksMemory c x act e → EffectIsInRange count e
+  lacks_memory (Produce offer) e a = plain e _ _ a k
+  lacks_memory (Mark time producer epoch coordinator commit) e a = plain e _ _ a k
+  lacks_memory Ask e a = plain e _ _ a k
+  lacks_memory (Receive m) e a = lacks m e a
+  lacks_memory Restart e a = plain e _ _ a k
+  lacks_memory (Read from) e a = plain e _ _ a k
+  lacks_memory (Committed from) e a = plain e _ _ a k
+  lacks_memory _ e a = absurd a
+
+-- ---- each step
+
+given_message : (messages : List Message) (act : Act) → IsGiven messages act → (m : Message) → act ≡ Receive m → IsSent messages m
+given_message messages act i m e = subst (IsGiven messages) e i
+
+elect_in_range : (count : ℕ) (w : World) (n : ℕ) → elect_cause w.controller n ≡ None → WorldIsInRange count w → WorldIsInRange count (with_record w (elected w.controller n))
+elect_in_range count w n free h =
+    let first = passed _ _ _ free in
+    let full = passed _ _ _ first.1 in
+    let both = or_false (ltb greatest_epoch (next_epoch w.controller.leader)) (leb greatest_version w.controller.version) full.0 in
+    let epoch = ltb-false greatest_epoch (next_epoch w.controller.leader) both.0 in
+    let version = leb-false greatest_version w.controller.version both.1 in
+    record {
+      controller = record {
+        leader = λ l e. (let same : record { node = n; epoch = next_epoch w.controller.leader } ≡ l = cc in
+            subst (λ (y : Leader). (y.node < count) × (y.epoch ≤ greatest_epoch)) same (rise_below 0 count w.controller.isr n h.controller.isr (not-false _ first.0), epoch));
+        isr = h.controller.isr;
+        version = omega arith;
+      };
+      messages = h.messages;
+      nodes = h.nodes;
+    }
+  where
+    or_false : (p q : Bool) → (p || q) ≡ false → (p ≡ false) × (q ≡ false)
+    or_false true q e = absurd (false≢true (sym e))
+    or_false false q e = (refl, e)
+
+step_in_range : (count : ℕ) (w : World) (event : Event) (outcome : Outcome) (new : World) → w.count ≡ count
+    → ((n : ℕ) (l : Leading) → (w.nodes n).mode ≡ Leads l → w.controller.leader ≡ Some (record { node = n; epoch = l.epoch }) → l.isr ≡ w.controller.isr)
+    → WorldIsInRange count w → Step w event outcome new → WorldIsInRange count new
+step_in_range count w event outcome new counts isr h s =
+    elim (step_cases w event outcome new s) [
+      | inl same ↦ subst (WorldIsInRange count) (sym same) h
+      | inr done ↦
+          elim done [
+            | inl e ↦ subst (WorldIsInRange count) (sym e.new_is) (elect_in_range count w e.node e.free h)
+            | inr a ↦
+                (let counted : a.node < count = subst (λ (k : ℕ). a.node < k) counts a.counted in
+                subst (WorldIsInRange count) (sym a.new_is)
+                (moved_in_range count w a.node a.effect h
+                (elim a.does [
+                  | inl d ↦
+                      does count w.controller a.node (w.nodes a.node) counted h.controller (h.nodes a.node) (isr a.node) a.act a.effect
+                      (λ m e. each_sent (MessageIsInRange count) w.messages m h.messages (given_message w.messages a.act a.given m e)) a.free d
+                  | inr d ↦ lacks_memory count w.controller a.node (w.nodes a.node) counted h.controller (h.nodes a.node) (isr a.node) a.act a.effect d
+                ])))
+          ]
+    ]
+
+record RunIsInRange (count : ℕ) (moments : List Moment) : Type 0 where
+  counts : (now count moments).count ≡ count
+  last : WorldIsInRange count (now count moments)
+  each : AllByRecursion (λ w. IsInRange count w.controller) (worlds count moments)
+
+in_range : (count : ℕ) (moments : List Moment) → IsRun count moments → RunIsInRange count moments
+in_range count [] r =
+    let first : IsInRange count (start count).controller = record { leader = λ l e. absurd (false≢true (ap is_some e)); isr = subst (λ (k : ℕ). Rise 0 k (range_with_len 0 count)) (zero-add count) (rise_range 0 count); version = omega arith } in
+    record { counts = refl; last = record { controller = first; messages = tt; nodes = λ n l e. absurd (idle_leads l e) }; each = (first, tt) }
+in_range count (m ∷ past) r =
+    let before = in_range count past r.1 in
+    let run = run_is_held count past r.1 in
+    let last = step_in_range count (now count past) m.event m.outcome m.after before.counts (λ n. isr_is (now count past) run.history run.sets run.all n) before.last r.0 in
+    record { counts = (step_onward (now count past) m.event m.outcome m.after r.0).0 ∙ before.counts; last = last; each = (last.controller, before.each) }
+
+pub records_are_in_range : (count : ℕ) (r : Run count) (w : World) → IsOf w r → IsInRange count w.controller
+records_are_in_range count r w i = among_each (λ v. IsInRange count v.controller) (worlds count r.moments) w (in_range count r.moments r.is_run).each i

@@ -1,0 +1,371 @@
+-- Each log of each world of a run is a log, and no leader epoch in it is above its node's.
+use Rattle.std.proofs.Common.{◌≡◌, ℕ, ◌+◌, ◌-◌, ◌<◌, ◌≤◌, Bool, true, false, cond, eqb, ltb, leb, List, [], ◌∷◌, ◌++◌, Option, Some, None, Result, Ok, Err, refl, sym, ap, subst, append_assoc, append-nil, arith, inl, inr}
+use Rattle.std.specs.Prelude.{map, unwrap_or, is_some}
+use Rattle.std.specs.List.{AllByRecursion, last_or, filter}
+use Rattle.std.proofs.lemmas.Bool.{cond_both, cases_Bool, ltb-false, and_parts, not-false, eqb-true}
+use Rattle.kp_types.specs.declared.refusal.Refusal.{Refusal}
+use Rattle.kp_batch.specs.Batch.{Body, IsBody}
+use Rattle.kp_model.specs.Beginning.{Begins}
+use Rattle.kp_model.specs.Log.{Batch, width, size, end_of, Follow, IsLog, from_offset}
+use Rattle.kp_model.specs.Admission.{Admission, Append, Duplicate, Refused as NotAdmitted, admit, admit_marker}
+use Rattle.kp_model.specs.World.{Leader, Leading, Following, Mode, Down, Idle, Leads, Follows, Node, Request, Answer, Message, Asks, Answers, World, start, with_record, with_node, with_message}
+use Rattle.kp_model.specs.Event.{Act, Adopt, Produce, Mark, Ask, Receive, Raise, Join, Leave, Checkpoint, Stop, Restart, Show, Read, Committed, Event, Reply, Outcome}
+use Rattle.kp_model.specs.Local
+use Rattle.kp_model.specs.Local.{Effect, becomes, sends, cause, Happens, LacksMemory, next_epoch, last_epoch, stamped, under, Adopts, Appends, Produces, Marks, Receives, Accepts, Serves, Takes, TakesSome, Cuts, Alters, piece, at_least_one, fitting, fetch_bytes, cannot_follow, grown, expects, take_cause, serve_cause, unless_leads, marker_body, LacksMemoryFor, elected, altered}
+use Rattle.kp_model.specs.Step.{Step, moved, IsGiven}
+use Rattle.kp_model.proofs.Beginnings.{Begins-after}
+use Rattle.kp_model.proofs.Logs.{last_epoch_or, IsLog-begins, IsLog-push}
+use Rattle.kp_model.proofs.Steps.{passed, where_leads, where_follows, leads_cause, with_node_keeps, step_cases, becoming, staying, sending, altering, each_sent, each_append, each_front, each_weaker}
+
+-- ---- epochs below a bound
+
+abbrev pub AllBelow : ℕ → List Batch → Type 0
+AllBelow bound log = AllByRecursion (λ b. b.epoch < bound) log
+
+pub below_later : (low high : ℕ) (log : List Batch) → low ≤ high → AllBelow low log → AllBelow high log
+below_later low high log l h = each_weaker (λ b. b.epoch < low) (λ b. b.epoch < high) (λ b p. omega arith) log h
+
+pub last_below : (epoch bound : ℕ) (log : List Batch) → epoch < bound → AllBelow bound log → last_epoch_or epoch log < bound
+last_below epoch bound [] e h = e
+last_below epoch bound (b ∷ bs) e h = last_below b.epoch bound bs h.0 h.1
+
+last_epoch_some : (epoch : ℕ) (log : List Batch) → last_or (Some epoch) (map (λ b. b.epoch) log) ≡ Some (last_epoch_or epoch log)
+last_epoch_some epoch [] = refl
+last_epoch_some epoch (b ∷ bs) = last_epoch_some b.epoch bs
+
+pub last_epoch_is : (log : List Batch) → unwrap_or (last_epoch log) 0 ≡ last_epoch_or 0 log
+last_epoch_is [] = refl
+last_epoch_is (b ∷ bs) = ap (λ (o : Option ℕ). unwrap_or o 0) (last_epoch_some b.epoch bs)
+
+-- ---- a piece of a log
+
+each_filter : {A : Type 0} (P : A → Type 0) (test : A → Bool) (xs : List A) → AllByRecursion P xs → AllByRecursion P (filter test xs)
+each_filter P test [] h = tt
+each_filter P test (x ∷ xs) h =
+    cond_both (test x) (x ∷ filter test xs) (filter test xs) (AllByRecursion P) (λ e. (h.0, each_filter P test xs h.1)) (λ e. each_filter P test xs h.1)
+
+each_fitting : (P : Batch → Type 0) (room : ℕ) (bs : List Batch) → AllByRecursion P bs → AllByRecursion P (fitting room bs)
+each_fitting P room [] h = tt
+each_fitting P room (b ∷ bs) h =
+    cond_both (leb (size b) room) (b ∷ fitting (room - size b) bs) [] (AllByRecursion P) (λ e. (h.0, each_fitting P (room - size b) bs h.1)) (λ e. tt)
+
+each_at_least_one : (P : Batch → Type 0) (bs : List Batch) → AllByRecursion P bs → AllByRecursion P (at_least_one bs)
+each_at_least_one P [] h = tt
+each_at_least_one P (b ∷ bs) h = (h.0, each_fitting P (fetch_bytes - size b) bs h.1)
+
+pub each_piece : (P : Batch → Type 0) (log : List Batch) (r : Request) → AllByRecursion P log → AllByRecursion P (piece log r)
+each_piece P log r h = each_at_least_one P (from_offset (end_of r.log) log) (each_filter P (λ b. leb (end_of r.log) b.base) log h)
+
+pub Follow-bodies : (offset epoch : ℕ) (log : List Batch) → Follow offset epoch log → AllByRecursion (λ b. IsBody b.body) log
+Follow-bodies offset epoch [] h = tt
+Follow-bodies offset epoch (b ∷ bs) h = (h.2, Follow-bodies (offset + width b) b.epoch bs h.3)
+
+-- batches that can follow a log make a log with it
+can_follow : (log bs : List Batch) → IsLog log → AllByRecursion (λ b. IsBody b.body) bs → cannot_follow log bs ≡ None → IsLog (log ++ bs)
+can_follow log [] h bodies e = rw append-nil h
+can_follow log (b ∷ bs) h bodies e =
+    elim (cases_Bool (eqb b.base (end_of log))) [
+      | inr differs ↦ (let wrong = rw differs at e in absurd cc)
+      | inl same ↦
+          (let rest = rw same at e in
+          elim (cases_Bool (ltb b.epoch (unwrap_or (last_epoch log) 0))) [
+            | inl back ↦ (let wrong = rw back at rest in absurd cc)
+            | inr onward ↦
+                (let more = rw onward at rest in
+                let order : last_epoch_or 0 log ≤ b.epoch = rw last_epoch_is at (ltb-false b.epoch (unwrap_or (last_epoch log) 0) onward) in
+                let next = can_follow (log ++ b ∷ []) bs (IsLog-push log b h (eqb-true b.base (end_of log) same) order bodies.0) bodies.1 more in
+                subst IsLog (append_assoc log (b ∷ []) bs) next)
+          ])
+    ]
+
+-- ---- sound worlds
+
+-- the bound on the epochs in a node's log: its own epoch and no more, or any so far
+abbrev pub mode_bound : ℕ → Mode → ℕ
+mode_bound elections Down = elections
+mode_bound elections Idle = elections
+mode_bound elections (Leads l) = l.epoch + 1
+mode_bound elections (Follows f) = f.epoch + 1
+
+pub bound_later : (low high : ℕ) (mode : Mode) → low ≤ high → mode_bound low mode ≤ mode_bound high mode
+bound_later low high Down l = l
+bound_later low high Idle l = l
+bound_later low high (Leads x) l = omega arith
+bound_later low high (Follows x) l = omega arith
+
+bound_within : (low high : ℕ) (mode : Mode) → low ≤ high → mode_bound low mode ≤ low → mode_bound high mode ≤ high
+bound_within low high Down l h = omega arith
+bound_within low high Idle l h = omega arith
+bound_within low high (Leads x) l h = omega arith
+bound_within low high (Follows x) l h = omega arith
+
+pub record NodeIsSound (elections : ℕ) (x : Node) : Type 0 where
+  pub log : IsLog x.log
+  pub epochs : AllBelow (mode_bound elections x.mode) x.log
+  pub within : mode_bound elections x.mode ≤ elections
+
+pub record AnswerIsSound (a : Answer) : Type 0 where
+  pub log : IsLog a.log
+  pub epochs : AllBelow (a.request.epoch + 1) a.log
+
+abbrev pub MessageIsSound : Message → Type 0
+MessageIsSound (Asks r) = Unit {0}
+MessageIsSound (Answers a) = AnswerIsSound a
+
+abbrev pub elections_of : World → ℕ
+elections_of w = next_epoch w.controller.leader
+
+pub record WorldIsSound (w : World) : Type 0 where
+  pub nodes : (n : ℕ) → NodeIsSound (elections_of w) (w.nodes n)
+  pub messages : AllByRecursion MessageIsSound w.messages
+
+pub sound_start : (count : ℕ) → WorldIsSound (start count)
+sound_start count = record { nodes = λ n. record { log = tt; epochs = tt; within = omega arith }; messages = tt }
+
+NodeIsSound-later : (low high : ℕ) (x : Node) → low ≤ high → NodeIsSound low x → NodeIsSound high x
+NodeIsSound-later low high x l h =
+    record {
+      log = h.log;
+      epochs = below_later (mode_bound low x.mode) (mode_bound high x.mode) x.log (bound_later low high x.mode l) h.epochs;
+      within = bound_within low high x.mode l h.within;
+    }
+
+-- the epochs in a node's log are below the number of elections
+pub all_below : (elections : ℕ) (x : Node) → NodeIsSound elections x → AllBelow elections x.log
+all_below elections x h = below_later (mode_bound elections x.mode) elections x.log h.within h.epochs
+
+pub changed : (w : World) (n : ℕ) (x : Node) → WorldIsSound w → NodeIsSound (elections_of w) x → WorldIsSound (with_node w n x)
+changed w n x h p = record { nodes = with_node_keeps (NodeIsSound (elections_of w)) w.nodes n x h.nodes p; messages = h.messages }
+
+sent : (w : World) (m : Message) → WorldIsSound w → MessageIsSound m → WorldIsSound (with_message w m)
+sent w m h p = record { nodes = h.nodes; messages = each_append MessageIsSound w.messages (m ∷ []) h.messages (p, tt) }
+
+-- ---- each kind of event
+
+pub elect_keeps : (w : World) (n : ℕ) → WorldIsSound w → WorldIsSound (with_record w (elected w.controller n))
+elect_keeps w n h =
+    record {
+      nodes = λ m. NodeIsSound-later (elections_of w) (elections_of w + 1) (w.nodes m) (omega arith) (h.nodes m);
+      messages = h.messages;
+    }
+
+adopt_keeps : (w : World) (n : ℕ) (leader : Option Leader) (f : Effect) → w.controller.leader ≡ leader → WorldIsSound w → Adopts w.controller n (w.nodes n) leader f → WorldIsSound (moved w n f)
+adopt_keeps w n None f e h a = absurd a
+adopt_keeps w n (Some l) f e h a =
+    let x = w.nodes n in
+    let role = under w.controller l n x.log in
+    let bound : mode_bound (elections_of w) role.0 ≡ l.epoch + 1 =
+    cond_both (eqb l.node n) _ _ (λ (p : Mode × Reply). mode_bound (elections_of w) p.0 ≡ l.epoch + 1) (λ t. refl) (λ t. refl) in
+    let elections : elections_of w ≡ l.epoch + 1 = ap next_epoch e in
+    let sound = all_below (elections_of w) x (h.nodes n) in
+    becoming WorldIsSound w n f (record x { mode = role.0 }) role.1 a
+    (changed w n (record x { mode = role.0 }) h
+    (record {
+      log = (h.nodes n).log;
+      epochs = below_later (elections_of w) (mode_bound (elections_of w) role.0) x.log (omega (arith, bound, elections)) sound;
+      within = omega (arith, bound, elections);
+    }))
+
+-- a batch that a leader stamps keeps its log
+pub stamp_keeps : (elections : ℕ) (x : Node) (l : Leading) (body : Body) → x.mode ≡ Leads l → NodeIsSound elections x → IsBody body → NodeIsSound elections (record x { log = x.log ++ stamped x.log l.epoch body ∷ [] })
+stamp_keeps elections x l body e h lawful =
+    let bound : mode_bound elections x.mode ≡ l.epoch + 1 = ap (mode_bound elections) e in
+    let below : AllBelow (l.epoch + 1) x.log = rw bound at h.epochs in
+    let b = stamped x.log l.epoch body in
+    let last = last_below 0 (l.epoch + 1) x.log (omega arith) below in
+    record {
+      log = IsLog-push x.log b h.log refl (omega arith) lawful;
+      epochs = each_append (λ c. c.epoch < mode_bound elections x.mode) x.log (b ∷ []) h.epochs (omega (arith, bound), tt);
+      within = h.within;
+    }
+
+append_keeps : (w : World) (n : ℕ) (l : Leading) (body : Body) (admission : Admission) (f : Effect) → (w.nodes n).mode ≡ Leads l → WorldIsSound w → IsBody body → Appends w.controller (w.nodes n) l body admission f → WorldIsSound (moved w n f)
+append_keeps w n l body Append f e h lawful a =
+    becoming WorldIsSound w n f _ _ a (changed w n _ h (stamp_keeps (elections_of w) (w.nodes n) l body e (h.nodes n) lawful))
+append_keeps w n l body (Duplicate base) f e h lawful a = staying WorldIsSound w n f _ a h
+append_keeps w n l body (NotAdmitted r) f e h lawful a = absurd a
+
+produce_keeps : (w : World) (n : ℕ) (l : Leading) (offer : Result Body Refusal) (f : Effect) → (w.nodes n).mode ≡ Leads l → WorldIsSound w → Produces w.controller (w.nodes n) l offer f → WorldIsSound (moved w n f)
+produce_keeps w n l (Ok body) f e h a = append_keeps w n l body (admit (w.nodes n).log body.content) f e h a.0 a.1
+produce_keeps w n l (Err fault) f e h a = absurd a
+
+-- a leader answers in its own epoch
+serve_keeps : (w : World) (n : ℕ) (r : Request) (l : Leading) (f : Effect) → (w.nodes n).mode ≡ Leads l → serve_cause (w.nodes n).log r l ≡ None → WorldIsSound w → Serves w.controller (w.nodes n) r l f → WorldIsSound (moved w n f)
+serve_keeps w n r l f e c h a =
+    let x = w.nodes n in
+    let sound = h.nodes n in
+    let bound : mode_bound (elections_of w) x.mode ≡ l.epoch + 1 = ap (mode_bound (elections_of w)) e in
+    let not_fenced = passed _ _ _ c in
+    let not_ahead = passed _ _ _ not_fenced.1 in
+    let lower = ltb-false r.epoch l.epoch not_fenced.0 in
+    let upper = ltb-false l.epoch r.epoch not_ahead.0 in
+    sending WorldIsSound w n f _ _ _ a
+    (sent _ _ (changed w n _ h (record { log = sound.log; epochs = rw bound at sound.epochs; within = omega (arith, bound, sound.within) }))
+    (record { log = sound.log; epochs = below_later (mode_bound (elections_of w) x.mode) (r.epoch + 1) x.log (omega (arith, bound)) sound.epochs }))
+
+-- what a fetch answer adds keeps the node's log
+expects_mode : (elections : ℕ) (x : Node) (a : Answer) (mode : Mode) → expects x a mode ≡ true → mode_bound elections mode ≡ a.request.epoch + 1
+expects_mode elections x a Down e = absurd cc
+expects_mode elections x a Idle e = absurd cc
+expects_mode elections x a (Leads l) e = absurd cc
+expects_mode elections x a (Follows f) e =
+    let rest = and_parts _ _ e in
+    let fetches = and_parts _ _ rest.0 in
+    ap (λ (n : ℕ). n + 1) (eqb-true f.epoch a.request.epoch fetches.1)
+
+pub record TakeFacts (x : Node) (a : Answer) : Type 0 where
+  pub expected : expects x a x.mode ≡ true
+  pub follows : cannot_follow x.log (piece a.log a.request) ≡ None
+
+is_some_none : {A : Type 0} (o : Option A) → is_some o ≡ false → o ≡ None
+is_some_none None e = refl
+is_some_none (Some x) e = absurd cc
+
+pub take_facts : (x : Node) (a : Answer) → take_cause x a ≡ None → TakeFacts x a
+take_facts x a c =
+    let up = passed _ _ _ c in
+    let expected = passed _ _ _ up.1 in
+    let follows = take_follows (cannot_follow x.log (piece a.log a.request)) _ expected.1 in
+    record { expected = not-false (expects x a x.mode) expected.0; follows = follows }
+  where
+    take_follows : (o rest : Option Refusal) → cond (is_some o) o rest ≡ None → o ≡ None
+    take_follows None rest e = refl
+    take_follows (Some r) rest e = e
+
+grown_is_sound : (elections : ℕ) (x : Node) (a : Answer) → NodeIsSound elections x → AnswerIsSound a → take_cause x a ≡ None → NodeIsSound elections (record x { log = grown x a })
+grown_is_sound elections x a h g c =
+    let facts = take_facts x a c in
+    let bound = expects_mode elections x a x.mode facts.expected in
+    record {
+      log = can_follow x.log (piece a.log a.request) h.log (each_piece (λ b. IsBody b.body) a.log a.request (Follow-bodies 0 0 a.log g.log)) facts.follows;
+      epochs = each_append (λ b. b.epoch < mode_bound elections x.mode) x.log (piece a.log a.request) h.epochs
+          (each_piece (λ b. b.epoch < mode_bound elections x.mode) a.log a.request (below_later (a.request.epoch + 1) (mode_bound elections x.mode) a.log (omega (arith, bound)) g.epochs));
+      within = h.within;
+    }
+
+take_keeps : (w : World) (n : ℕ) (a : Answer) (f : Effect) → take_cause (w.nodes n) a ≡ None → WorldIsSound w → AnswerIsSound a → Takes w.controller (w.nodes n) a f → WorldIsSound (moved w n f)
+take_keeps w n a f c h g t =
+    let sound = grown_is_sound (elections_of w) (w.nodes n) a (h.nodes n) g c in
+    becoming WorldIsSound w n f _ _ t (changed w n _ h (record { log = sound.log; epochs = sound.epochs; within = sound.within }))
+
+-- a node that went down while it took the batches has a beginning of what it would have
+take_some_keeps : (w : World) (n : ℕ) (a : Answer) (f : Effect) → take_cause (w.nodes n) a ≡ None → WorldIsSound w → AnswerIsSound a → TakesSome w.controller (w.nodes n) a f → WorldIsSound (moved w n f)
+take_some_keeps w n a f c h g t =
+    let x = w.nodes n in
+    let sound = grown_is_sound (elections_of w) x a (h.nodes n) g c in
+    let front : Begins (x.log ++ t.some) (grown x a) = Begins-after x.log t.begins in
+    let high : AllBelow (elections_of w) (grown x a) = all_below (elections_of w) (record x { log = grown x a }) sound in
+    becoming WorldIsSound w n f _ _ t.effect_is
+    (changed w n _ h (record {
+      log = IsLog-begins front sound.log;
+      epochs = below_front (elections_of w) (x.log ++ t.some) (grown x a) front high;
+      within = omega arith;
+    }))
+  where
+    below_front : (bound : ℕ) (front log : List Batch) → Begins front log → AllBelow bound log → AllBelow bound front
+    below_front bound front log p h = each_front (λ b. b.epoch < bound) front p.rest (subst (AllBelow bound) (sym p.is) h)
+
+cut_keeps : (w : World) (n : ℕ) (a : Answer) (effect : Effect) (f : Following) → (w.nodes n).mode ≡ Follows f → WorldIsSound w → Cuts w.controller (w.nodes n) a effect f → WorldIsSound (moved w n effect)
+cut_keeps w n a effect f e h c =
+    let x = w.nodes n in
+    let sound = h.nodes n in
+    let bound : mode_bound (elections_of w) x.mode ≡ f.epoch + 1 = ap (mode_bound (elections_of w)) e in
+    let below : AllBelow (f.epoch + 1) x.log = rw bound at sound.epochs in
+    becoming WorldIsSound w n effect _ _ c.effect_is
+    (changed w n _ h (record {
+      log = IsLog-begins c.begins sound.log;
+      epochs = each_front (λ b. b.epoch < f.epoch + 1) c.left c.begins.rest (subst (AllBelow (f.epoch + 1)) (sym c.begins.is) below);
+      within = omega (arith, bound, sound.within);
+    }))
+
+alter_keeps : (w : World) (n : ℕ) (isr : List ℕ) (l : Leading) (f : Effect) → (w.nodes n).mode ≡ Leads l → WorldIsSound w → Alters w.controller (w.nodes n) isr l f → WorldIsSound (moved w n f)
+alter_keeps w n isr l f e h a =
+    let x = w.nodes n in
+    let sound = h.nodes n in
+    let bound : mode_bound (elections_of w) x.mode ≡ l.epoch + 1 = ap (mode_bound (elections_of w)) e in
+    let world = changed w n (record x { mode = Leads (record l { isr = isr; version = w.controller.version + 1 }) }) h
+    (record { log = sound.log; epochs = rw bound at sound.epochs; within = omega (arith, bound, sound.within) }) in
+    altering WorldIsSound w n f _ (altered w.controller isr) _ a (record { nodes = world.nodes; messages = world.messages })
+
+accept_keeps : (w : World) (n : ℕ) (a : Answer) (fetching : Bool) (f : Effect) → cond fetching (take_cause (w.nodes n) a) (Local.cut_cause w.controller n (w.nodes n) a) ≡ None → WorldIsSound w → AnswerIsSound a → Accepts w.controller (w.nodes n) a fetching f → WorldIsSound (moved w n f)
+accept_keeps w n a true f c h g r = take_keeps w n a f c h g r
+accept_keeps w n a false f c h g r =
+    let l = where_follows (w.nodes n).mode (Cuts w.controller (w.nodes n) a f) r in
+    cut_keeps w n a f l.0 l.1 h l.2
+
+receive_keeps : (w : World) (n : ℕ) (m : Message) (f : Effect) → MessageIsSound m → Local.receive_cause w.controller n (w.nodes n) m ≡ None → WorldIsSound w → Receives w.controller (w.nodes n) m f → WorldIsSound (moved w n f)
+receive_keeps w n (Asks r) f m c h d =
+    let l = where_leads (w.nodes n).mode (λ l. Serves w.controller (w.nodes n) r l f) d in
+    serve_keeps w n r l.0 f l.1 (leads_cause (w.nodes n).mode (serve_cause (w.nodes n).log r) l.0 l.1 c) h l.2
+receive_keeps w n (Answers a) f m c h d = accept_keeps w n a a.request.fetching f c h m d
+
+lacks_keeps : (w : World) (n : ℕ) (m : Message) (f : Effect) → MessageIsSound m → Local.receive_cause w.controller n (w.nodes n) m ≡ None → WorldIsSound w → LacksMemoryFor w.controller (w.nodes n) m f → WorldIsSound (moved w n f)
+lacks_keeps w n (Asks r) f m c h d = staying WorldIsSound w n f _ d h
+lacks_keeps w n (Answers a) f m c h d =
+    let cause = rw d.0 at c in
+    take_some_keeps w n a f cause h m d.1
+
+-- ---- each step
+
+happens_keeps : (w : World) (n : ℕ) (act : Act) (f : Effect) → IsGiven w.messages act → cause w.controller n (w.nodes n) act ≡ None → WorldIsSound w → Happens w.controller n (w.nodes n) act f → WorldIsSound (moved w n f)
+happens_keeps w n Adopt f g c h a = adopt_keeps w n w.controller.leader f refl h a
+happens_keeps w n (Produce offer) f g c h a =
+    let l = where_leads (w.nodes n).mode (λ l. Produces w.controller (w.nodes n) l offer f) a in
+    produce_keeps w n l.0 offer f l.1 h l.2
+happens_keeps w n (Mark time producer epoch coordinator commit) f g c h a =
+    let body = marker_body time producer epoch coordinator commit in
+    let admission = admit_marker (w.nodes n).log producer epoch coordinator in
+    let l = where_leads (w.nodes n).mode (λ l. Marks w.controller (w.nodes n) l body admission f) a in
+    append_keeps w n l.0 body admission f l.1 h l.2.0 l.2.1
+happens_keeps w n Ask f g c h a =
+    let l = where_follows (w.nodes n).mode _ a in
+    sending WorldIsSound w n f _ _ _ l.2 (sent _ (Asks (Local.asked n (w.nodes n) l.0)) (changed w n (w.nodes n) h (h.nodes n)) tt)
+happens_keeps w n (Receive m) f g c h a = receive_keeps w n m f (each_sent MessageIsSound w.messages m h.messages g) c h a
+happens_keeps w n Raise f g c h a =
+    let l = where_leads (w.nodes n).mode (λ l. Local.Raises w.controller n (w.nodes n) l f) a in
+    let sound = h.nodes n in
+    becoming WorldIsSound w n f _ _ l.2 (changed w n _ h (record { log = sound.log; epochs = sound.epochs; within = sound.within }))
+happens_keeps w n (Join member) f g c h a =
+    let l = where_leads (w.nodes n).mode (λ l. Alters w.controller (w.nodes n) (Local.with_member member l.isr) l f) a in
+    alter_keeps w n (Local.with_member member l.0.isr) l.0 f l.1 h l.2
+happens_keeps w n (Leave member) f g c h a =
+    let l = where_leads (w.nodes n).mode (λ l. Alters w.controller (w.nodes n) (Local.without_member member l.isr) l f) a in
+    alter_keeps w n (Local.without_member member l.0.isr) l.0 f l.1 h l.2
+happens_keeps w n Checkpoint f g c h a =
+    let sound = h.nodes n in
+    becoming WorldIsSound w n f _ _ a (changed w n _ h (record { log = sound.log; epochs = sound.epochs; within = sound.within }))
+happens_keeps w n Stop f g c h a =
+    let sound = h.nodes n in
+    becoming WorldIsSound w n f _ _ a (changed w n _ h (record { log = sound.log; epochs = all_below (elections_of w) (w.nodes n) sound; within = omega arith }))
+happens_keeps w n Restart f g c h a =
+    let sound = h.nodes n in
+    becoming WorldIsSound w n f _ _ a (changed w n _ h (record { log = sound.log; epochs = all_below (elections_of w) (w.nodes n) sound; within = omega arith }))
+happens_keeps w n Show f g c h a = staying WorldIsSound w n f _ a h
+happens_keeps w n (Read from) f g c h a = staying WorldIsSound w n f _ a h
+happens_keeps w n (Committed from) f g c h a = staying WorldIsSound w n f _ a h
+
+lacks_memory_keeps : (w : World) (n : ℕ) (act : Act) (f : Effect) → IsGiven w.messages act → cause w.controller n (w.nodes n) act ≡ None → WorldIsSound w → LacksMemory w.controller (w.nodes n) act f → WorldIsSound (moved w n f)
+lacks_memory_keeps w n (Produce offer) f g c h a = staying WorldIsSound w n f _ a h
+lacks_memory_keeps w n (Mark time producer epoch coordinator commit) f g c h a = staying WorldIsSound w n f _ a h
+lacks_memory_keeps w n Ask f g c h a = staying WorldIsSound w n f _ a h
+lacks_memory_keeps w n (Receive m) f g c h a = lacks_keeps w n m f (each_sent MessageIsSound w.messages m h.messages g) c h a
+lacks_memory_keeps w n Restart f g c h a = staying WorldIsSound w n f _ a h
+lacks_memory_keeps w n (Read from) f g c h a = staying WorldIsSound w n f _ a h
+lacks_memory_keeps w n (Committed from) f g c h a = staying WorldIsSound w n f _ a h
+lacks_memory_keeps w n _ f g c h a = absurd a
+
+pub step_keeps : (w : World) (event : Event) (outcome : Outcome) (new : World) → WorldIsSound w → Step w event outcome new → WorldIsSound new
+step_keeps w event outcome new h s =
+    elim (step_cases w event outcome new s) [
+      | inl same ↦ subst WorldIsSound (sym same) h
+      | inr done ↦
+          elim done [
+            | inl e ↦ subst WorldIsSound (sym e.new_is) (elect_keeps w e.node h)
+            | inr a ↦
+                subst WorldIsSound (sym a.new_is)
+                (elim a.does [
+                  | inl b ↦ happens_keeps w a.node a.act a.effect a.given a.free h b
+                  | inr b ↦ lacks_memory_keeps w a.node a.act a.effect a.given a.free h b
+                ])
+          ]
+    ]

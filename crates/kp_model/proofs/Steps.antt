@@ -1,0 +1,143 @@
+-- What is known of a step that isn't refused.
+use Rattle.std.proofs.Common.{◌≡◌, ◌⊎◌, ℕ, zero, suc, ◌<◌, Bool, true, false, cond, eqb, List, [], ◌∷◌, ◌++◌, Option, Some, None, refl, sym, ap, ◌∙◌, subst, append-nil, inl, inr}
+use Rattle.std.specs.Prelude.{slice_get}
+use Rattle.std.specs.List.{AllByRecursion}
+use Rattle.kp_types.specs.declared.refusal.Refusal.{Refusal}
+use Rattle.std.proofs.lemmas.Bool.{cond_both, eqb-true}
+use Rattle.kp_model.specs.World.{LeaderAndIsr, Leading, Following, Mode, Down, Idle, Leads, Follows, Node, Message, World, with_record, with_node, with_message, IsSent}
+use Rattle.kp_model.specs.Event.{Act, Receive, Event, Elect, Acts, Deliver, Reply, Refused, Outcome}
+use Rattle.kp_model.specs.Local.{Effect, becomes, sends, Local, LocalBy, Happens, LacksMemory, cause, unless_leads, WhereLeads, WhereFollows, elected}
+use Rattle.kp_model.specs.Step.{Step, NodeStep, Delivers, ElectsBy, elect_cause, moved, IsGiven}
+
+-- a test that didn't refuse
+pub passed : (t : Bool) (r : Refusal) (others : Option Refusal) → cond t (Some r) others ≡ None → (t ≡ false) × (others ≡ None)
+passed true r others e = absurd cc
+passed false r others e = (refl, e)
+
+-- where only a leader acts
+pub where_leads : (mode : Mode) (P : Leading → Type 0) → WhereLeads mode P → (l : Leading) × (mode ≡ Leads l) × P l
+where_leads Down P h = absurd h
+where_leads Idle P h = absurd h
+where_leads (Leads l) P h = (l, refl, h)
+where_leads (Follows f) P h = absurd h
+
+pub where_follows : (mode : Mode) (P : Following → Type 0) → WhereFollows mode P → (f : Following) × (mode ≡ Follows f) × P f
+where_follows Down P h = absurd h
+where_follows Idle P h = absurd h
+where_follows (Leads l) P h = absurd h
+where_follows (Follows f) P h = (f, refl, h)
+
+pub leads_cause : (mode : Mode) (c : Leading → Option Refusal) (l : Leading) → mode ≡ Leads l → unless_leads mode c ≡ None → c l ≡ None
+leads_cause mode c l e h = rw e at h
+
+-- one node changed
+pub with_node_keeps : (P : Node → Type 0) (nodes : ℕ → Node) (n : ℕ) (x : Node) → ((m : ℕ) → P (nodes m)) → P x → (m : ℕ) → P (cond (eqb m n) x (nodes m))
+with_node_keeps P nodes n x h p m = elim (eqb m n) as (λ (t : Bool). P (cond t x (nodes m))) [ true ↦ p | false ↦ h m ]
+
+-- ---- what a step comes to
+
+-- the node itself, put where it stood
+pub with_node_same : (w : World) (n : ℕ) → with_node w n (w.nodes n) ≡ w
+with_node_same w n = λ i. record w { nodes = λ m. same m i }
+  where
+    same : (m : ℕ) → cond (eqb m n) (w.nodes n) (w.nodes m) ≡ w.nodes m
+    same m = cond_both (eqb m n) (w.nodes n) (w.nodes m) (λ (x : Node). x ≡ w.nodes m) (λ e. ap w.nodes (sym (eqb-true m n e))) (λ e. refl)
+
+-- only the node changed
+pub moved_becomes : (w : World) (n : ℕ) (x : Node) (c : LeaderAndIsr) (reply : Reply) → moved w n (becomes c x reply) ≡ with_record (with_node w n x) c
+moved_becomes w n x c reply = ap (λ (ms : List Message). record (with_record (with_node w n x) c) { messages = ms }) (append-nil w.messages)
+
+pub becoming : (P : World → Type 0) (w : World) (n : ℕ) (e : Effect) (x : Node) (reply : Reply) → e ≡ becomes w.controller x reply → P (with_node w n x) → P (moved w n e)
+becoming P w n e x reply is p =
+    subst (λ (f : Effect). P (moved w n f)) (sym is) (subst P (sym (moved_becomes w n x w.controller reply)) p)
+
+-- nothing changed
+pub staying : (P : World → Type 0) (w : World) (n : ℕ) (e : Effect) (reply : Reply) → e ≡ becomes w.controller (w.nodes n) reply → P w → P (moved w n e)
+staying P w n e reply is p = becoming P w n e (w.nodes n) reply is (subst P (sym (with_node_same w n)) p)
+
+-- a message was sent besides
+pub sending : (P : World → Type 0) (w : World) (n : ℕ) (e : Effect) (x : Node) (m : Message) (reply : Reply) → e ≡ sends w.controller x m reply → P (with_message (with_node w n x) m) → P (moved w n e)
+sending P w n e x m reply is p = subst (λ (f : Effect). P (moved w n f)) (sym is) p
+
+pub altering : (P : World → Type 0) (w : World) (n : ℕ) (e : Effect) (x : Node) (c : LeaderAndIsr) (reply : Reply) → e ≡ becomes c x reply → P (with_record (with_node w n x) c) → P (moved w n e)
+altering P w n e x c reply is p =
+    subst (λ (f : Effect). P (moved w n f)) (sym is) (subst P (sym (moved_becomes w n x c reply)) p)
+
+-- an action without a cause to be refused
+pub record Acting (w : World) (new : World) : Type 0 where
+  pub node : ℕ
+  pub act : Act
+  pub effect : Effect
+  pub counted : node < w.count
+  pub given : IsGiven w.messages act
+  pub free : cause w.controller node (w.nodes node) act ≡ None
+  pub does : Happens w.controller node (w.nodes node) act effect ⊎ LacksMemory w.controller (w.nodes node) act effect
+  pub new_is : new ≡ moved w node effect
+
+pub record Electing (w : World) (new : World) : Type 0 where
+  pub node : ℕ
+  pub free : elect_cause w.controller node ≡ None
+  pub new_is : new ≡ with_record w (elected w.controller node)
+
+-- a step changes nothing, elects, or is an action of a node
+abbrev pub Cases : World → World → Type 0
+Cases w new = (new ≡ w) ⊎ (Electing w new ⊎ Acting w new)
+
+node_cases : (w : World) (n : ℕ) (act : Act) (outcome : Outcome) (new : World) → NodeStep w n act outcome new → Cases w new
+unfolding Local
+node_cases w n act outcome new s = by_cause (cause w.controller n (w.nodes n) act) refl s.local
+  where
+    by_cause : (o : Option Refusal) → cause w.controller n (w.nodes n) act ≡ o → LocalBy o w.controller n (w.nodes n) act s.effect → Cases w new
+    by_cause (Some r) e h = inl (s.new_is ∙ staying (λ (v : World). v ≡ w) w n s.effect (Refused r) h refl)
+    by_cause None e h =
+        inr (inr (record { node = n; act = act; effect = s.effect; counted = s.counted; given = s.given; free = e; does = h; new_is = s.new_is }))
+
+pub step_cases : (w : World) (event : Event) (outcome : Outcome) (new : World) → Step w event outcome new → Cases w new
+step_cases w (Elect n) outcome new s = by_cause (elect_cause w.controller n) refl s
+  where
+    by_cause : (o : Option Refusal) → elect_cause w.controller n ≡ o → ElectsBy o w n outcome new → Cases w new
+    by_cause (Some r) e h = inl h.1
+    by_cause None e h = inr (inl (record { node = n; free = e; new_is = h.1 }))
+step_cases w (Acts n act) outcome new s = node_cases w n act outcome new s
+step_cases w (Deliver n number) outcome new s = by_message (slice_get w.messages number) s
+  where
+    by_message : (o : Option Message) → Delivers w n o outcome new → Cases w new
+    by_message None h = inl h.1
+    by_message (Some m) h = node_cases w n (Receive m) outcome new h
+
+-- ---- how a step is made
+
+pub happened : (c : LeaderAndIsr) (n : ℕ) (x : Node) (act : Act) (e : Effect) → cause c n x act ≡ None → Happens c n x act e → Local c n x act e
+unfolding Local
+happened c n x act e free h = subst (λ (o : Option Refusal). LocalBy o c n x act e) (sym free) (inl h)
+
+pub lacked_memory : (c : LeaderAndIsr) (n : ℕ) (x : Node) (act : Act) (e : Effect) → cause c n x act ≡ None → LacksMemory c x act e → Local c n x act e
+unfolding Local
+lacked_memory c n x act e free h = subst (λ (o : Option Refusal). LocalBy o c n x act e) (sym free) (inr h)
+
+pub was_refused : (c : LeaderAndIsr) (n : ℕ) (x : Node) (act : Act) (refusal : Refusal) → cause c n x act ≡ Some refusal → Local c n x act (becomes c x (Refused refusal))
+unfolding Local
+was_refused c n x act refusal held = subst (λ (o : Option Refusal). LocalBy o c n x act (becomes c x (Refused refusal))) (sym held) refl
+
+-- ---- facts of each element
+
+pub each_at : {A : Type 0} (P : A → Type 0) (xs : List A) (k : ℕ) (x : A) → AllByRecursion P xs → slice_get xs k ≡ Some x → P x
+each_at P [] k x h e = absurd cc
+each_at P (y ∷ ys) zero x h e = let same : y ≡ x = cc in subst P same h.0
+each_at P (y ∷ ys) (suc k) x h e = each_at P ys k x h.1 e
+
+pub each_append : {A : Type 0} (P : A → Type 0) (xs ys : List A) → AllByRecursion P xs → AllByRecursion P ys → AllByRecursion P (xs ++ ys)
+each_append P [] ys h g = g
+each_append P (x ∷ xs) ys h g = (h.0, each_append P xs ys h.1 g)
+
+pub each_front : {A : Type 0} (P : A → Type 0) (xs ys : List A) → AllByRecursion P (xs ++ ys) → AllByRecursion P xs
+each_front P [] ys h = tt
+each_front P (x ∷ xs) ys h = (h.0, each_front P xs ys h.1)
+
+pub each_weaker : {A : Type 0} (P Q : A → Type 0) → ((x : A) → P x → Q x) → (xs : List A) → AllByRecursion P xs → AllByRecursion Q xs
+each_weaker P Q f [] h = tt
+each_weaker P Q f (x ∷ xs) h = (f x h.0, each_weaker P Q f xs h.1)
+
+-- what holds of each message that was sent
+pub each_sent : (P : Message → Type 0) (ms : List Message) (m : Message) → AllByRecursion P ms → IsSent ms m → P m
+each_sent P ms m h s = each_at P ms s.0 m h s.1
