@@ -1,0 +1,5 @@
+pub mod Set
+pub mod Member
+pub mod Modes
+pub mod Kept
+pub mod Replies

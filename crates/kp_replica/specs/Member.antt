@@ -1,0 +1,43 @@
+-- A node of the model with its number, and what it is that a call does.
+use Rattle.std.specs.Prelude.{◌≡◌, ℕ, ◌+◌, ◌<◌, ◌≤◌, ◌^◌, List, [], unwrap_or}
+use Rattle.std.specs.List.{AllByRecursion}
+use Rattle.kp_batch.specs.Batch.{Content, Plain, Produced, Marker}
+use Rattle.kp_model.specs.Log.{Batch}
+use Rattle.kp_model.specs.World.{LeaderAndIsr, Mode, Down, Idle, Leads, Follows, Node}
+use Rattle.kp_model.specs.Event.{Act, Reply}
+use Rattle.kp_model.specs.Local.{Local, becomes, last_epoch}
+
+-- a node's number, the most bytes of a batch that it takes, and its state
+pub record Member : Type 0 where
+  pub number : ℕ
+  pub max_batch : ℕ
+  pub state : Node
+
+-- the same node in another state
+abbrev pub IsSameNode : Member → Member → Type 0
+IsSameNode old new = (new.number ≡ old.number) × (new.max_batch ≡ old.max_batch)
+
+-- Under this record of the controller the node did this, replied so, and became what it is now.
+abbrev pub DoesUnder : LeaderAndIsr → Member → Member → Act → Reply → Type 0
+DoesUnder controller old new act reply =
+    Local controller old.number old.state act (becomes controller new.state reply) × IsSameNode old new
+
+-- The node did this, whatever the controller's record was.
+abbrev pub Does : Member → Member → Act → Reply → Type 0
+Does old new act reply = (controller : LeaderAndIsr) → DoesUnder controller old new act reply
+
+-- a batch of no producer
+abbrev pub IsPlainContent : Content → Type 0
+IsPlainContent (Plain records) = Unit {0}
+IsPlainContent (Produced producer epoch sequence transactional records) = ⊥
+IsPlainContent (Marker producer epoch coordinator commit) = ⊥
+
+abbrev pub ArePlain : List Batch → Type 0
+ArePlain log = AllByRecursion (λ b. IsPlainContent b.body.content) log
+
+-- The node's log has no epoch above the node's own; an idle node has had none.
+abbrev pub HasEpochs : List Batch → Mode → Type 0
+HasEpochs log Down = ⊥
+HasEpochs log Idle = log ≡ []
+HasEpochs log (Leads l) = (unwrap_or (last_epoch log) 0 ≤ l.epoch) × (l.epoch + 1 < 2 ^ 24)
+HasEpochs log (Follows f) = unwrap_or (last_epoch log) 0 ≤ f.epoch
