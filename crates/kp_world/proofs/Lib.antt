@@ -1,0 +1,5 @@
+pub mod Moved
+pub mod Mapped
+pub mod Playing
+pub mod Lines
+pub mod ReadBelow

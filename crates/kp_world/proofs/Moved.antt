@@ -1,0 +1,96 @@
+-- A node's call is a step of every world that is shown.
+use Rattle.std.proofs.Common.{◌≡◌, ℕ, ◌<◌, true, false, cond, eqb, List, length, set, get_or, Some, None, Option, Ok, Err, refl, sym, ap, ◌∙◌, subst, arith, inl, inr, length-set}
+use Rattle.std.proofs.lemmas.List.{get_or-set_same, get_or-set_other, set-get_or}
+use Rattle.kp_model.specs.Log.{end_of}
+use Rattle.kp_model.specs.Transactions.{stable}
+use Rattle.std.proofs.lemmas.Bool.{eq-eqb, ne_eqb, cases_eq}
+use Rattle.kp_types.specs.Causes.{IsRefusedOnlyBy}
+use Rattle.kp_types.specs.declared.refusal.Refusal.{Refusal}
+use Rattle.kp_model.specs.World.{LeaderAndIsr, Node, World, with_record}
+use Rattle.kp_model.specs.Event.{Act, Show, Elect, Acts, Reply, Changed, Shown}
+use Rattle.kp_model.specs.Local.{Effect, Local, LocalBy, Happens, cause, is_down, becomes, elected}
+use Rattle.kp_model.specs.Step.{NodeStep, ElectsBy, moved, told, IsGiven, elect_cause}
+use Rattle.kp_replica.specs.Member.{Member, DoesUnder}
+use Rattle.kp_world.specs.Shown.{IsNode, LeadsOn}
+
+-- node n as it is after the call, and the others as they were
+after : (max n : ℕ) (m : Member) (members : List Member) (x : Node) (nodes : ℕ → Node) → n < length members → m.number ≡ n → m.max_batch ≡ max → x ≡ m.state
+    → ((k : ℕ) (d : Member) → k < length members → IsNode max k (get_or members k d) (nodes k))
+    → (k : ℕ) (d : Member) → k < length (set members n m) → IsNode max k (get_or (set members n m) k d) (cond (eqb k n) x (nodes k))
+after max n m members x nodes inside number limit state old k d h =
+    let within : k < length members = omega (arith, length-set members n m) in
+    elim (cases_eq k n) [
+      | inl e ↦
+          (let same : eqb k n ≡ true = eq-eqb k n e in
+          let there : get_or (set members n m) k d ≡ m = ap (λ (i : ℕ). get_or (set members n m) i d) e ∙ get_or-set_same members n m d inside in
+          rw same (subst (λ (y : Member). IsNode max k y x) (sym there) (record { number_is = number ∙ sym e; limit = limit; state = state })))
+      | inr ne ↦
+          (let other : eqb k n ≡ false = ne_eqb k n ne in
+          let there : get_or (set members n m) k d ≡ get_or members k d = get_or-set_other members n k m d ne in
+          rw other (subst (λ (y : Member). IsNode max k y (nodes k)) (sym there) (old k d within)))
+    ]
+
+-- the node x at place i, which is its number, did this and became m
+pub acted : (max n i : ℕ) (c : LeaderAndIsr) (members : List Member) (x m : Member) (act : Act) (reply : Reply) → i ≡ n → n < length members → x ≡ get_or members i x
+    → ((w : World) → IsGiven w.messages act) → (x.max_batch ≡ max → DoesUnder c x m act reply)
+    → LeadsOn max c members (Acts n act) (told reply) c (set members i m)
+acted max n i c members x m act reply same inside there given did w shown =
+    let old : IsNode max n x (w.nodes n) =
+    subst (λ (y : Member). IsNode max n y (w.nodes n)) (sym (there ∙ ap (λ (k : ℕ). get_or members k x) same)) (shown.nodes n x inside) in
+    let does = did old.limit in
+    let e : Effect = becomes c m.state reply in
+    let local : Local w.controller n (w.nodes n) act e =
+    subst (λ (k : LeaderAndIsr). Local k n (w.nodes n) act e) (sym shown.controller_is)
+    (subst (λ (y : Node). Local c n y act e) (sym old.state) (subst (λ (k : ℕ). Local c k x.state act e) old.number_is does.0)) in
+    let step : NodeStep w n act (told reply) (moved w n e) =
+    record { counted = omega (arith, shown.count); given = given w; effect = e; local = local; outcome_is = refl; new_is = refl } in (
+      moved w n e,
+      step,
+      record {
+        controller_is = refl;
+        count = shown.count ∙ sym (length-set members i m);
+        nodes =
+            subst (λ (k : ℕ). (j : ℕ) (d : Member) → j < length (set members k m) → IsNode max j (get_or (set members k m) j d) (cond (eqb j n) m.state (w.nodes j))) (sym same)
+            (after max n m members m.state w.nodes inside (does.1.0 ∙ old.number_is) (does.1.1 ∙ old.limit) refl shown.nodes);
+      },
+    )
+
+-- the controller's record changed by an election
+pub elected_on : (max n : ℕ) (c changed : LeaderAndIsr) (members : List Member) → elect_cause c n ≡ None → changed ≡ elected c n
+    → LeadsOn max c members (Elect n) (told (Changed changed)) changed members
+elected_on max n c changed members free is w shown =
+    let r = elected w.controller n in
+    let same : r ≡ changed = ap (λ (k : LeaderAndIsr). elected k n) shown.controller_is ∙ sym is in
+    let unrefused : elect_cause w.controller n ≡ None = ap (λ (k : LeaderAndIsr). elect_cause k n) shown.controller_is ∙ free in (
+      with_record w r,
+      subst (λ (o : Option Refusal). ElectsBy o w n (told (Changed changed)) (with_record w r)) (sym unrefused) (ap (λ (k : LeaderAndIsr). told (Changed k)) (sym same), refl),
+      record { controller_is = same; count = shown.count; nodes = shown.nodes },
+    )
+
+pub only_free : (A : Type 0) (o : Option Refusal) (x : A) → IsRefusedOnlyBy o (Ok x) → o ≡ None
+only_free A (Some s) x h = absurd (no_ok x h)
+  where
+    no_ok : (x : A) → Ok x ≡ Err s → ⊥
+    no_ok x e = cc
+only_free A None x h = refl
+
+-- a node that only told something
+pub looked : (max n i : ℕ) (c : LeaderAndIsr) (members : List Member) (x : Member) (act : Act) (reply : Reply) → i ≡ n → n < length members → x ≡ get_or members i x
+    → ((w : World) → IsGiven w.messages act) → DoesUnder c x x act reply
+    → LeadsOn max c members (Acts n act) (told reply) c members
+looked max n i c members x act reply same inside there given does =
+    let back : set members i x ≡ members = ap (λ (y : Member). set members i y) there ∙ set-get_or members i x in
+    subst (λ (others : List Member). LeadsOn max c members (Acts n act) (told reply) c others) back
+    (acted max n i c members x x act reply same inside there given (λ limit. does))
+
+happened : (c : LeaderAndIsr) (n : ℕ) (x : Node) (act : Act) (e : Effect) → cause c n x act ≡ None → Happens c n x act e → Local c n x act e
+unfolding Local
+happened c n x act e free h = subst (λ (o : Option Refusal). LocalBy o c n x act e) (sym free) (inl h)
+
+-- a node that is up tells its state
+pub showed : (c : LeaderAndIsr) (n : ℕ) (x : Node) (life end mark held : ℕ) → is_down x.mode ≡ false → life ≡ x.life → end ≡ end_of x.log → mark ≡ x.watermark → held ≡ stable x.log x.watermark
+    → Local c n x Show (becomes c x (Shown life end mark held))
+showed c n x life end mark held up is_life is_end is_mark is_held =
+    let e : Effect = becomes c x (Shown life end mark held) in
+    let same : e ≡ becomes c x (Shown x.life (end_of x.log) x.watermark (stable x.log x.watermark)) = cc in
+    happened c n x Show e (rw up refl) same

@@ -1,0 +1,42 @@
+-- The code's answers as the definitions' replies.
+use Rattle.std.specs.Prelude.{map, Result, Ok, Err}
+use Rattle.std.specs.Option.{option_map}
+use Rattle.std.specs.Global.{Vec}
+use Rattle.kp_types.specs.declared.refusal.Refusal.{Refusal}
+use Rattle.kp_model.specs.Event.{Line as ModelLine, Reply, Refused, Changed as RecordChanged, MarkAt, Shown as StateShown, Lines as LinesRead, Outcome}
+use Rattle.kp_model.specs.Step.{told}
+use Rattle.kp_replica.specs.declared.record.Record.{Record}
+use Rattle.kp_replica.specs.Set.{record_of}
+use Rattle.kp_replica.specs.Replies.{role_reply, receipt_reply}
+use Rattle.kp_world.specs.declared.event.Line.{Line}
+use Rattle.kp_world.specs.declared.event.Answer.{Answer}
+use Rattle.kp_world.specs.declared.event.Answer.TheVariants.{Changed, Adopted, Appended, Mark, Shown, Lines}
+
+abbrev pub line_of : Line → ModelLine
+line_of l = record { offset = l.offset; value = option_map (λ v. v.items) l.value }
+
+abbrev pub answer_reply : Answer → Reply
+answer_reply (Changed controller) = RecordChanged (record_of controller)
+answer_reply (Adopted role) = role_reply (Ok role)
+answer_reply (Appended receipt) = receipt_reply (Ok receipt)
+answer_reply (Mark watermark) = MarkAt watermark
+answer_reply (Shown life end watermark stable) = StateShown life end watermark stable
+answer_reply (Lines lines) = LinesRead (map line_of lines.items)
+
+abbrev pub reply_of : Result Answer Refusal → Reply
+reply_of (Ok answer) = answer_reply answer
+reply_of (Err refusal) = Refused refusal
+
+-- no event of this stage sends a message
+abbrev pub outcome_of : Result Answer Refusal → Outcome
+outcome_of result = told (reply_of result)
+
+-- the reply to an election
+abbrev pub record_reply : Result Record Refusal → Reply
+record_reply (Ok controller) = RecordChanged (record_of controller)
+record_reply (Err refusal) = Refused refusal
+
+-- the reply to a read
+abbrev pub lines_reply : Result (Vec Line) Refusal → Reply
+lines_reply (Ok lines) = LinesRead (map line_of lines.items)
+lines_reply (Err refusal) = Refused refusal

@@ -1,0 +1,4 @@
+pub mod Answers
+pub mod Events
+pub mod Plays
+pub mod Shown

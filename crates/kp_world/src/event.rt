@@ -1,0 +1,61 @@
+//! What may happen, and what is answered.
+
+use bytes::Bytes;
+use kp_replica::{Receipt, Record, Role};
+use kp_types::{NodeId, Offset, Refusal};
+
+/// One atomic action of one actor: of the controller, or of a node. (Kafka replication design.)
+#[derive(Drop)]
+pub enum Event {
+    /// The controller elects this node.
+    Elect { node: NodeId },
+    /// The node takes up the controller's record.
+    Adopt { node: NodeId },
+    /// A client hands the node these bytes, to be appended as a batch.
+    Produce { node: NodeId, bytes: Bytes },
+    /// The node raises its high watermark, as far as it may.
+    Raise { node: NodeId },
+    /// The node tells its state.
+    Show { node: NodeId },
+    /// The node reads the records from this offset on that lie below its high watermark.
+    Read { node: NodeId, from: Offset },
+}
+
+/// A record as a reader gets it.
+#[derive(Drop)]
+pub struct Line {
+    pub offset: Offset,
+    /// None is null.
+    pub value: Option<Vec<u8>>,
+}
+
+/// What an event that isn't refused answers.
+#[derive(Drop)]
+pub enum Answer {
+    /// The controller's record has changed to this.
+    Changed(Record),
+    Adopted(Role),
+    Appended(Receipt),
+    /// The high watermark.
+    Mark(Offset),
+    Shown {
+        life: u64,
+        end: Offset,
+        watermark: Offset,
+        /// The last stable offset.
+        stable: Offset,
+    },
+    Lines(Vec<Line>),
+}
+
+/// The answers to the events, in their order. A refused event stands in it too.
+#[derive(Drop)]
+pub struct Trace {
+    pub outcomes: Vec<Result<Answer, Refusal>>,
+}
+
+/// The run's own lists couldn't grow: the answers so far.
+#[derive(Drop)]
+pub struct Stopped {
+    pub trace: Trace,
+}
