@@ -1,0 +1,94 @@
+-- Laws of the spelling of a number in decimal digits.
+use Rattle.std.proofs.Common.{◌≡◌, ℕ, ◌+◌, ◌*◌, ◌<◌, ◌≤◌, ◌^◌, List, [], ◌∷◌, ◌++◌, sym, ap, ◌∙◌, arith, ◌-◌, length, get_or, take, subst, inl, inr}
+use Rattle.std.proofs.lemmas.Bool.{cases_lt}
+use Rattle.std.proofs.lemmas.Int.Digits.{digits_value_more, digits_more}
+use Rattle.std.proofs.lemmas.Str.{digit_value_digit}
+use Rattle.std.proofs.lemmas.Str.Parse.{IsNumeralModel, numerals_by_value, tells_digits, digit_from_value, digit_at, digits_value-take-le}
+use Rattle.std.proofs.lemmas.Fmt.{decimal_is_IsNumeral, decimal-digits_value, decimal_nonempty, first_decimal, decimal_digit, decimal_injective}
+use Rattle.std.proofs.lemmas.List.{append_cancel_left}
+use Rattle.std.specs.Char.{digit_value}
+use Rattle.std.specs.Fmt.{decimal}
+use Rattle.std.specs.Int.{IsInRange}
+use Rattle.std.specs.Str.Parse.{AllDigits, digits_value}
+use Rattle.kp_script.specs.Read.{Lacks}
+use Rattle.kp_script.proofs.Splitting.{one_parting, no_parting}
+
+own : IsNumeralModel (AllDigits 10) (digits_value 10)
+own = numerals_by_value (AllDigits 10) tells_digits
+
+-- a digit's value is below ten
+pub digit_value_is : (c : ℕ) → 48 ≤ c → c ≤ 57 → digit_value c + 48 ≡ c
+digit_value_is c low high = digit_value_digit c (low, high)
+
+-- one more digit
+pub digits_grow : (bytes : List ℕ) (i value : ℕ) → i < length bytes → AllDigits 10 (take i bytes) → value ≡ digits_value 10 (take i bytes) →
+    48 ≤ get_or bytes i 0 → get_or bytes i 0 ≤ 57 →
+    AllDigits 10 (take (i + 1) bytes) × (value * 10 + (get_or bytes i 0 - 48) ≡ digits_value 10 (take (i + 1) bytes))
+digits_grow bytes i value lt all is low high =
+    let digit : digit_value (get_or bytes i 0) + 48 ≡ get_or bytes i 0 = digit_value_is (get_or bytes i 0) low high in
+    let more : digits_value 10 (take (i + 1) bytes) ≡ digits_value 10 (take i bytes) * 10 + digit_value (get_or bytes i 0) = digits_value_more 10 bytes i lt in
+    (digits_more 10 bytes i lt all (omega arith), omega arith)
+
+-- digits without a zero in front are the spelling of their value
+pub spelled : (bytes : List ℕ) (n : ℕ) → AllDigits 10 bytes → 0 < length bytes → (get_or bytes 0 0 ≡ 48 → length bytes ≡ 1) → n ≡ digits_value 10 bytes → n < 2 ^ 64 → bytes ≡ decimal n
+spelled bytes n all some canonical is fits =
+    sym (decimal-digits_value own bytes all some canonical (omega arith)) ∙ ap decimal (sym is)
+
+-- a spelling has a digit
+pub some_digit : (bytes : List ℕ) (n : ℕ) → n < 2 ^ 64 → bytes ≡ decimal n → 0 < length bytes
+some_digit bytes n fits e = omega (arith, decimal_nonempty n fits, ap length e)
+
+-- a spelling of more than one digit does not begin with a zero
+pub no_leading_zero : (bytes : List ℕ) (n : ℕ) → n < 2 ^ 64 → bytes ≡ decimal n → get_or bytes 0 0 ≡ 48 → 1 < length bytes → ⊥
+no_leading_zero bytes n fits e zero_first long = elim (cases_lt 0 n) [
+  | inl some ↦
+      let first : 48 < get_or (decimal n) 0 0 = first_decimal n some fits in
+      let same : get_or bytes 0 0 ≡ get_or (decimal n) 0 0 = ap (λ (l : List ℕ). get_or l 0 0) e in
+      omega arith
+  | inr none ↦
+      let one : decimal n ≡ (48 + n) ∷ [] = decimal_digit n (omega arith) in
+      omega (arith, ap length (e ∙ one))
+]
+
+-- each byte of a spelling is a digit
+pub each_digit : (bytes : List ℕ) (n i : ℕ) → n < 2 ^ 64 → bytes ≡ decimal n → i < length bytes → IsInRange 48 57 (get_or bytes i 0)
+each_digit bytes n i fits e lt =
+    digit_at bytes i (subst (AllDigits 10) (sym e) (decimal_is_IsNumeral n fits).0.1) lt
+
+-- the digits so far and the next one stand for no more than the number
+pub front_below : (bytes : List ℕ) (n i value : ℕ) → n < 2 ^ 64 → bytes ≡ decimal n → i < length bytes → value ≡ digits_value 10 (take i bytes) →
+    value * 10 + (get_or bytes i 0 - 48) ≤ n
+front_below bytes n i value fits e lt is =
+    let range : IsInRange 48 57 (get_or bytes i 0) = each_digit bytes n i fits e lt in
+    let digit : digit_value (get_or bytes i 0) + 48 ≡ get_or bytes i 0 = digit_value_digit (get_or bytes i 0) range in
+    let more : digits_value 10 (take (i + 1) bytes) ≡ digits_value 10 (take i bytes) * 10 + digit_value (get_or bytes i 0) = digits_value_more 10 bytes i lt in
+    let most : digits_value 10 (take (i + 1) bytes) ≤ digits_value 10 bytes = digits_value-take-le 10 bytes (i + 1) (omega arith) in
+    let all : digits_value 10 bytes ≡ n = ap (digits_value 10) e ∙ (decimal_is_IsNumeral n fits).1 in
+    omega arith
+
+digits_lack : (c : ℕ) (xs : List ℕ) → c < 48 → AllDigits 10 xs → Lacks c xs
+digits_lack c [] lt all = tt
+digits_lack c (x ∷ xs) lt all =
+    let range : IsInRange 48 57 x = digit_from_value x all.0 in
+    ((λ (e : x ≡ c). omega arith), digits_lack c xs lt all.1)
+
+-- a spelling has no byte below the digits
+pub decimal_lacks : (c n : ℕ) → c < 48 → n < 2 ^ 64 → Lacks c (decimal n)
+decimal_lacks c n lt fits = digits_lack c (decimal n) lt (decimal_is_IsNumeral n fits).0.1
+
+-- where there is no space, no number and space stand in front
+pub no_number : (bytes : List ℕ) (n : ℕ) (rest : List ℕ) → Lacks 32 bytes → bytes ≡ decimal n ++ 32 ∷ rest → ⊥
+no_number bytes n rest lacks e = no_parting 32 bytes (decimal n) rest lacks e
+
+-- what stands before the first space is the number that stands before a space
+pub same_word : (bytes word more : List ℕ) (n : ℕ) (rest : List ℕ) → n < 2 ^ 64 → bytes ≡ word ++ 32 ∷ more → Lacks 32 word → bytes ≡ decimal n ++ 32 ∷ rest → (word ≡ decimal n) × (more ≡ rest)
+same_word bytes word more n rest fits e lacks f =
+    one_parting 32 word (decimal n) more rest lacks (decimal_lacks 32 n (omega arith) fits) (sym e ∙ f)
+
+-- after one text and before a space stands one number
+pub same_field : (text bytes : List ℕ) (m n : ℕ) (x y : List ℕ) → m < 2 ^ 64 → n < 2 ^ 64 →
+    bytes ≡ text ++ (decimal m ++ 32 ∷ x) → bytes ≡ text ++ (decimal n ++ 32 ∷ y) → (m ≡ n) × (x ≡ y)
+same_field text bytes m n x y p q e f =
+    let parts = one_parting 32 (decimal m) (decimal n) x y (decimal_lacks 32 m (omega arith) p) (decimal_lacks 32 n (omega arith) q)
+    (append_cancel_left text (decimal m ++ 32 ∷ x) (decimal n ++ 32 ∷ y) (sym e ∙ f)) in
+    (decimal_injective m n p q parts.0, parts.1)

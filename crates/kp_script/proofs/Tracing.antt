@@ -1,0 +1,137 @@
+-- Laws of a text that grows word by word.
+use Rattle.std.proofs.Common.{◌≡◌, ℕ, suc, ◌+◌, ◌<◌, ◌/◌, ◌%◌, Bool, true, false, List, [], ◌∷◌, ◌++◌, length, map, take, length-take-le, get_or, refl, sym, ap, ◌∙◌, arith, append_assoc, append-nil, add-zero}
+use Rattle.std.proofs.lemmas.List.{take_more, length-map, map-append}
+use Rattle.std.specs.Prelude.{codes}
+use Rattle.std.specs.List.{join_with_byte, flat_map, zip}
+use Rattle.std.specs.Fmt.{decimal}
+use Rattle.std.proofs.lemmas.Bool.{false≢true}
+use Rattle.kp_replica.specs.Set.{numbers_of}
+use Rattle.kp_world.specs.declared.event.Line.{Line}
+use Rattle.kp_world.specs.Answers.{line_of}
+use Rattle.kp_script.specs.Trace.{hex_digit, hex_text, line_text, lines_text, nodes_text, trace_line, trace_text}
+use Rattle.kp_model.specs.Event.{Outcome}
+use Rattle.std.proofs.lemmas.List.Concat.{flat_map-append}
+
+-- what a text ends with, after one thing more
+pub grown : (was now base xs ys whole : List ℕ) → now ≡ was ++ ys → was ≡ base ++ xs → whole ≡ xs ++ ys → now ≡ base ++ whole
+grown was now base xs ys whole p q w =
+    p ∙ ap (λ (t : List ℕ). t ++ ys) q ∙ append_assoc base xs ys ∙ ap (λ (rest : List ℕ). base ++ rest) (sym w)
+
+-- one byte more
+pub hex_more : (bytes : List ℕ) (i : ℕ) → i < length bytes → hex_text (take (i + 1) bytes) ≡ hex_text (take i bytes) ++ hex_text (get_or bytes i 0 ∷ [])
+hex_more bytes i lt = ap hex_text (take_more bytes i 0 lt) ∙ flat_map-append (λ byte. hex_digit (byte / 16) ∷ hex_digit (byte % 16) ∷ []) (take i bytes) (get_or bytes i 0 ∷ [])
+
+-- words with a byte before each but the first
+pub joined_as_pieces : (c : ℕ) (x : List ℕ) (xs : List (List ℕ)) → join_with_byte c (x ∷ xs) ≡ x ++ flat_map (λ y. c ∷ y) xs
+joined_as_pieces c x [] = sym (append-nil x)
+joined_as_pieces c x (y ∷ ys) = ap (λ (rest : List ℕ). x ++ (c ∷ rest)) (joined_as_pieces c y ys)
+
+-- no node has been written
+abbrev pub is_none : List ℕ → Bool
+is_none [] = true
+is_none (n ∷ ns) = false
+
+pub some_after : (ns : List ℕ) (n : ℕ) → is_none (ns ++ n ∷ []) ≡ false
+some_after [] n = refl
+some_after (m ∷ ns) n = refl
+
+-- the comma that the next node needs
+abbrev pub separator_of : List ℕ → List ℕ
+separator_of [] = []
+separator_of (n ∷ ns) = 44 ∷ []
+
+pub separator_none : (ns : List ℕ) → is_none ns ≡ true → separator_of ns ≡ []
+separator_none [] e = refl
+separator_none (n ∷ ns) e = absurd (false≢true e)
+
+pub separator_some : (ns : List ℕ) → is_none ns ≡ false → separator_of ns ≡ 44 ∷ []
+separator_some [] e = absurd (false≢true (sym e))
+separator_some (n ∷ ns) e = refl
+
+-- one node more
+pub nodes_more : (ns : List ℕ) (n : ℕ) → nodes_text (ns ++ n ∷ []) ≡ (nodes_text ns ++ separator_of ns) ++ decimal n
+nodes_more [] n = refl
+nodes_more (a ∷ []) n = sym (append_assoc (decimal a) (44 ∷ []) (decimal n))
+nodes_more (a ∷ b ∷ ns) n =
+    ap (λ (rest : List ℕ). decimal a ++ (44 ∷ rest)) (nodes_more (b ∷ ns) n)
+    ∙ sym (append_assoc (decimal a) ((44 ∷ nodes_text (b ∷ ns)) ++ 44 ∷ []) (decimal n))
+    ∙ ap (λ (rest : List ℕ). rest ++ decimal n) (sym (append_assoc (decimal a) (44 ∷ nodes_text (b ∷ ns)) (44 ∷ [])))
+
+-- one place more, which is set, or isn't
+pub numbers_set : (first : ℕ) (places : List Bool) → numbers_of first (places ++ true ∷ []) ≡ numbers_of first places ++ (first + length places) ∷ []
+numbers_set first [] = ap (λ (n : ℕ). n ∷ []) (sym (add-zero first))
+numbers_set first (true ∷ bs) = let there : (first + 1) + length bs ≡ first + suc (length bs) = omega arith in
+    ap (λ (rest : List ℕ). first ∷ rest) (numbers_set (first + 1) bs ∙ ap (λ (n : ℕ). numbers_of (first + 1) bs ++ n ∷ []) there)
+numbers_set first (false ∷ bs) = let there : (first + 1) + length bs ≡ first + suc (length bs) = omega arith in
+    numbers_set (first + 1) bs ∙ ap (λ (n : ℕ). numbers_of (first + 1) bs ++ n ∷ []) there
+
+pub numbers_unset : (first : ℕ) (places : List Bool) → numbers_of first (places ++ false ∷ []) ≡ numbers_of first places
+numbers_unset first [] = refl
+numbers_unset first (true ∷ bs) = ap (λ (rest : List ℕ). first ∷ rest) (numbers_unset (first + 1) bs)
+numbers_unset first (false ∷ bs) = numbers_unset (first + 1) bs
+
+-- the members below the place after this one
+pub numbers_taken : (places : List Bool) (i : ℕ) → i < length places → get_or places i false ≡ true → numbers_of 0 (take (i + 1) places) ≡ numbers_of 0 (take i places) ++ i ∷ []
+numbers_taken places i lt e =
+    let there : 0 + length (take i places) ≡ i = omega (arith, length-take-le i places) in
+    ap (numbers_of 0) (take_more places i false lt ∙ ap (λ (b : Bool). take i places ++ b ∷ []) e)
+    ∙ numbers_set 0 (take i places)
+    ∙ ap (λ (n : ℕ). numbers_of 0 (take i places) ++ n ∷ []) there
+
+pub numbers_passed : (places : List Bool) (i : ℕ) → i < length places → get_or places i false ≡ false → numbers_of 0 (take (i + 1) places) ≡ numbers_of 0 (take i places)
+numbers_passed places i lt e =
+    ap (numbers_of 0) (take_more places i false lt ∙ ap (λ (b : Bool). take i places ++ b ∷ []) e)
+    ∙ numbers_unset 0 (take i places)
+
+-- one pair more
+pub zip_more : {A B : Type 0} (xs : List A) (ys : List B) (x : A) (y : B) → length xs ≡ length ys → zip (xs ++ x ∷ []) (ys ++ y ∷ []) ≡ zip xs ys ++ (x, y) ∷ []
+zip_more [] [] x y e = refl
+zip_more [] (b ∷ ys) x y e = absurd (omega arith)
+zip_more (a ∷ xs) [] x y e = absurd (omega arith)
+zip_more {A} {B} (a ∷ xs) (b ∷ ys) x y e = ap (λ (rest : List (A × B)). (a, b) ∷ rest) (zip_more xs ys x y (omega arith))
+
+-- a function after a function
+flat_map_over : {A B : Type 0} (g : A → B) (f : B → List ℕ) (xs : List A) → flat_map f (map g xs) ≡ flat_map (λ x. f (g x)) xs
+flat_map_over g f [] = refl
+flat_map_over g f (x ∷ xs) = ap (λ (rest : List ℕ). f (g x) ++ rest) (flat_map_over g f xs)
+
+-- a number and a space, what was answered, and a line feed
+pub line_pushed : (text after_number after_outcome whole ending : List ℕ) (number : ℕ) (outcome : List ℕ) →
+    after_number ≡ text ++ (decimal number ++ 32 ∷ []) → after_outcome ≡ after_number ++ outcome → whole ≡ after_outcome ++ ending → ending ≡ 10 ∷ [] →
+    whole ≡ text ++ (decimal number ++ 32 ∷ outcome ++ 10 ∷ [])
+line_pushed text after_number after_outcome whole ending number outcome p q r e =
+    r ∙ ap (λ (t : List ℕ). t ++ ending) (q ∙ ap (λ (t : List ℕ). t ++ outcome) p)
+    ∙ ap (λ (t : List ℕ). ((text ++ (decimal number ++ 32 ∷ [])) ++ outcome) ++ t) e
+    ∙ simp append_assoc
+
+-- one event more
+traced_push : (events : List (ℕ × ℕ)) (outcomes : List Outcome) (event : ℕ × ℕ) (outcome : Outcome) → length events ≡ length outcomes →
+    trace_text (events ++ event ∷ []) (outcomes ++ outcome ∷ []) ≡ trace_text events outcomes ++ trace_line event.0 event.1 outcome
+traced_push events outcomes event outcome e =
+    ap (flat_map line_at) (zip_more events outcomes event outcome e)
+    ∙ flat_map-append line_at (zip events outcomes) ((event, outcome) ∷ [])
+    ∙ ap (λ (rest : List ℕ). trace_text events outcomes ++ rest) (append-nil (trace_line event.0 event.1 outcome))
+  where
+    line_at : (ℕ × ℕ) × Outcome → List ℕ
+    line_at p = trace_line p.0.0 p.0.1 p.1
+
+pub traced_more : {A B : Type 0} (f : A → ℕ × ℕ) (g : B → Outcome) (xs : List A) (ys : List B) (i : ℕ) (x : A) (y : B) → i < length xs → i < length ys → x ≡ get_or xs i x → y ≡ get_or ys i y →
+    trace_text (map f (take (i + 1) xs)) (map g (take (i + 1) ys)) ≡ trace_text (map f (take i xs)) (map g (take i ys)) ++ trace_line (f x).0 (f x).1 (g y)
+traced_more {A} {B} f g xs ys i x y lx ly ex ey =
+    let xs_is : map f (take (i + 1) xs) ≡ map f (take i xs) ++ f x ∷ [] =
+    ap (map f) (take_more xs i x lx ∙ ap (λ (z : A). take i xs ++ z ∷ []) (sym ex)) ∙ map-append f (take i xs) (x ∷ []) in
+    let ys_is : map g (take (i + 1) ys) ≡ map g (take i ys) ++ g y ∷ [] =
+    ap (map g) (take_more ys i y ly ∙ ap (λ (z : B). take i ys ++ z ∷ []) (sym ey)) ∙ map-append g (take i ys) (y ∷ []) in
+    let as_long : length (map f (take i xs)) ≡ length (map g (take i ys)) =
+    length-map (take i xs) f ∙ length-take-le i xs (omega arith) ∙ sym (length-map (take i ys) g ∙ length-take-le i ys (omega arith)) in
+    ap (λ (events : List (ℕ × ℕ)). trace_text events (map g (take (i + 1) ys))) xs_is
+    ∙ ap (λ (outcomes : List Outcome). trace_text (map f (take i xs) ++ f x ∷ []) outcomes) ys_is
+    ∙ traced_push (map f (take i xs)) (map g (take i ys)) (f x) (g y) as_long
+
+-- the records that were read, as they are appended
+pub lines_as_pieces : (lines : List Line) → lines_text (map line_of lines) ≡ (codes "read " ++ decimal (length lines)) ++ flat_map (λ l. 32 ∷ line_text (line_of l)) lines
+lines_as_pieces lines =
+    ap (λ (rest : List ℕ). codes "read " ++ rest)
+    (joined_as_pieces 32 (decimal (length (map line_of lines))) (map line_text (map line_of lines))
+    ∙ ap (λ (n : ℕ). decimal n ++ flat_map (λ y. 32 ∷ y) (map line_text (map line_of lines))) (length-map lines line_of)
+    ∙ ap (λ (rest : List ℕ). decimal (length lines) ++ rest) (flat_map_over line_text (λ y. 32 ∷ y) (map line_of lines) ∙ flat_map_over line_of (λ l. 32 ∷ line_text l) lines))

@@ -1,0 +1,13 @@
+use Rattle.std.proofs.Common.{◌+◌, ◌<◌, ◌^◌, length}
+use Rattle.kp_script.specs.Seen.{seen_header}
+use Rattle.kp_script.proofs.Reading.{Progress}
+use Rattle.kp_script.proofs.script.parse.Given as goal
+
+abbrev pub invariant-loop-next : goal.invariant-loop-next
+invariant-loop-next l = record {
+  progress : Progress l.fn.bytes (seen_header l.header) l.lines.items l.number l.rest;
+  room : l.number + length l.rest < 2 ^ 64;
+}
+
+abbrev pub decreases-loop-next : goal.decreases-loop-next
+decreases-loop-next l = length l.rest

@@ -1,0 +1,84 @@
+-- What a line of a script says, and how it is written: words with one space between each two.
+use Rattle.std.specs.Prelude.{◌≡◌, ◌≢◌, ℕ, ◌<◌, ◌≤◌, ◌^◌, ◌&&◌, ◌==◌, Bool, not, nat_le, IsTrue, List, [], ◌∷◌, length, codes}
+use Rattle.std.specs.List.{join_with_byte, list_all}
+use Rattle.std.specs.Fmt.{decimal}
+
+-- what an event's line asks of a node
+pub data Call : Type 0 where
+  Elect : (node : ℕ) → Call
+  Adopt : (node : ℕ) → Call
+  Append : (node time : ℕ) → (value : List ℕ) → Call
+  Raise : (node : ℕ) → Call
+  Show : (node : ℕ) → Call
+  Read : (node from : ℕ) → Call
+
+-- the node that a call names
+abbrev pub node_of : Call → ℕ
+node_of (Elect node) = node
+node_of (Adopt node) = node
+node_of (Append node time value) = node
+node_of (Raise node) = node
+node_of (Show node) = node
+node_of (Read node from) = node
+
+-- what the first line that counts says: how many nodes there are, and the limits of their segments and indexes
+pub record Header : Type 0 where
+  pub count : ℕ
+  pub segment : ℕ
+  pub interval : ℕ
+
+-- these words, with one space between each two
+abbrev pub spaced : List (List ℕ) → List ℕ
+spaced words = join_with_byte 32 words
+
+abbrev pub header_text : Header → List ℕ
+header_text header =
+    spaced (codes "nodes" ∷ decimal header.count ∷ codes "segment" ∷ decimal header.segment ∷ codes "interval" ∷ decimal header.interval ∷ [])
+
+abbrev pub call_text : Call → List ℕ
+call_text (Elect node) = spaced (codes "elect" ∷ decimal node ∷ [])
+call_text (Adopt node) = spaced (codes "adopt" ∷ decimal node ∷ [])
+call_text (Append node time value) = spaced (codes "append" ∷ decimal node ∷ decimal time ∷ codes "-1 -1 -1 d" ∷ value ∷ [])
+call_text (Raise node) = spaced (codes "raise" ∷ decimal node ∷ [])
+call_text (Show node) = spaced (codes "show" ∷ decimal node ∷ [])
+call_text (Read node from) = spaced (codes "read" ∷ decimal node ∷ decimal from ∷ [])
+
+-- A byte of a value is a visible ASCII character other than the comma.
+abbrev pub is_value_byte : ℕ → Bool
+is_value_byte byte = nat_le 33 byte && nat_le byte 126 && not (byte == 44)
+
+-- A value has 1 to 57 such bytes.
+abbrev pub is_value : List ℕ → Bool
+is_value value = nat_le 1 (length value) && nat_le (length value) 57 && list_all is_value_byte value
+
+-- A header's numbers are in range. There is one node.
+pub record IsHeader (header : Header) : Type 0 where
+  pub count : header.count ≡ 1
+  pub least_segment : 1024 ≤ header.segment
+  pub greatest_segment : header.segment ≤ 1073741824
+  pub interval : header.interval ≤ 1048576
+
+-- A call's numbers and its value are in range where there are so many nodes. Times and offsets are below 2 ^ 62.
+abbrev pub IsCall : (count : ℕ) → Call → Type 0
+IsCall count (Elect node) = node < count
+IsCall count (Adopt node) = node < count
+IsCall count (Append node time value) = (node < count) × (time < 2 ^ 62) × IsTrue (is_value value)
+IsCall count (Raise node) = node < count
+IsCall count (Show node) = node < count
+IsCall count (Read node from) = (node < count) × (from < 2 ^ 62)
+
+-- The bytes are the text of this header, which is in range.
+abbrev pub IsHeaderText : List ℕ → Header → Type 0
+IsHeaderText bytes header = IsHeader header × (bytes ≡ header_text header)
+
+-- The bytes are the text of this call, which is in range where there are so many nodes.
+abbrev pub IsCallText : (count : ℕ) → List ℕ → Call → Type 0
+IsCallText count bytes call = IsCall count call × (bytes ≡ call_text call)
+
+-- The bytes are not the text of a header in range.
+abbrev pub SpellsNoHeader : List ℕ → Type 0
+SpellsNoHeader bytes = (header : Header) → IsHeader header → bytes ≢ header_text header
+
+-- The bytes are not the text of a call in range.
+abbrev pub SpellsNoCall : (count : ℕ) → List ℕ → Type 0
+SpellsNoCall count bytes = (call : Call) → IsCall count call → bytes ≢ call_text call

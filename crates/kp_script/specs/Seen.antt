@@ -1,0 +1,26 @@
+-- What the parser's values say, apart from where they lie in memory.
+use Rattle.std.specs.Prelude.{ℕ, map}
+use Rattle.kp_script.specs.Call.{Call, Header, Elect, Adopt, Append, Raise, Show, Read}
+use Rattle.kp_script.specs.declared.call.Call.{Call as ParsedCall}
+use Rattle.kp_script.specs.declared.call.Call.TheVariants as parsed
+use Rattle.kp_script.specs.declared.call.Header.{Header as ParsedHeader}
+use Rattle.kp_script.specs.Script.{Script}
+use Rattle.kp_script.specs.declared.script.Line.{Line as ParsedLine}
+use Rattle.kp_script.specs.declared.script.Script.{Script as ParsedScript}
+
+abbrev pub seen_header : ParsedHeader → Header
+seen_header header = record { count = header.count; segment = header.segment; interval = header.interval }
+
+abbrev pub seen_call : ParsedCall → Call
+seen_call (parsed.Elect node) = Elect node
+seen_call (parsed.Adopt node) = Adopt node
+seen_call (parsed.Append node time value) = Append node time value.now
+seen_call (parsed.Raise node) = Raise node
+seen_call (parsed.Show node) = Show node
+seen_call (parsed.Read node from) = Read node from
+
+abbrev pub seen_line : ParsedLine → ℕ × Call
+seen_line line = (line.number, seen_call line.call)
+
+abbrev pub seen_script : ParsedScript → Script
+seen_script script = record { header = seen_header script.header; calls = map seen_line script.lines.items }

@@ -1,0 +1,102 @@
+-- The text of a trace: a line for each event, with the number of the event's line and what was answered.
+use Rattle.std.specs.Prelude.{ℕ, ◌+◌, ◌/◌, ◌%◌, Bool, true, false, nat_lt, List, [], ◌∷◌, ◌++◌, length, map, codes, Option, Some, None, if◌then◌else◌}
+use Rattle.std.specs.List.{join_with_byte, flat_map, zip}
+use Rattle.std.specs.Fmt.{decimal}
+use Rattle.kp_types.specs.Texts.{refusal_text}
+use Rattle.kp_model.specs.World.{Leader, LeaderAndIsr}
+use Rattle.kp_model.specs.Event.{Line, Reply, Refused, Changed, NowLeads, NowFollows, At, DuplicateOf, AsksFrom, AsksEpoch, SentBatches, SentEpoch, Took, Cut, MarkAt, CheckpointAt, Stopped, Restarted, Shown, Lines, Outcome}
+use Rattle.kp_script.specs.Call.{spaced}
+
+-- a number below 16 as a digit: 0 to 9, then a to f
+abbrev pub hex_digit : ℕ → ℕ
+hex_digit n = if nat_lt n 10 then 48 + n else 87 + n
+
+-- each byte as two such digits
+abbrev pub hex_text : List ℕ → List ℕ
+hex_text bytes = flat_map (λ byte. hex_digit (byte / 16) ∷ hex_digit (byte % 16) ∷ []) bytes
+
+-- The value of a record, where null is a dash.
+abbrev pub value_text : Option (List ℕ) → List ℕ
+value_text (Some bytes) = hex_text bytes
+value_text None = codes "-"
+
+-- a record that was read: its offset, `=`, its value
+abbrev pub line_text : Line → List ℕ
+line_text line = decimal line.offset ++ 61 ∷ value_text line.value
+
+-- how many records were read, and each of them
+abbrev pub lines_text : List Line → List ℕ
+lines_text lines = spaced (codes "read" ∷ decimal (length lines) ∷ map line_text lines)
+
+-- nodes by their numbers, with a comma between each two
+abbrev pub nodes_text : List ℕ → List ℕ
+nodes_text nodes = join_with_byte 44 (map decimal nodes)
+
+-- who leads, in which leader epoch
+abbrev pub leader_text : Option Leader → List ℕ
+leader_text (Some leader) = spaced (codes "leader" ∷ decimal leader.node ∷ codes "epoch" ∷ decimal leader.epoch ∷ [])
+leader_text None = codes "leader none epoch -1"
+
+-- the controller's record
+abbrev pub record_text : LeaderAndIsr → List ℕ
+record_text controller =
+    spaced (codes "record" ∷ leader_text controller.leader ∷ codes "isr" ∷ nodes_text controller.isr ∷ codes "version" ∷ decimal controller.version ∷ [])
+
+-- what a follower does first: it fetches, or it reconciles its log
+abbrev pub stage_text : (fetching : Bool) → List ℕ
+stage_text true = codes "fetching"
+stage_text false = codes "reconciling"
+
+-- whether a follower's log is cut as far as it has to be, or it asks again
+abbrev pub progress_text : (done : Bool) → List ℕ
+progress_text true = codes "done"
+progress_text false = codes "again"
+
+-- the number of a message
+abbrev pub number_text : Option ℕ → List ℕ
+number_text (Some number) = decimal number
+number_text None = codes "none"
+
+-- what was sent: the message's number, and what the message says, in these words
+abbrev pub sent_text : (number : Option ℕ) → List (List ℕ) → List ℕ
+sent_text number words = spaced (codes "sent" ∷ number_text number ∷ words)
+
+-- the reply of an event that names this node and sent the message of this number
+abbrev pub reply_text : (node : ℕ) → (number : Option ℕ) → Reply → List ℕ
+reply_text node number (Refused refusal) = refusal_text refusal
+reply_text node number (Changed controller) = record_text controller
+reply_text node number (NowLeads epoch start) = spaced (codes "leads epoch" ∷ decimal epoch ∷ codes "from" ∷ decimal start ∷ [])
+reply_text node number (NowFollows leader epoch fetching) =
+    spaced (codes "follows" ∷ decimal leader ∷ codes "epoch" ∷ decimal epoch ∷ stage_text fetching ∷ [])
+reply_text node number (At base) = spaced (codes "at" ∷ decimal base ∷ [])
+reply_text node number (DuplicateOf base) = spaced (codes "duplicate" ∷ decimal base ∷ [])
+reply_text node number (AsksFrom offset) = sent_text number (codes "asks from" ∷ decimal offset ∷ [])
+reply_text node number (AsksEpoch epoch) = sent_text number (codes "asks epoch" ∷ decimal epoch ∷ [])
+reply_text node number (SentBatches count watermark) =
+    sent_text number (codes "batches" ∷ decimal count ∷ codes "mark" ∷ decimal watermark ∷ [])
+reply_text node number (SentEpoch (Some (epoch, end))) =
+    sent_text number (codes "epoch" ∷ decimal epoch ∷ codes "end" ∷ decimal end ∷ [])
+reply_text node number (SentEpoch None) = sent_text number (codes "no epoch" ∷ [])
+reply_text node number (Took end watermark) = spaced (codes "end" ∷ decimal end ∷ codes "mark" ∷ decimal watermark ∷ [])
+reply_text node number (Cut end done) = spaced (codes "cut" ∷ decimal end ∷ progress_text done ∷ [])
+reply_text node number (MarkAt watermark) = spaced (codes "mark" ∷ decimal watermark ∷ [])
+reply_text node number (CheckpointAt watermark) = spaced (codes "checkpoint" ∷ decimal watermark ∷ [])
+reply_text node number Stopped = codes "stopped"
+reply_text node number (Restarted life end watermark) =
+    spaced (codes "life" ∷ decimal life ∷ codes "end" ∷ decimal end ∷ codes "mark" ∷ decimal watermark ∷ [])
+reply_text node number (Shown life end watermark stable) =
+    spaced (codes "node" ∷ decimal node ∷ codes "life" ∷ decimal life ∷ codes "end" ∷ decimal end
+    ∷ codes "mark" ∷ decimal watermark ∷ codes "stable" ∷ decimal stable ∷ [])
+reply_text node number (Lines lines) = lines_text lines
+
+-- what was answered to an event that names this node
+abbrev pub outcome_text : (node : ℕ) → Outcome → List ℕ
+outcome_text node outcome = reply_text node outcome.number outcome.reply
+
+-- An event's line: the number of its line in the script, a space, what was answered, and a line feed.
+abbrev pub trace_line : (number node : ℕ) → Outcome → List ℕ
+trace_line number node outcome = decimal number ++ 32 ∷ outcome_text node outcome ++ 10 ∷ []
+
+-- The lines of the events, one after another: for each event the number of its line and its node, and what was answered.
+abbrev pub trace_text : List (ℕ × ℕ) → List Outcome → List ℕ
+trace_text events outcomes = flat_map (λ (event, outcome). trace_line event.0 event.1 outcome) (zip events outcomes)

@@ -1,0 +1,46 @@
+-- What running a script writes and answers.
+use Rattle.std.specs.Prelude.{◌≡◌, ◌⊎◌, ℕ, Bool, true, false, List, map, count_by, Option, IfSome}
+use Rattle.std.specs.Io.KnownBytes.{Appends, Keeps}
+use Rattle.kp_types.specs.declared.refusal.Refusal.{Refusal}
+use Rattle.kp_types.specs.declared.refusal.Refusal.TheVariants as refusals
+use Rattle.kp_types.specs.Devices.{AppendsFront}
+use Rattle.kp_model.specs.Event.{Reply, Refused, Outcome}
+use Rattle.kp_world.specs.Plays.{IsPlayed}
+use Rattle.kp_script.specs.Call.{node_of}
+use Rattle.kp_script.specs.Script.{Script, IsScript}
+use Rattle.kp_script.specs.Told.{events_told}
+use Rattle.kp_script.specs.Trace.{trace_text}
+
+abbrev pub is_refusal : Reply → Bool
+is_refusal (Refused refusal) = true
+is_refusal _ = false
+
+-- how many events were refused
+abbrev pub refusals_in : List Outcome → ℕ
+refusals_in outcomes = count_by (λ outcome. is_refusal outcome.reply) outcomes
+
+-- The input spells a script, a run of the definitions has its events, and the text is the trace of this run;
+-- so many of the events were refused.
+pub record IsTranscript (input text : List ℕ) (refused : ℕ) : Type 0 where
+  pub script : Script
+  pub spelled : IsScript input script
+  pub outcomes : List Outcome
+  pub played : IsPlayed script.header.count (events_told script.calls) outcomes
+  pub text_is : text ≡ trace_text (map (λ call. (call.0, node_of call.1)) script.calls) outcomes
+  pub refused_is : refused ≡ refusals_in outcomes
+
+-- The known bytes grew by the trace of the input, where it is known.
+abbrev pub Writes : Option (List ℕ) → Option (List ℕ) → Option (List ℕ) → ℕ → Type 0
+Writes input old new refused = IfSome input (λ bytes. (text : List ℕ) × IsTranscript bytes text refused × Appends old new text)
+
+-- The known bytes grew by a beginning of the trace of the input, or stayed.
+abbrev pub WritesFront : Option (List ℕ) → Option (List ℕ) → Option (List ℕ) → Type 0
+WritesFront input old new =
+    Keeps old new ⊎ IfSome input (λ bytes. (text : List ℕ) × (refused : ℕ) × IsTranscript bytes text refused × AppendsFront old new text)
+
+-- A run of a script is refused for a fault of the script, a device or memory.
+abbrev pub IsRunRefusal : Refusal → Type 0
+IsRunRefusal (refusals.BadScript line) = Unit {0}
+IsRunRefusal refusals.Device = Unit {0}
+IsRunRefusal refusals.Memory = Unit {0}
+IsRunRefusal _ = ⊥

@@ -1,0 +1,203 @@
+//! The header and the calls, and the readers of their lines.
+
+ghost use Rattle.std.specs.Prelude.{◌≡◌, IfSome, IfNone};
+ghost use Rattle.kp_script.specs.Call.{is_value, is_value_byte, IsHeaderText, IsCallText, SpellsNoHeader, SpellsNoCall};
+ghost use Rattle.std.specs.List.{list_all};
+ghost use Rattle.kp_script.specs.Read.{SpellsNoAppend, SpellsNoRead};
+ghost use Rattle.kp_script.specs.Seen.{seen_header, seen_call};
+
+use crate::words::{after, field_then, last_field, number_below, number_then};
+use kp_types::{
+    GREATEST_OFFSET, GREATEST_SEGMENT_BYTES, LEAST_SEGMENT_BYTES, MAX_INDEX_INTERVAL, NodeId,
+    Offset,
+};
+
+/// How many bytes a value has at most.
+pub const LONGEST_VALUE: usize = 57;
+/// The greatest time of a record, 2^62 - 1.
+pub const GREATEST_TIME: u64 = 4_611_686_018_427_387_903;
+/// How many nodes there are.
+const NODES: u64 = 1;
+
+/// How many nodes there are, and the limits of their segments and indexes.
+#[derive(Clone, Copy, Debug, PartialEq, Eq)]
+pub struct Header {
+    /// How many nodes there are.
+    pub count: u8,
+    /// The most bytes of a segment that has more than one batch.
+    pub segment: u32,
+    /// How many bytes lie between two entries of an index.
+    pub interval: u32,
+}
+
+/// What an event's line asks of a node.
+#[derive(Clone, Copy, Debug, PartialEq, Eq)]
+pub enum Call<'a> {
+    /// The controller elects the node leader, of a new leader epoch.
+    Elect {
+        node: NodeId,
+    },
+    /// The node adopts the controller's record.
+    Adopt {
+        node: NodeId,
+    },
+    /// The node, where it leads, appends a batch of one record that has this time in milliseconds and this value.
+    Append {
+        node: NodeId,
+        time: u64,
+        value: &'a [u8],
+    },
+    /// The node raises its high watermark.
+    Raise {
+        node: NodeId,
+    },
+    /// The node's state is shown.
+    Show {
+        node: NodeId,
+    },
+    /// A consumer reads at the node, the committed records from this offset on.
+    Read {
+        node: NodeId,
+        from: Offset,
+    },
+}
+
+impl Call<'_> {
+    ghost use Rattle.std.specs.Prelude.{◌≡◌};
+    ghost use Rattle.kp_script.specs.Call.{node_of};
+    ghost use Rattle.kp_script.specs.Seen.{seen_call};
+
+    /// The node that the call names.
+    pub fn node(&self) -> NodeId
+        ensures { result ≡ node_of (seen_call self.now) }
+    {
+        match self {
+            Call::Elect { node }
+            | Call::Adopt { node }
+            | Call::Append { node, .. }
+            | Call::Raise { node }
+            | Call::Show { node }
+            | Call::Read { node, .. } => *node,
+        }
+    }
+}
+
+/// The header that the whole line spells.
+pub fn header_of(line: &[u8]) -> Option<Header>
+    ensures found { IfSome result (λ header. IsHeaderText line.now (seen_header header)) }
+    ensures none { IfNone result (SpellsNoHeader line.now) }
+{
+    let Some((count, rest)) = field_then(b"nodes ", line, NODES + 1) else {
+        return None;
+    };
+    if count == 0 {
+        return None;
+    }
+    let Some((segment, rest)) = field_then(b"segment ", rest, u64::from(GREATEST_SEGMENT_BYTES) + 1)
+    else {
+        return None;
+    };
+    if segment < u64::from(LEAST_SEGMENT_BYTES) {
+        return None;
+    }
+    let Some(interval) = last_field(b"interval ", rest, u64::from(MAX_INDEX_INTERVAL) + 1) else {
+        return None;
+    };
+    Some(Header {
+        count: count as u8,
+        segment: segment as u32,
+        interval: interval as u32,
+    })
+}
+
+/// Whether each byte can stand in the value of a record.
+fn are_value_bytes(bytes: &[u8]) -> bool
+    ensures { result ≡ list_all is_value_byte bytes.now }
+{
+    bytes
+        .iter()
+        .all(|byte| 33 <= *byte && *byte <= 126 && *byte != b',')
+}
+
+/// Whether these bytes can be the value of a record.
+fn is_value(value: &[u8]) -> bool
+    ensures { result ≡ is_value value.now }
+{
+    1 <= value.len() && value.len() <= LONGEST_VALUE && are_value_bytes(value)
+}
+
+/// The append that the whole line spells.
+fn append_of(line: &[u8], count: NodeId) -> Option<Call<'_>>
+    ensures found { IfSome result (λ call. IsCallText count line.now (seen_call call)) }
+    ensures none { IfNone result (SpellsNoAppend count line.now) }
+{
+    let Some((node, rest)) = field_then(b"append ", line, u64::from(count)) else {
+        return None;
+    };
+    let Some((time, rest)) = number_then(rest, GREATEST_TIME + 1) else {
+        return None;
+    };
+    let Some(value) = after(b"-1 -1 -1 d ", rest) else {
+        return None;
+    };
+    if !is_value(value) {
+        return None;
+    }
+    Some(Call::Append {
+        node: node as NodeId,
+        time,
+        value,
+    })
+}
+
+/// The read that the whole line spells.
+fn read_of(line: &[u8], count: NodeId) -> Option<Call<'_>>
+    ensures found { IfSome result (λ call. IsCallText count line.now (seen_call call)) }
+    ensures none { IfNone result (SpellsNoRead count line.now) }
+{
+    let Some((node, rest)) = field_then(b"read ", line, u64::from(count)) else {
+        return None;
+    };
+    let Some(from) = number_below(rest, GREATEST_OFFSET + 1) else {
+        return None;
+    };
+    Some(Call::Read {
+        node: node as NodeId,
+        from,
+    })
+}
+
+/// The call that the whole line spells, where there are so many nodes.
+pub fn call_of(line: &[u8], count: NodeId) -> Option<Call<'_>>
+    ensures found { IfSome result (λ call. IsCallText count line.now (seen_call call)) }
+    ensures none { IfNone result (SpellsNoCall count line.now) }
+{
+    if let Some(call) = append_of(line, count) {
+        return Some(call);
+    }
+    if let Some(call) = read_of(line, count) {
+        return Some(call);
+    }
+    let limit = u64::from(count);
+    if let Some(node) = last_field(b"raise ", line, limit) {
+        return Some(Call::Raise {
+            node: node as NodeId,
+        });
+    }
+    if let Some(node) = last_field(b"elect ", line, limit) {
+        return Some(Call::Elect {
+            node: node as NodeId,
+        });
+    }
+    if let Some(node) = last_field(b"adopt ", line, limit) {
+        return Some(Call::Adopt {
+            node: node as NodeId,
+        });
+    }
+    if let Some(node) = last_field(b"show ", line, limit) {
+        return Some(Call::Show {
+            node: node as NodeId,
+        });
+    }
+    None
+}

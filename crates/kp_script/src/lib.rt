@@ -1,0 +1,23 @@
+//! Scripts: their grammar, their run and the text of their traces. It stands on the nodes' world and on the
+//! counted devices. Its contract says that what is written is the trace of a run of the definitions over the
+//! events that the bytes spell, and that a faulty script is refused by its first faulty line.
+#![tactic(auto)]
+
+mod call;
+mod events;
+mod lines;
+mod run;
+mod script;
+mod trace;
+mod words;
+
+pub use call::{Call, GREATEST_TIME, Header, LONGEST_VALUE};
+pub use lines::LONGEST_COMMENT;
+pub use run::run_script;
+pub use script::{Line, MOST_EVENTS, Script, parse};
+pub use trace::trace_text;
+
+#[cfg(test)]
+mod tests;
+#[cfg(test)]
+mod trace_tests;

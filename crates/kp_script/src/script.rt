@@ -1,0 +1,66 @@
+//! The whole script, and its parser.
+
+ghost use Rattle.std.specs.Prelude.{◌≡◌, ℕ, IfOk, IfErr, Err};
+ghost use Rattle.kp_script.specs.Script.{IsScript, IsFaultAt, IsScriptRefusal};
+ghost use Rattle.kp_script.specs.Seen.{seen_script};
+ghost use Rattle.kp_types.specs.declared.refusal.Refusal.TheVariants.{BadScript};
+
+use crate::call::{Call, Header, call_of, header_of};
+use crate::lines::next_counted;
+use kp_types::Refusal;
+use std::alloc::Global;
+
+/// How many events a script has at most.
+pub const MOST_EVENTS: usize = 1_000_000;
+
+/// An event: a call, and the number of its line.
+#[derive(Clone, Copy, Debug, PartialEq, Eq)]
+pub struct Line<'a> {
+    /// The number of the line in the script, from 1.
+    pub number: u64,
+    /// What the line asks.
+    pub call: Call<'a>,
+}
+
+/// A header, and the events in their order.
+#[derive(Drop)]
+pub struct Script<'a> {
+    /// What the first line that counts says.
+    pub header: Header,
+    /// The events.
+    pub lines: Vec<Line<'a>>,
+}
+
+/// The script that these bytes are. A refusal has the number of the first line that can't stand where it
+/// stands, or is one of memory.
+pub fn parse(alloc: Global, bytes: &[u8]) -> Result<Script<'_>, Refusal>
+    ensures found { IfOk result (λ script. IsScript bytes.now (seen_script script)) }
+    ensures fault { (line : ℕ) → result ≡ Err (BadScript line) → IsFaultAt bytes.now line }
+    ensures only { IfErr result IsScriptRefusal }
+{
+    let first = match next_counted(bytes, 1) {
+        Ok(first) => first,
+        Err(after) => return Err(Refusal::BadScript(after)),
+    };
+    let Some(header) = header_of(first.line) else {
+        return Err(Refusal::BadScript(first.number));
+    };
+    let mut lines = Vec::new(alloc);
+    let mut rest = first.rest;
+    let mut number = first.number + 1;
+    while let Ok(next) = next_counted(rest, number) {
+        if lines.len() == MOST_EVENTS {
+            return Err(Refusal::BadScript(next.number));
+        }
+        let Some(call) = call_of(next.line, header.count) else {
+            return Err(Refusal::BadScript(next.number));
+        };
+        lines.push(Line {
+            number: next.number,
+            call,
+        })?;
+        rest = next.rest;
+        number = next.number + 1;
+    }
+    Ok(Script { header, lines })
+}

@@ -1,0 +1,104 @@
+//! Readers of the words of a line.
+
+ghost use Rattle.std.specs.Prelude.{◌≡◌, ◌≢◌, ℕ, ◌<◌, ◌^◌, List, ◌∷◌, ◌++◌, length, IfSome, IfNone};
+ghost use Rattle.std.specs.Fmt.{decimal};
+ghost use Rattle.kp_script.specs.Read.{Lacks};
+
+/// What follows this text, which the bytes begin with.
+pub fn after<'a>(text: &[u8], bytes: &'a [u8]) -> Option<&'a [u8]>
+    ensures found { IfSome result (λ rest. bytes.now ≡ text.now ++ rest.now) }
+    ensures none { IfNone result ((rest : List ℕ) → bytes.now ≢ text.now ++ rest) }
+{
+    bytes.strip_prefix(text)
+}
+
+/// What stands before and after the first of these bytes.
+pub fn split_first_at(separator: u8, bytes: &[u8]) -> Option<(&[u8], &[u8])>
+    ensures found { IfSome result (λ parts. (bytes.now ≡ parts.0.now ++ separator ∷ parts.1.now) × Lacks separator parts.0.now) }
+    ensures none { IfNone result (Lacks separator bytes.now) }
+{
+    for (i, byte) in bytes.iter().enumerate() {
+        if *byte == separator {
+            let (front, _) = bytes.split_at(i);
+            let (_, rest) = bytes.split_at(i + 1);
+            return Some((front, rest));
+        }
+    }
+    None
+}
+
+/// The number that the whole of these bytes spell.
+pub fn number(bytes: &[u8]) -> Option<u64>
+    ensures found { IfSome result (λ n. bytes.now ≡ decimal n) }
+    ensures none { IfNone result ((n : ℕ) → n < 2 ^ 64 → bytes.now ≢ decimal n) }
+{
+    if bytes.is_empty() {
+        return None;
+    }
+    if bytes.len() > 1 && bytes[0] == b'0' {
+        return None;
+    }
+    let mut value: u64 = 0;
+    for byte in bytes {
+        if *byte < b'0' || *byte > b'9' {
+            return None;
+        }
+        let Some(shifted) = value.checked_mul(10) else {
+            return None;
+        };
+        let Some(next) = shifted.checked_add(u64::from(*byte - b'0')) else {
+            return None;
+        };
+        value = next;
+    }
+    Some(value)
+}
+
+/// The number below the limit that the whole of these bytes spell.
+pub fn number_below(bytes: &[u8], limit: u64) -> Option<u64>
+    ensures found { IfSome result (λ n. (bytes.now ≡ decimal n) × (n < limit)) }
+    ensures none { IfNone result ((n : ℕ) → n < limit → bytes.now ≢ decimal n) }
+{
+    match number(bytes) {
+        Some(n) if n < limit => Some(n),
+        _ => None,
+    }
+}
+
+/// The number below the limit that stands before the first space, and what follows the space.
+pub fn number_then(bytes: &[u8], limit: u64) -> Option<(u64, &[u8])>
+    ensures found { IfSome result (λ found. (bytes.now ≡ decimal found.0 ++ 32 ∷ found.1.now) × (found.0 < limit)) }
+    ensures none { IfNone result ((n : ℕ) (rest : List ℕ) → n < limit → bytes.now ≢ decimal n ++ 32 ∷ rest) }
+{
+    let Some((word, rest)) = split_first_at(b' ', bytes) else {
+        return None;
+    };
+    match number_below(word, limit) {
+        Some(n) => Some((n, rest)),
+        None => None,
+    }
+}
+
+/// The number below the limit that stands between this text and a space, and what follows the space.
+pub fn field_then<'a>(text: &[u8], bytes: &'a [u8], limit: u64) -> Option<(u64, &'a [u8])>
+    ensures found { IfSome result
+        (λ found. (bytes.now ≡ text.now ++ (decimal found.0 ++ 32 ∷ found.1.now)) × (found.0 < limit)) }
+    ensures none { IfNone result
+        ((n : ℕ) (rest : List ℕ) → n < limit → bytes.now ≢ text.now ++ (decimal n ++ 32 ∷ rest)) }
+{
+    match after(text, bytes) {
+        Some(word) => number_then(word, limit),
+        None => None,
+    }
+}
+
+/// The number below the limit that follows this text, and ends the bytes.
+pub fn last_field(text: &[u8], bytes: &[u8], limit: u64) -> Option<u64>
+    ensures found { IfSome result (λ n. (bytes.now ≡ text.now ++ decimal n) × (n < limit)) }
+    ensures none { IfNone result ((n : ℕ) → n < limit → bytes.now ≢ text.now ++ decimal n) }
+{
+    match after(text, bytes) {
+        Some(word) => number_below(word, limit),
+        None => None,
+    }
+}
