@@ -74,8 +74,7 @@ module _ (w : World) (g : History) (t : Sets) (a : AllKept w g t) where
     adopt_by l false b e up news =
         let f : Following = record { leader = l.node; epoch = l.epoch; fetching = is_empty x.log } in
         same_onto (record x { mode = Follows f }) refl
-        (follows_now w g t a.sound a.held a.kept n l f e refl up (news_of l e news))
-        (
+        (follows_now w g t a.sound a.held a.kept n l f e refl up (news_of l e news)) (
           λ fetches. subst (λ (k : List Batch). Begins k (g.ledger l.epoch)) (sym (empty_is x.log fetches)) (Begins-nil (g.ledger l.epoch)),
           λ same. eqb-false l.node n b (sym (a.kept.leader l e) ∙ same),
         )
@@ -179,6 +178,7 @@ module _ (w : World) (g : History) (t : Sets) (a : AllKept w g t) where
           keeps = h.keeps;
           done_at = h.done_at;
           shorter = h.shorter;
+          empty_fetches = h.empty_fetches;
           effect_is = refl;
         })) in
         let from = facts.from in

@@ -100,11 +100,13 @@ step_onward w event outcome new s =
           elim done [
             | inl e ↦ subst (StepIsOnward w) (sym e.new_is) (refl, inr (omega arith))
             | inr a ↦
-                subst (StepIsOnward w) (sym a.new_is)
-                (refl, elim a.does [
-                  | inl h ↦ happens_onward w.controller a.node (w.nodes a.node) a.act a.effect h
-                  | inr h ↦ lacks_onward w.controller (w.nodes a.node) a.act a.effect h
-                ])
+                subst (StepIsOnward w) (sym a.new_is) (
+                  refl,
+                  elim a.does [
+                    | inl h ↦ happens_onward w.controller a.node (w.nodes a.node) a.act a.effect h
+                    | inr h ↦ lacks_onward w.controller (w.nodes a.node) a.act a.effect h
+                  ],
+                )
           ]
     ]
 

@@ -1,11 +1,11 @@
 -- What it takes that a node did something.
-use Rattle.std.proofs.Common.{◌≡◌, ℕ, ◌≤◌, Bool, true, false, cond, eqb, List, Option, Some, None, Result, Ok, Err, refl, sym, ap, ◌∙◌, subst, inl, inr}
+use Rattle.std.proofs.Common.{◌≡◌, ℕ, Bool, true, false, cond, eqb, Option, Some, None, refl, sym, ap, subst, inl, inr}
 use Rattle.kp_types.specs.declared.refusal.Refusal.{Refusal}
 use Rattle.kp_types.specs.declared.refusal.Refusal.TheVariants as refusals
 use Rattle.std.proofs.lemmas.Bool.{eq-eqb, ne_eqb}
 use Rattle.kp_model.specs.Log.{end_of}
-use Rattle.kp_model.specs.World.{Leader, LeaderAndIsr, Leading, Mode, Down, Idle, Leads, Follows, Node, no_reports}
-use Rattle.kp_model.specs.Event.{Act, Adopt, Raise, Reply, Refused, NowLeads, NowFollows, MarkAt}
+use Rattle.kp_model.specs.World.{Leader, LeaderAndIsr, Leading, Mode, Leads, Follows, Node, no_reports}
+use Rattle.kp_model.specs.Event.{Act, Adopt, Raise, Refused, NowLeads, NowFollows, MarkAt}
 use Rattle.kp_model.specs.Local.{Effect, Local, LocalBy, Happens, LacksMemory, cause, becomes, is_down, is_news, is_empty, under, Adopts, WhereLeads, Raises, raised}
 
 pub happened : (c : LeaderAndIsr) (n : ℕ) (x : Node) (act : Act) (e : Effect) → cause c n x act ≡ None → Happens c n x act e → Local c n x act e

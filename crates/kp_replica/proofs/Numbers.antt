@@ -1,7 +1,7 @@
 -- Which numbers a list of places has.
-use Rattle.std.proofs.Common.{◌≡◌, ℕ, zero, suc, ◌+◌, ◌<◌, ◌≤◌, Bool, true, false, cond, eqb, List, [], ◌∷◌, get_or, refl, sym, ap, ◌∙◌, arith, add-one, add-zero, add-suc, inl, inr}
+use Rattle.std.proofs.Common.{◌≡◌, ℕ, zero, suc, ◌+◌, ◌<◌, Bool, true, false, cond, eqb, List, [], ◌∷◌, get_or, refl, ap, ◌∙◌, arith, add-zero}
 use Rattle.std.specs.Prelude.{not, length}
-use Rattle.std.proofs.lemmas.Bool.{eq-eqb, ne_eqb, cond_both}
+use Rattle.std.proofs.lemmas.Bool.{eq-eqb, ne_eqb}
 use Rattle.kp_model.specs.Local.{is_member, without_member}
 use Rattle.kp_replica.specs.Set.{numbers_of}
 

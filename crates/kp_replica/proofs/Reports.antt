@@ -1,9 +1,9 @@
 -- Where no other node has reported, the leader knows its own end alone.
-use Rattle.std.proofs.Common.{◌≡◌, ℕ, zero, suc, ◌<◌, ◌≤◌, Bool, length, arith, List, [], ◌∷◌, Option, Some, None, cond, refl, sym, subst, ap, ◌∙◌}
+use Rattle.std.proofs.Common.{◌≡◌, ℕ, zero, suc, ◌<◌, length, arith, List, [], ◌∷◌, Option, Some, None, refl, sym, subst, ap, ◌∙◌}
 use Rattle.std.specs.Prelude.{map, slice_index_or, max, unwrap_or}
-use Rattle.kp_model.specs.Log.{Batch, end_of}
-use Rattle.kp_model.specs.World.{Leading, Node, no_reports, report_of}
-use Rattle.kp_model.specs.Local.{least_end, known_ends, raised, without_member}
+use Rattle.kp_model.specs.Log.{end_of}
+use Rattle.kp_model.specs.World.{Leading, Node, no_reports}
+use Rattle.kp_model.specs.Local.{least_end, raised, without_member}
 
 pub none_reported : (m : ℕ) → slice_index_or no_reports m None ≡ None
 none_reported zero = refl

@@ -1,7 +1,7 @@
 -- Plain data holds nothing back.
-use Rattle.std.proofs.Common.{◌≡◌, ℕ, Bool, true, false, cond, List, [], ◌∷◌, Option, Some, None, refl, sym, ap, ◌∙◌}
+use Rattle.std.proofs.Common.{◌≡◌, ℕ, Bool, true, false, cond, List, [], ◌∷◌, None, refl, ap}
 use Rattle.std.specs.Prelude.{unwrap_or, nat_le, map, min}
-use Rattle.std.specs.List.{filter, filter_map, reduce}
+use Rattle.std.specs.List.{filter_map, reduce}
 use Rattle.kp_batch.specs.Batch.{Content, Plain, Produced, Marker}
 use Rattle.kp_model.specs.Log.{Batch, below, next_offset}
 use Rattle.kp_model.specs.Transactions.{Open, open_in, opened_by, stable}

@@ -1,5 +1,4 @@
 -- What a replica keeps of its fields.
-use Rattle.std.specs.Prelude.{◌<◌, ◌≤◌}
 use Rattle.kp_log.specs.Entries.{AreEntriesOf}
 use Rattle.kp_replica.specs.Member.{Member, ArePlain, HasEpochs}
 use Rattle.kp_replica.specs.Modes.{mode_of}

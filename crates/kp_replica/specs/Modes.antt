@@ -1,8 +1,6 @@
 -- The part that a node plays, as the code keeps it and as the definitions see it.
-use Rattle.std.specs.Prelude.{ℕ}
 use Rattle.kp_model.specs.World.{Mode as ModelMode, Idle as ModelIdle, Leads as ModelLeads, Follows as ModelFollows, Leading as ModelLeading, no_reports}
 use Rattle.kp_replica.specs.declared.replica.Leading.{Leading}
-use Rattle.kp_replica.specs.declared.replica.Following.{Following}
 use Rattle.kp_replica.specs.declared.replica.Mode.{Mode}
 use Rattle.kp_replica.specs.declared.replica.Mode.TheVariants.{Idle, Leads, Follows}
 use Rattle.kp_replica.specs.Set.{members_of}

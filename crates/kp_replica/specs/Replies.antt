@@ -1,12 +1,12 @@
 -- The replies of the definitions that the calls' results are.
-use Rattle.std.specs.Prelude.{◌≡◌, ℕ, Result, Ok, Err, true, false, Bool, if◌then◌else◌, Contains}
+use Rattle.std.specs.Prelude.{◌≡◌, ℕ, Result, Ok, Err, if◌then◌else◌, Contains}
 use Rattle.kp_types.specs.declared.refusal.Refusal.{Refusal}
 use Rattle.kp_batch.specs.Batch.{Body, Written, Spells, size_of}
 use Rattle.kp_batch.specs.Stage.{IsPlain}
 use Rattle.kp_batch.specs.Reading.{first_fault}
 use Rattle.kp_crc.specs.Crc.{crc}
-use Rattle.std.specs.Prelude.{List, Some, ◌≤◌, ◌+◌}
-use Rattle.kp_model.specs.Log.{Batch, last_offset, next_offset}
+use Rattle.std.specs.Prelude.{List, Some, ◌≤◌}
+use Rattle.kp_model.specs.Log.{Batch, last_offset}
 use Rattle.kp_model.specs.Event.{Reply, Refused, NowLeads, NowFollows, At, DuplicateOf, MarkAt}
 use Rattle.kp_replica.specs.declared.replica.Role.{Role}
 use Rattle.kp_replica.specs.declared.replica.Role.TheVariants as roles

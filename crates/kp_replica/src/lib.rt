@@ -8,3 +8,6 @@ mod replica;
 
 pub use record::{Leader, NodeSet, Record};
 pub use replica::{Receipt, Replica, Role};
+
+#[cfg(test)]
+mod tests;

@@ -9,3 +9,6 @@ mod world;
 
 pub use event::{Answer, Event, Line, Stopped, Trace};
 pub use world::run;
+
+#[cfg(test)]
+mod tests;

@@ -1,8 +1,7 @@
-use Rattle.std.proofs.Common.{◌≡◌, ℕ, List, refl, ap, subst, sym, ◌∙◌, arith}
+use Rattle.std.proofs.Common.{ℕ, List, refl, ap, subst, sym, ◌∙◌}
 use Rattle.kp_types.specs.declared.refusal.Refusal.TheVariants as refusals
-use Rattle.kp_model.specs.Log.{Batch, end_of}
+use Rattle.kp_model.specs.Log.{Batch}
 use Rattle.std.specs.Prelude.{max}
-use Rattle.kp_model.specs.World.{LeaderAndIsr}
 use Rattle.kp_model.specs.Event.{Raise, Refused, MarkAt}
 use Rattle.kp_replica.specs.Member.{Member, Does}
 use Rattle.kp_replica.specs.Modes.{mode_of, leading_of}
@@ -30,4 +29,4 @@ returns c =
     λ x log. Does x (record m { state = record m.state { log = log; watermark = mark } }) Raise (MarkAt mark) in
     subst (λ (x : Member). P x c.settle.new.log) c.self.view_is
     (subst (λ (log : List Batch). P m log) (sym c.settle.ensures.same_log)
-      (λ r. (raises r m.number m.state l mark (ap mode_of c.in-Leads.is) is, (refl, refl))))
+    (λ r. (raises r m.number m.state l mark (ap mode_of c.in-Leads.is) is, (refl, refl))))

@@ -1,0 +1,3 @@
+pub mod Aside
+pub mod Filled
+pub mod Taken

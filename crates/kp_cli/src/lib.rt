@@ -1,0 +1,17 @@
+//! The command line of `kpart`, read into a value: a `Call` says what the program is to do.
+//! It stands on the crate `clap`, whose contract says what it makes of the words.
+//! Its contract gives the layer above the call that the words ask for, and else one of clap's refusals.
+#![tactic(auto)]
+
+mod call;
+mod line;
+mod running;
+
+pub use call::Call;
+pub use line::call_of;
+pub use running::{perform, refuse};
+
+#[cfg(test)]
+mod run_tests;
+#[cfg(test)]
+mod tests;

@@ -1,0 +1,97 @@
+//! Reads the command line.
+
+ghost use Rattle.std.specs.Prelude.{◌≡◌, IfOk, MatchOption, None, Some, codes, false, is_some, map, true};
+ghost use Rattle.clap.specs.Words.{FailsBy, app_of, fault_of, first_of, found_of, rows_of, rule_of};
+ghost use Rattle.clap.specs.Words.{subcommand_of, subcommand_rows_of};
+ghost use Rattle.clap.specs.declared.builder.command.Command.TheViews.{out-Command};
+ghost use Rattle.kp_cli.specs.Line.{IsCallOf, NamesCall, file_rule, kpart, run_app};
+
+use crate::Call;
+use clap::{Arg, ArgMatches, Command, Error};
+use std::alloc::{AllocError, Global};
+use std::convert::AsStr;
+
+fn file_argument<'a>(alloc: Global) -> Arg<'a>
+    ensures rule { rule_of result ≡ file_rule }
+    ensures local { result.global ≡ false }
+{
+    Arg::new(alloc, "FILE")
+        .required(true)
+        .help("the script to run")
+}
+
+fn run_command<'a>(alloc: Global) -> Result<Command<'a>, AllocError>
+    ensures { IfOk result (λ command. (app_of command ≡ run_app) × ((out-Command command).has_globals ≡ false)) }
+{
+    let command = Command::new(alloc, "run")
+        .about("Runs a script and prints its trace")
+        .arg(file_argument(alloc))?;
+    Ok(command)
+}
+
+fn whole_command<'a>(alloc: Global) -> Result<Command<'a>, AllocError>
+    ensures { IfOk result (λ command. app_of command ≡ kpart) }
+{
+    let run = run_command(alloc)?;
+    let command = Command::new(alloc, "kpart")
+        .about("A replicated partition log with Kafka's replication rules")
+        .subcommand_required(true)
+        .subcommand(run)?;
+    Ok(command)
+}
+
+/// The matches that clap has for `words`, of which the first is the program's name.
+fn matches_of<'a, S: AsStr>(alloc: Global, words: &'a [S]) -> Result<ArgMatches<'a>, Error>
+    ensures matches { IfOk result (λ m. subcommand_rows_of m ≡ subcommand_of kpart (map S.text words.entry.now)) }
+    ensures kinds { FailsBy (fault_of kpart (map S.text words.entry.now)) result }
+{
+    let command = whole_command(alloc)?;
+    command.try_get_matches_from(words)
+}
+
+/// The name of the subcommand that was used, and its matches.
+fn entered<'a, 'm>(matches: &'m ArgMatches<'a>) -> Option<(&'a str, &'m ArgMatches<'a>)>
+    ensures { MatchOption result (subcommand_rows_of matches.entry.now ≡ None)
+        (λ p. subcommand_rows_of matches.entry.now ≡ Some (p.0.now, rows_of (found_of p.1.now))) }
+{
+    match matches.subcommand() {
+        Some((name, found)) => Some((name, found)),
+        None => None,
+    }
+}
+
+fn file_value<'a>(found: &ArgMatches<'a>) -> &'a str
+    requires { is_some (first_of (codes "FILE") (rows_of (found_of found.now))) ≡ true }
+    ensures { first_of (codes "FILE") (rows_of (found_of found.entry.now)) ≡ Some result.now }
+{
+    match found.get_str("FILE") {
+        Some(text) => text,
+        None => unreachable!(),
+    }
+}
+
+fn call_in(alloc: Global, matches: &ArgMatches<'_>) -> Result<Call, AllocError>
+    requires { NamesCall (subcommand_rows_of matches.now) }
+    ensures { IfOk result (IsCallOf (subcommand_rows_of matches.now)) }
+{
+    let Some((name, found)) = entered(matches) else {
+        unreachable!();
+    };
+    if name == "run" {
+        let file = String::from_str(alloc, file_value(found))?;
+        Ok(Call::Run { file })
+    } else {
+        unreachable!()
+    }
+}
+
+/// The call that `words` ask for, of which the first is the program's name, as in `std::env::args`.
+/// An error is clap's own, or says that memory ran out; help that was asked for is an error too.
+pub fn call_of<S: AsStr>(alloc: Global, words: &[S]) -> Result<Call, Error>
+    ensures call { IfOk result (IsCallOf (subcommand_of kpart (map S.text words.now))) }
+    ensures kinds { FailsBy (fault_of kpart (map S.text words.now)) result }
+{
+    let matches = matches_of(alloc, words)?;
+    let call = call_in(alloc, &matches)?;
+    Ok(call)
+}

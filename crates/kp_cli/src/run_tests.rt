@@ -1,0 +1,209 @@
+//! Whole runs: scripts in, traces, complaints and exit statuses out.
+use super::*;
+use kp_types::{Counted, Faulty};
+use std::alloc::Global;
+use std::test::Fail;
+
+/// What a run left: its exit status, standard output and standard error.
+#[derive(Drop)]
+struct Left {
+    status: u8,
+    out: Vec<u8>,
+    err: Vec<u8>,
+}
+
+/// The script run, where reading it and writing its trace fail at these calls.
+fn run_failing(
+    alloc: Global,
+    script: &[u8],
+    read_fails: u64,
+    write_fails: u64,
+) -> Result<Left, Fail> {
+    let call = Call::Run {
+        file: String::from_str(alloc, "x.script")?,
+    };
+    let mut reader = Counted::new(Faulty::new(script.to_vec(alloc)?, read_fails));
+    let mut out = Counted::new(Faulty::new(Vec::new(alloc), write_fails));
+    let mut err = Counted::new(Vec::new(alloc));
+    let status = perform(alloc, &call, &mut reader, &mut out, &mut err);
+    Ok(Left {
+        status,
+        out: out.inner.bytes,
+        err: err.inner,
+    })
+}
+
+fn run(alloc: Global, script: &[u8]) -> Result<Left, Fail> {
+    run_failing(alloc, script, u64::MAX, u64::MAX)
+}
+
+const HEADER: &str = "nodes 1 segment 1024 interval 0\n";
+
+const FIRST: &str = "nodes 1 segment 1024 interval 0
+elect 0
+adopt 0
+append 0 1000 -1 -1 -1 d a
+read 0 0
+raise 0
+read 0 0
+show 0
+";
+
+const FIRST_TRACE: &str = "2 record leader 0 epoch 0 isr 0 version 1
+3 leads epoch 0 from 0
+4 at 0
+5 read 0
+6 mark 1
+7 read 1 0=61
+8 node 0 life 0 end 1 mark 1 stable 1
+";
+
+#[test]
+fn the_first_run(rt: HostRuntime) -> Result<(), Fail> {
+    let left = run(rt.alloc(), FIRST.as_bytes())?;
+    assert_eq!(rt; left.out.as_slice(), FIRST_TRACE.as_bytes());
+    assert_eq!(rt; left.err.as_slice(), b"".as_slice());
+    assert_eq!(rt; left.status, 0);
+    Ok(())
+}
+
+#[test]
+fn refused_events_stand_in_the_trace(rt: HostRuntime) -> Result<(), Fail> {
+    let script = "nodes 1 segment 1024 interval 0
+elect 0
+append 0 1000 -1 -1 -1 d a
+adopt 0
+adopt 0
+append 0 1000 -1 -1 -1 d a
+read 0 1
+read 0 2
+raise 0
+show 0
+";
+    let trace = "2 record leader 0 epoch 0 isr 0 version 1
+3 F15 NotLeader
+4 leads epoch 0 from 0
+5 F22 StaleRecord
+6 at 0
+7 read 0
+8 F16 OffsetOutOfRange
+9 mark 1
+10 node 0 life 0 end 1 mark 1 stable 1
+";
+    let left = run(rt.alloc(), script.as_bytes())?;
+    assert_eq!(rt; left.out.as_slice(), trace.as_bytes());
+    assert_eq!(rt; left.err.as_slice(), b"".as_slice());
+    assert_eq!(rt; left.status, 1);
+    Ok(())
+}
+
+#[test]
+fn a_second_leadership_goes_on(rt: HostRuntime) -> Result<(), Fail> {
+    let events =
+        "elect 0\nadopt 0\nappend 0 5 -1 -1 -1 d ab\nelect 0\nadopt 0\nappend 0 4 -1 -1 -1 d ~\nraise 0\nread 0 0\nread 0 1\nread 0 2\nread 0 3\n";
+    let trace = "2 record leader 0 epoch 0 isr 0 version 1
+3 leads epoch 0 from 0
+4 at 0
+5 record leader 0 epoch 1 isr 0 version 2
+6 leads epoch 1 from 1
+7 at 1
+8 mark 2
+9 read 2 0=6162 1=7e
+10 read 1 1=7e
+11 read 0
+12 F16 OffsetOutOfRange
+";
+    let script = format!(in rt.alloc(); "{HEADER}{events}")?;
+    let left = run(rt.alloc(), script.as_bytes())?;
+    assert_eq!(rt; left.out.as_slice(), trace.as_bytes());
+    assert_eq!(rt; left.status, 1);
+    Ok(())
+}
+
+#[test]
+fn script_faults_name_their_line(rt: HostRuntime) -> Result<(), Fail> {
+    let rows: [(&[u8], &str); 14] = [
+        (b"nodes 8 segment 1024 interval 0\n", "1"),
+        (b"nodes 1 segment 1023 interval 0\n", "1"),
+        (b"nodes 1 segment 1024 interval 1048577\n", "1"),
+        (b"", "1"),
+        (b"# x", "2"),
+        (b"# x\n", "2"),
+        (
+            b"nodes 1 segment 1024 interval 0\nnodes 1 segment 1024 interval 0\n",
+            "2",
+        ),
+        (b"nodes 1 segment 1024 interval 0\nelect 0\r\n", "2"),
+        (b"nodes 1 segment 1024 interval 0\n\nelect 00\n", "3"),
+        (b"nodes 1 segment 1024 interval 0\nelect 0\nadopt  0\n", "3"),
+        (b"nodes 1 segment 1024 interval 0\nelect 1\n", "2"),
+        (
+            b"nodes 1 segment 1024 interval 0\nappend 0 1000 -1 -1 -1 d a,b\n",
+            "2",
+        ),
+        (
+            b"nodes 1 segment 1024 interval 0\nappend 0 4611686018427387904 -1 -1 -1 d a\n",
+            "2",
+        ),
+        (b"nodes 1 segment 1024 interval 0\nelect 0\nstop 0\n", "3"),
+    ];
+    for (script, line) in rows {
+        let left = run(rt.alloc(), script)?;
+        let want = format!(in rt.alloc(); "kpart: F31 BadScript {line}\n")?;
+        assert_eq!(rt; left.out.as_slice(), b"".as_slice(), "line {line}");
+        assert_eq!(rt; left.err.as_slice(), want.as_bytes());
+        assert_eq!(rt; left.status, 2, "line {line}");
+    }
+    Ok(())
+}
+
+#[test]
+fn a_script_of_no_events_prints_nothing(rt: HostRuntime) -> Result<(), Fail> {
+    let left = run(
+        rt.alloc(),
+        b"# a comment\n\nnodes 1 segment 1073741824 interval 1048576",
+    )?;
+    assert_eq!(rt; left.out.as_slice(), b"".as_slice());
+    assert_eq!(rt; left.err.as_slice(), b"".as_slice());
+    assert_eq!(rt; left.status, 0);
+    Ok(())
+}
+
+#[test]
+fn each_read_fails_in_turn(rt: HostRuntime) -> Result<(), Fail> {
+    for call in 0..2 {
+        let left = run_failing(rt.alloc(), FIRST.as_bytes(), call, u64::MAX)?;
+        assert_eq!(rt; left.out.as_slice(), b"".as_slice(), "read {call}");
+        assert_eq!(rt;
+            left.err.as_slice(),
+            b"kpart: F32 Device\n".as_slice(),
+            "read {call}"
+        );
+        assert_eq!(rt; left.status, 1, "read {call}");
+    }
+    let left = run_failing(rt.alloc(), FIRST.as_bytes(), 2, u64::MAX)?;
+    assert_eq!(rt; left.out.as_slice(), FIRST_TRACE.as_bytes());
+    assert_eq!(rt; left.status, 0);
+    Ok(())
+}
+
+#[test]
+fn each_write_fails_in_turn(rt: HostRuntime) -> Result<(), Fail> {
+    let left = run_failing(rt.alloc(), FIRST.as_bytes(), u64::MAX, 0)?;
+    assert_eq!(rt; left.out.as_slice(), b"".as_slice());
+    assert_eq!(rt; left.err.as_slice(), b"kpart: F32 Device\n".as_slice());
+    assert_eq!(rt; left.status, 1);
+    let left = run_failing(rt.alloc(), FIRST.as_bytes(), u64::MAX, 1)?;
+    assert_eq!(rt; left.out.as_slice(), FIRST_TRACE.as_bytes());
+    assert_eq!(rt; left.status, 0);
+    Ok(())
+}
+
+#[test]
+fn a_failed_complaint_keeps_the_status(rt: HostRuntime) -> Result<(), Fail> {
+    let mut err = Counted::new(Faulty::new(Vec::new(rt.alloc()), 0));
+    assert_eq!(rt; refuse(&mut err, kp_types::Refusal::BadScript(3)), 2);
+    assert_eq!(rt; err.failed, 1);
+    assert_eq!(rt; err.inner.bytes.len(), 0);
+    Ok(())
+}

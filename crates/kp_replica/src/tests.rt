@@ -1,0 +1,149 @@
+ghost use Rattle.std.specs.Prelude.{◌≤◌};
+
+use super::*;
+use bytes::Bytes;
+use kp_batch::{Batch, Fields, Parts};
+use kp_types::{Limits, NodeId, Refusal};
+use std::alloc::Global;
+use std::test::Fail;
+
+const LIMITS: Limits = Limits {
+    segment_bytes: 1_048_576,
+    index_interval: 4_096,
+    max_batch: 1_048_576,
+};
+
+const FIELDS: Fields = Fields {
+    base_timestamp: 1000,
+    producer_id: None,
+    producer_epoch: None,
+    base_sequence: None,
+    transactional: false,
+    control: false,
+};
+
+// The bytes of a batch of the record `a`.
+fn batch(alloc: Global) -> Result<Bytes, Refusal> {
+    let part = Parts {
+        timestamp: 1000,
+        key: None,
+        value: Some(b"a"),
+        headers: &[],
+    };
+    let mut out = Vec::new(alloc);
+    Batch::build(alloc, &FIELDS, &[part], &LIMITS)?.write(&mut out)?;
+    Ok(Bytes::from_vec(out)?)
+}
+
+// The record of this many nodes after the election of node 0.
+fn elected(count: NodeId) -> Result<Record, Refusal>
+    requires { count ≤ 7 }
+{
+    Record::initial(count).elected(0)
+}
+
+#[test]
+fn elects_only_a_node_in_sync(rt: HostRuntime) -> Result<(), Fail> {
+    let initial = Record::initial(1);
+    assert_eq!(rt; initial.leader, None);
+    assert_eq!(rt; initial.version, 0);
+    assert!(rt; initial.isr.contains(0));
+    assert!(rt; !initial.isr.contains(1));
+    assert!(rt; !initial.isr.contains(7));
+    let first = initial.elected(0)?;
+    assert_eq!(rt; first.leader, Some(Leader { node: 0, epoch: 0 }));
+    assert_eq!(rt; first.isr, initial.isr);
+    assert_eq!(rt; first.version, 1);
+    let second = first.elected(0)?;
+    assert_eq!(rt; second.leader, Some(Leader { node: 0, epoch: 1 }));
+    assert_eq!(rt; second.version, 2);
+    match initial.elected(1) {
+        Ok(_) => panic!(rt; "a node out of sync was elected"),
+        Err(refusal) => assert_eq!(rt; refusal, Refusal::NotInSync),
+    }
+    Ok(())
+}
+
+#[test]
+fn leads_by_a_record_that_is_news(rt: HostRuntime) -> Result<(), Fail> {
+    let mut node = Replica::new(rt.alloc(), 0, &LIMITS);
+    assert_eq!(rt; node.adopt(&Record::initial(1)), Err(Refusal::StaleRecord));
+    assert_eq!(rt; node.produce(batch(rt.alloc())?), Err(Refusal::NotLeader));
+    assert_eq!(rt; node.raise(), Err(Refusal::NotLeader));
+    let first = elected(1)?;
+    assert_eq!(rt; node.adopt(&first), Ok(Role::Leads { epoch: 0, start: 0 }));
+    assert_eq!(rt; node.adopt(&first), Err(Refusal::StaleRecord));
+    let second = first.elected(0)?;
+    assert_eq!(rt; node.produce(batch(rt.alloc())?)?.base, 0);
+    assert_eq!(rt; node.adopt(&second), Ok(Role::Leads { epoch: 1, start: 1 }));
+    assert_eq!(rt; node.adopt(&first), Err(Refusal::StaleRecord));
+    let receipt = node.produce(batch(rt.alloc())?)?;
+    let want = Receipt {
+        base: 1,
+        last: 1,
+        epoch: 1,
+        duplicate: false,
+    };
+    assert_eq!(rt; receipt, want);
+    Ok(())
+}
+
+#[test]
+fn appends_and_raises(rt: HostRuntime) -> Result<(), Fail> {
+    let mut node = Replica::new(rt.alloc(), 0, &LIMITS);
+    assert_eq!(rt;
+        node.adopt(&elected(1)?),
+        Ok(Role::Leads { epoch: 0, start: 0 })
+    );
+    let receipt = node.produce(batch(rt.alloc())?)?;
+    let want = Receipt {
+        base: 0,
+        last: 0,
+        epoch: 0,
+        duplicate: false,
+    };
+    assert_eq!(rt; receipt, want);
+    let short = Bytes::copy_from_slice(rt.alloc(), &[0; 5])?;
+    assert_eq!(rt; node.produce(short), Err(Refusal::Truncated));
+    assert_eq!(rt; node.log().end_offset(), 1);
+    assert_eq!(rt; node.log().batches().len(), 1);
+    for stored in node.log().batches() {
+        assert_eq!(rt; stored.base_offset(), 0);
+        assert_eq!(rt; stored.leader_epoch(), Some(0));
+        assert_eq!(rt; stored.crc(), 0xebf1_884b);
+    }
+    assert_eq!(rt; node.watermark(), 0);
+    assert_eq!(rt; node.stable_offset(), 0);
+    assert_eq!(rt; node.raise(), Ok(1));
+    assert_eq!(rt; node.watermark(), 1);
+    assert_eq!(rt; node.stable_offset(), 1);
+    assert_eq!(rt; node.life(), 0);
+    Ok(())
+}
+
+#[test]
+fn waits_for_the_others_in_sync(rt: HostRuntime) -> Result<(), Fail> {
+    let record = elected(2)?;
+    let mut leader = Replica::new(rt.alloc(), 0, &LIMITS);
+    assert_eq!(rt;
+        leader.adopt(&record),
+        Ok(Role::Leads { epoch: 0, start: 0 })
+    );
+    assert_eq!(rt; leader.produce(batch(rt.alloc())?)?.last, 0);
+    assert_eq!(rt; leader.raise(), Ok(0));
+    assert_eq!(rt; leader.watermark(), 0);
+    let mut follower = Replica::new(rt.alloc(), 1, &LIMITS);
+    let follows = Role::Follows {
+        leader: 0,
+        epoch: 0,
+        fetching: true,
+    };
+    assert_eq!(rt; follower.adopt(&record), Ok(follows));
+    assert_eq!(rt; follower.adopt(&record), Err(Refusal::StaleRecord));
+    assert_eq!(rt;
+        follower.produce(batch(rt.alloc())?),
+        Err(Refusal::NotLeader)
+    );
+    assert_eq!(rt; follower.log().end_offset(), 0);
+    Ok(())
+}
