@@ -4,3 +4,4 @@ pub mod Ups
 pub mod Stable
 pub mod Produced
 pub mod Reports
+pub mod Offered

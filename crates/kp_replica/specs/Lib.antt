@@ -3,3 +3,4 @@ pub mod Member
 pub mod Modes
 pub mod Kept
 pub mod Replies
+pub mod Offers

@@ -3,11 +3,23 @@
 //! answer, the state before and the state after.
 #![tactic(auto)]
 
+ghost use Rattle.kp_replica.specs.Offers.{BytesAreAnOffer, OffersAreOne};
+
 mod record;
 mod replica;
 
 pub use record::{Leader, NodeSet, Record};
 pub use replica::{Receipt, Replica, Role};
+
+/// All bytes hand in one thing, and only one: a batch of no producer, or the refusal of what they are. It costs
+/// nothing.
+pub fn bytes_are_an_offer()
+    ensures some { BytesAreAnOffer }
+    ensures one { OffersAreOne }
+{
+    kp_batch::batches_stand_apart();
+    kp_batch::bytes_are_judged_once();
+}
 
 #[cfg(test)]
 mod tests;

@@ -22,6 +22,24 @@ const FIELDS: Fields = Fields {
     control: false,
 };
 
+// The bytes of a batch of the record `a` by producer 5, in its epoch 0, with the sequence 0.
+const OF_A_PRODUCER: [u8; 69] = [
+    0x00, 0x00, 0x00, 0x00, 0x00, 0x00, 0x00, 0x00, 0x00, 0x00, 0x00, 0x39, 0xff, 0xff, 0xff, 0xff,
+    0x02, 0x4a, 0xee, 0x07, 0x68, 0x00, 0x00, 0x00, 0x00, 0x00, 0x00, 0x00, 0x00, 0x00, 0x00, 0x00,
+    0x00, 0x03, 0xe8, 0x00, 0x00, 0x00, 0x00, 0x00, 0x00, 0x03, 0xe8, 0x00, 0x00, 0x00, 0x00, 0x00,
+    0x00, 0x00, 0x05, 0x00, 0x00, 0x00, 0x00, 0x00, 0x00, 0x00, 0x00, 0x00, 0x01, 0x0e, 0x00, 0x00,
+    0x00, 0x01, 0x02, 0x61, 0x00,
+];
+
+// The bytes of a batch of the records `a` and `b`.
+const OF_TWO_RECORDS: [u8; 77] = [
+    0x00, 0x00, 0x00, 0x00, 0x00, 0x00, 0x00, 0x00, 0x00, 0x00, 0x00, 0x41, 0xff, 0xff, 0xff, 0xff,
+    0x02, 0xae, 0x55, 0x09, 0x60, 0x00, 0x00, 0x00, 0x00, 0x00, 0x01, 0x00, 0x00, 0x00, 0x00, 0x00,
+    0x00, 0x03, 0xe8, 0x00, 0x00, 0x00, 0x00, 0x00, 0x00, 0x03, 0xe8, 0xff, 0xff, 0xff, 0xff, 0xff,
+    0xff, 0xff, 0xff, 0xff, 0xff, 0xff, 0xff, 0xff, 0xff, 0x00, 0x00, 0x00, 0x02, 0x0e, 0x00, 0x00,
+    0x00, 0x01, 0x02, 0x61, 0x00, 0x0e, 0x00, 0x00, 0x02, 0x01, 0x02, 0x62, 0x00,
+];
+
 // The bytes of a batch of the record `a`.
 fn batch(alloc: Global) -> Result<Bytes, Refusal> {
     let part = Parts {
@@ -145,5 +163,46 @@ fn waits_for_the_others_in_sync(rt: HostRuntime) -> Result<(), Fail> {
         Err(Refusal::NotLeader)
     );
     assert_eq!(rt; follower.log().end_offset(), 0);
+    Ok(())
+}
+
+#[test]
+fn refuses_a_batch_of_a_producer(rt: HostRuntime) -> Result<(), Fail> {
+    let mut node = Replica::new(rt.alloc(), 0, &LIMITS);
+    let produced = Bytes::copy_from_slice(rt.alloc(), &OF_A_PRODUCER)?;
+    assert_eq!(rt; node.produce(produced.clone()?), Err(Refusal::NotLeader));
+    assert_eq!(rt;
+        node.adopt(&elected(1)?),
+        Ok(Role::Leads { epoch: 0, start: 0 })
+    );
+    let short = Bytes::copy_from_slice(rt.alloc(), &OF_A_PRODUCER[..68])?;
+    assert_eq!(rt; node.produce(short), Err(Refusal::Truncated));
+    assert_eq!(rt; node.produce(produced), Err(Refusal::BadProducerFields));
+    assert!(rt; node.log().is_empty());
+    assert_eq!(rt; node.log().end_offset(), 0);
+    assert_eq!(rt; node.raise(), Ok(0));
+    Ok(())
+}
+
+#[test]
+fn appends_two_records_as_one_batch(rt: HostRuntime) -> Result<(), Fail> {
+    let mut node = Replica::new(rt.alloc(), 0, &LIMITS);
+    assert_eq!(rt;
+        node.adopt(&elected(1)?),
+        Ok(Role::Leads { epoch: 0, start: 0 })
+    );
+    let two = Bytes::copy_from_slice(rt.alloc(), &OF_TWO_RECORDS)?;
+    for base in [0, 2] {
+        let want = Receipt {
+            base,
+            last: base + 1,
+            epoch: 0,
+            duplicate: false,
+        };
+        assert_eq!(rt; node.produce(two.clone()?), Ok(want));
+    }
+    assert_eq!(rt; node.log().batches().len(), 2);
+    assert_eq!(rt; node.log().end_offset(), 4);
+    assert_eq!(rt; node.raise(), Ok(4));
     Ok(())
 }

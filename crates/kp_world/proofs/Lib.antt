@@ -3,3 +3,4 @@ pub mod Mapped
 pub mod Playing
 pub mod Lines
 pub mod ReadBelow
+pub mod Told

@@ -3,12 +3,23 @@
 //! and that every run is safe: what once lay below a high watermark stays, at its offset, for ever.
 #![tactic(auto)]
 
+ghost use Rattle.kp_world.specs.Laws.{EventsAreTold, EventsAreToldOnce};
+
 mod event;
 mod read;
 mod world;
 
 pub use event::{Answer, Event, Line, Stopped, Trace};
 pub use world::run;
+
+/// Every list of events, in which numbers below 256 are handed in, is a list of events of the definitions, and of
+/// one only: the bytes that a client hands in are one offer. It is what [`run`] speaks of. It costs nothing.
+pub fn events_are_told()
+    ensures some { EventsAreTold }
+    ensures one { EventsAreToldOnce }
+{
+    kp_replica::bytes_are_an_offer();
+}
 
 #[cfg(test)]
 mod tests;

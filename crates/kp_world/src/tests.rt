@@ -26,6 +26,24 @@ const FIELDS: Fields = Fields {
     control: false,
 };
 
+// The bytes of a batch of the record `a` by producer 5, in its epoch 0, with the sequence 0.
+const OF_A_PRODUCER: [u8; 69] = [
+    0x00, 0x00, 0x00, 0x00, 0x00, 0x00, 0x00, 0x00, 0x00, 0x00, 0x00, 0x39, 0xff, 0xff, 0xff, 0xff,
+    0x02, 0x4a, 0xee, 0x07, 0x68, 0x00, 0x00, 0x00, 0x00, 0x00, 0x00, 0x00, 0x00, 0x00, 0x00, 0x00,
+    0x00, 0x03, 0xe8, 0x00, 0x00, 0x00, 0x00, 0x00, 0x00, 0x03, 0xe8, 0x00, 0x00, 0x00, 0x00, 0x00,
+    0x00, 0x00, 0x05, 0x00, 0x00, 0x00, 0x00, 0x00, 0x00, 0x00, 0x00, 0x00, 0x01, 0x0e, 0x00, 0x00,
+    0x00, 0x01, 0x02, 0x61, 0x00,
+];
+
+// The bytes of a batch of the records `a` and `b`.
+const OF_TWO_RECORDS: [u8; 77] = [
+    0x00, 0x00, 0x00, 0x00, 0x00, 0x00, 0x00, 0x00, 0x00, 0x00, 0x00, 0x41, 0xff, 0xff, 0xff, 0xff,
+    0x02, 0xae, 0x55, 0x09, 0x60, 0x00, 0x00, 0x00, 0x00, 0x00, 0x01, 0x00, 0x00, 0x00, 0x00, 0x00,
+    0x00, 0x03, 0xe8, 0x00, 0x00, 0x00, 0x00, 0x00, 0x00, 0x03, 0xe8, 0xff, 0xff, 0xff, 0xff, 0xff,
+    0xff, 0xff, 0xff, 0xff, 0xff, 0xff, 0xff, 0xff, 0xff, 0x00, 0x00, 0x00, 0x02, 0x0e, 0x00, 0x00,
+    0x00, 0x01, 0x02, 0x61, 0x00, 0x0e, 0x00, 0x00, 0x02, 0x01, 0x02, 0x62, 0x00,
+];
+
 // The bytes of a batch of the record `a`.
 fn batch(alloc: Global) -> Result<Bytes, Refusal> {
     let part = Parts {
@@ -227,5 +245,53 @@ fn seven_nodes(rt: HostRuntime) -> Result<(), Fail> {
         leads epoch 1 start 0\n\
         follows 0 epoch 1 fetching false\n";
     assert_eq!(rt; played(rt.alloc(), 7, &events)?.as_str(), want);
+    Ok(())
+}
+
+#[test]
+fn a_batch_of_a_producer_changes_nothing(rt: HostRuntime) -> Result<(), Fail> {
+    let events = [
+        Event::Elect { node: 0 },
+        Event::Adopt { node: 0 },
+        Event::Produce {
+            node: 0,
+            bytes: Bytes::copy_from_slice(rt.alloc(), &OF_A_PRODUCER)?,
+        },
+        Event::Raise { node: 0 },
+        Event::Show { node: 0 },
+        Event::Read { node: 0, from: 0 },
+    ];
+    let want = "leader 0 epoch 0 version 1\n\
+        leads epoch 0 start 0\n\
+        F10 BadProducerFields\n\
+        mark 0\n\
+        life 0 end 0 watermark 0 stable 0\n\
+        0 lines\n";
+    assert_eq!(rt; played(rt.alloc(), 1, &events)?.as_str(), want);
+    Ok(())
+}
+
+#[test]
+fn two_records_are_one_batch_and_two_lines(rt: HostRuntime) -> Result<(), Fail> {
+    let events = [
+        Event::Elect { node: 0 },
+        Event::Adopt { node: 0 },
+        Event::Produce {
+            node: 0,
+            bytes: Bytes::copy_from_slice(rt.alloc(), &OF_TWO_RECORDS)?,
+        },
+        Event::Raise { node: 0 },
+        Event::Read { node: 0, from: 0 },
+        Event::Read { node: 0, from: 1 },
+        Event::Show { node: 0 },
+    ];
+    let want = "leader 0 epoch 0 version 1\n\
+        leads epoch 0 start 0\n\
+        at 0 to 1 epoch 0 duplicate false\n\
+        mark 2\n\
+        2 lines 0 Some([97]) 1 Some([98])\n\
+        1 lines 1 Some([98])\n\
+        life 0 end 2 watermark 2 stable 2\n";
+    assert_eq!(rt; played(rt.alloc(), 1, &events)?.as_str(), want);
     Ok(())
 }
