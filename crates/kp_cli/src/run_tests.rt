@@ -122,7 +122,7 @@ fn a_second_leadership_goes_on(rt: HostRuntime) -> Result<(), Fail> {
 
 #[test]
 fn script_faults_name_their_line(rt: HostRuntime) -> Result<(), Fail> {
-    let rows: [(&[u8], &str); 14] = [
+    let rows: [(&[u8], &str); 18] = [
         (b"nodes 8 segment 1024 interval 0\n", "1"),
         (b"nodes 1 segment 1023 interval 0\n", "1"),
         (b"nodes 1 segment 1024 interval 1048577\n", "1"),
@@ -138,7 +138,7 @@ fn script_faults_name_their_line(rt: HostRuntime) -> Result<(), Fail> {
         (b"nodes 1 segment 1024 interval 0\nelect 0\nadopt  0\n", "3"),
         (b"nodes 1 segment 1024 interval 0\nelect 1\n", "2"),
         (
-            b"nodes 1 segment 1024 interval 0\nappend 0 1000 -1 -1 -1 d a,b\n",
+            b"nodes 1 segment 1024 interval 0\nappend 0 1000 -1 -1 -1 d a,,b\n",
             "2",
         ),
         (
@@ -146,6 +146,10 @@ fn script_faults_name_their_line(rt: HostRuntime) -> Result<(), Fail> {
             "2",
         ),
         (b"nodes 1 segment 1024 interval 0\nelect 0\nstop 0\n", "3"),
+        (b"nodes 1 segment 1024 interval 0\nraw 0 0\n", "2"),
+        (b"nodes 1 segment 1024 interval 0\nraw 0 0A\n", "2"),
+        (b"nodes 1 segment 1024 interval 0\nraw 0 \n", "2"),
+        (b"nodes 1 segment 1024 interval 0\nraw 1 00\n", "2"),
     ];
     for (script, line) in rows {
         let left = run(rt.alloc(), script)?;
@@ -205,5 +209,90 @@ fn a_failed_complaint_keeps_the_status(rt: HostRuntime) -> Result<(), Fail> {
     assert_eq!(rt; refuse(&mut err, kp_types::Refusal::BadScript(3)), 2);
     assert_eq!(rt; err.failed, 1);
     assert_eq!(rt; err.inner.bytes.len(), 0);
+    Ok(())
+}
+
+// Two records at base time 1000: key `k`, null value and a header, then an empty value five earlier.
+const TWO: &str =
+    "000000000000000000000044ffffffff02d0a3753d00000000000100000000000003e800000000000003e8ffffffffffffffffffffffffffff0000000216000000026b0102026802310c000902010000";
+
+// `TWO` is appended, then what the other program made of other records is refused.
+const RAW: &str = "raw 0 00
+adopt 0
+append 0 10 -1 -1 -1 d a,bc,d
+";
+
+#[test]
+fn batches_of_several_records(rt: HostRuntime) -> Result<(), Fail> {
+    let trace = "2 record leader 0 epoch 0 isr 0 version 1
+3 F15 NotLeader
+4 leads epoch 0 from 0
+5 at 0
+6 at 3
+7 mark 5
+8 read 5 0=61 1=6263 2=64 3=- 4=
+9 read 2 3=- 4=
+10 read 1 4=
+11 F16 OffsetOutOfRange
+12 node 0 life 0 end 5 mark 5 stable 5
+";
+    let script = format!(in rt.alloc();
+        "{HEADER}elect 0\n{RAW}raw 0 {TWO}\nraise 0\nread 0 0\nread 0 3\nread 0 4\nread 0 6\nshow 0\n"
+    )?;
+    let left = run(rt.alloc(), script.as_bytes())?;
+    assert_eq!(rt; left.out.as_slice(), trace.as_bytes());
+    assert_eq!(rt; left.err.as_slice(), b"".as_slice());
+    assert_eq!(rt; left.status, 1);
+    Ok(())
+}
+
+#[test]
+fn raw_bytes_name_their_first_fault(rt: HostRuntime) -> Result<(), Fail> {
+    let rows = [
+        (
+            "000000000000000000000039ffffffff02ebf1884b00000000000000000000000003e800000000000003e8ffffffffffffffffffffffffffff000000010e00000001026000",
+            "F4 BadCrc",
+        ),
+        (
+            "00000000000000000000003affffffff02290ef1ef00000000000000000000000003e800000000000003e8ffffffffffffffffffffffffffff000000018e0000000001026100",
+            "F8 BadRecord 61",
+        ),
+        (
+            "000000000000000000000039ffffffff024aee076800000000000000000000000003e800000000000003e80000000000000005000000000000000000010e00000001026100",
+            "F10 BadProducerFields",
+        ),
+        (
+            "000000000000000000000042ffffffff022454dce30030000000000000000000000014000000000000001400000000000000050000ffffffff000000012000000008000000010c00000000000700",
+            "F10 BadProducerFields",
+        ),
+        ("00", "F1 Truncated"),
+    ];
+    for (digits, refusal) in rows {
+        let script = format!(in rt.alloc(); "{HEADER}elect 0\nadopt 0\nraw 0 {digits}\nshow 0\n")?;
+        let trace = format!(in rt.alloc();
+            "2 record leader 0 epoch 0 isr 0 version 1\n3 leads epoch 0 from 0\n4 {refusal}\n5 node 0 life 0 end 0 mark 0 stable 0\n"
+        )?;
+        let left = run(rt.alloc(), script.as_bytes())?;
+        assert_eq!(rt; left.out.as_slice(), trace.as_bytes());
+        assert_eq!(rt; left.status, 1);
+    }
+    Ok(())
+}
+
+// A batch of one value of so many bytes has 72 bytes more.
+#[test]
+fn the_largest_batch(rt: HostRuntime) -> Result<(), Fail> {
+    for (size, answer) in [(1_048_504usize, "at 0"), (1_048_505, "F9 TooLarge")] {
+        let mut script = String::from_str(rt.alloc(), HEADER)?;
+        script.push_str("elect 0\nadopt 0\nappend 0 10 -1 -1 -1 d ")?;
+        for _ in 0..size {
+            script.push('x')?;
+        }
+        let left = run(rt.alloc(), script.as_bytes())?;
+        let trace = format!(in rt.alloc();
+            "2 record leader 0 epoch 0 isr 0 version 1\n3 leads epoch 0 from 0\n4 {answer}\n"
+        )?;
+        assert_eq!(rt; left.out.as_slice(), trace.as_bytes(), "{size}");
+    }
     Ok(())
 }

@@ -6,3 +6,10 @@ pub mod Reading
 pub mod Tracing
 pub mod Telling
 pub mod Refusing
+pub mod HexLaws
+pub mod Values
+pub mod Spelling
+pub mod Sizes
+pub mod Offers
+pub mod Appending
+pub mod Apart

@@ -8,7 +8,8 @@ use Rattle.std.proofs.lemmas.Bool.{false≢true}
 use Rattle.kp_replica.specs.Set.{numbers_of}
 use Rattle.kp_world.specs.declared.event.Line.{Line}
 use Rattle.kp_world.specs.Answers.{line_of}
-use Rattle.kp_script.specs.Trace.{hex_digit, hex_text, line_text, lines_text, nodes_text, trace_line, trace_text}
+use Rattle.kp_script.specs.Hex.{hex_digit, hex_text}
+use Rattle.kp_script.specs.Trace.{line_text, lines_text, nodes_text, trace_line, trace_text}
 use Rattle.kp_model.specs.Event.{Outcome}
 use Rattle.std.proofs.lemmas.List.Concat.{flat_map-append}
 

@@ -1,13 +1,16 @@
 -- What a line of a script says, and how it is written: words with one space between each two.
 use Rattle.std.specs.Prelude.{◌≡◌, ◌≢◌, ℕ, ◌<◌, ◌≤◌, ◌^◌, ◌&&◌, ◌==◌, Bool, not, nat_le, IsTrue, List, [], ◌∷◌, length, codes}
-use Rattle.std.specs.List.{join_with_byte, list_all}
+use Rattle.std.specs.List.{join_with_byte, list_all, slice_split}
 use Rattle.std.specs.Fmt.{decimal}
+use Rattle.kp_record.specs.Record.{AreBytes}
+use Rattle.kp_script.specs.Hex.{hex_text}
 
 -- what an event's line asks of a node
 pub data Call : Type 0 where
   Elect : (node : ℕ) → Call
   Adopt : (node : ℕ) → Call
-  Append : (node time : ℕ) → (value : List ℕ) → Call
+  Append : (node time : ℕ) → (values : List (List ℕ)) → Call
+  Raw : (node : ℕ) → (bytes : List ℕ) → Call
   Raise : (node : ℕ) → Call
   Show : (node : ℕ) → Call
   Read : (node from : ℕ) → Call
@@ -16,7 +19,8 @@ pub data Call : Type 0 where
 abbrev pub node_of : Call → ℕ
 node_of (Elect node) = node
 node_of (Adopt node) = node
-node_of (Append node time value) = node
+node_of (Append node time values) = node
+node_of (Raw node bytes) = node
 node_of (Raise node) = node
 node_of (Show node) = node
 node_of (Read node from) = node
@@ -31,6 +35,14 @@ pub record Header : Type 0 where
 abbrev pub spaced : List (List ℕ) → List ℕ
 spaced words = join_with_byte 32 words
 
+-- values, with a comma between each two
+abbrev pub values_text : List (List ℕ) → List ℕ
+values_text values = join_with_byte 44 values
+
+-- the pieces of a text between its commas
+abbrev pub pieces : List ℕ → List (List ℕ)
+pieces text = slice_split (λ byte. byte == 44) text
+
 abbrev pub header_text : Header → List ℕ
 header_text header =
     spaced (codes "nodes" ∷ decimal header.count ∷ codes "segment" ∷ decimal header.segment ∷ codes "interval" ∷ decimal header.interval ∷ [])
@@ -38,7 +50,9 @@ header_text header =
 abbrev pub call_text : Call → List ℕ
 call_text (Elect node) = spaced (codes "elect" ∷ decimal node ∷ [])
 call_text (Adopt node) = spaced (codes "adopt" ∷ decimal node ∷ [])
-call_text (Append node time value) = spaced (codes "append" ∷ decimal node ∷ decimal time ∷ codes "-1 -1 -1 d" ∷ value ∷ [])
+call_text (Append node time values) =
+    spaced (codes "append" ∷ decimal node ∷ decimal time ∷ codes "-1 -1 -1 d" ∷ values_text values ∷ [])
+call_text (Raw node bytes) = spaced (codes "raw" ∷ decimal node ∷ hex_text bytes ∷ [])
 call_text (Raise node) = spaced (codes "raise" ∷ decimal node ∷ [])
 call_text (Show node) = spaced (codes "show" ∷ decimal node ∷ [])
 call_text (Read node from) = spaced (codes "read" ∷ decimal node ∷ decimal from ∷ [])
@@ -47,9 +61,9 @@ call_text (Read node from) = spaced (codes "read" ∷ decimal node ∷ decimal f
 abbrev pub is_value_byte : ℕ → Bool
 is_value_byte byte = nat_le 33 byte && nat_le byte 126 && not (byte == 44)
 
--- A value has 1 to 57 such bytes.
+-- A value has one such byte or more.
 abbrev pub is_value : List ℕ → Bool
-is_value value = nat_le 1 (length value) && nat_le (length value) 57 && list_all is_value_byte value
+is_value value = nat_le 1 (length value) && list_all is_value_byte value
 
 -- A header's numbers are in range. There is one node.
 pub record IsHeader (header : Header) : Type 0 where
@@ -58,14 +72,22 @@ pub record IsHeader (header : Header) : Type 0 where
   pub greatest_segment : header.segment ≤ 1073741824
   pub interval : header.interval ≤ 1048576
 
--- A call's numbers and its value are in range where there are so many nodes. Times and offsets are below 2 ^ 62.
-abbrev pub IsCall : (count : ℕ) → Call → Type 0
-IsCall count (Elect node) = node < count
-IsCall count (Adopt node) = node < count
-IsCall count (Append node time value) = (node < count) × (time < 2 ^ 62) × IsTrue (is_value value)
-IsCall count (Raise node) = node < count
-IsCall count (Show node) = node < count
-IsCall count (Read node from) = (node < count) × (from < 2 ^ 62)
+-- A call's numbers, its values and its bytes are in range where there are so many nodes. Times and offsets are
+-- below 2 ^ 62. There is a value, or a byte.
+abbrev pub IsCallInRange : (count : ℕ) → Call → Type 0
+IsCallInRange count (Elect node) = node < count
+IsCallInRange count (Adopt node) = node < count
+IsCallInRange count (Append node time values) =
+    (node < count) × (time < 2 ^ 62) × (0 < length values) × IsTrue (list_all is_value values)
+IsCallInRange count (Raw node bytes) = (node < count) × (0 < length bytes) × AreBytes bytes
+IsCallInRange count (Raise node) = node < count
+IsCallInRange count (Show node) = node < count
+IsCallInRange count (Read node from) = (node < count) × (from < 2 ^ 62)
+
+-- A call is in range, and its line has at most 2,100,000 bytes.
+pub record IsCall (count : ℕ) (call : Call) : Type 0 where
+  pub range : IsCallInRange count call
+  pub short : length (call_text call) ≤ 2100000
 
 -- The bytes are the text of this header, which is in range.
 abbrev pub IsHeaderText : List ℕ → Header → Type 0
@@ -82,3 +104,8 @@ SpellsNoHeader bytes = (header : Header) → IsHeader header → bytes ≢ heade
 -- The bytes are not the text of a call in range.
 abbrev pub SpellsNoCall : (count : ℕ) → List ℕ → Type 0
 SpellsNoCall count bytes = (call : Call) → IsCall count call → bytes ≢ call_text call
+
+-- A text is that of one call in range at most.
+abbrev pub HasOneCall : Type 0
+HasOneCall =
+    (count : ℕ) (a b : Call) → count < 2 ^ 64 → IsCall count a → IsCall count b → call_text a ≡ call_text b → a ≡ b

@@ -1,3 +1,4 @@
+pub mod Hex
 pub mod Call
 pub mod Lines
 pub mod Script

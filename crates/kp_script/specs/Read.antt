@@ -1,7 +1,7 @@
 -- Words of the readers' contracts.
 use Rattle.std.specs.Prelude.{◌≢◌, ℕ, List}
 use Rattle.std.specs.List.{AllByRecursion}
-use Rattle.kp_script.specs.Call.{Append, Read, call_text, IsCall}
+use Rattle.kp_script.specs.Call.{Append, Raw, Read, call_text, IsCall}
 
 -- No byte is this one.
 abbrev pub Lacks : ℕ → List ℕ → Type 0
@@ -10,7 +10,11 @@ Lacks byte bytes = AllByRecursion (λ x. x ≢ byte) bytes
 -- The bytes are not the text of an append in range.
 abbrev pub SpellsNoAppend : (count : ℕ) → List ℕ → Type 0
 SpellsNoAppend count bytes =
-    (node time : ℕ) (value : List ℕ) → IsCall count (Append node time value) → bytes ≢ call_text (Append node time value)
+    (node time : ℕ) (values : List (List ℕ)) → IsCall count (Append node time values) → bytes ≢ call_text (Append node time values)
+
+-- The bytes are not the text of a call in range that hands in raw bytes.
+abbrev pub SpellsNoRaw : (count : ℕ) → List ℕ → Type 0
+SpellsNoRaw count bytes = (node : ℕ) (raw : List ℕ) → IsCall count (Raw node raw) → bytes ≢ call_text (Raw node raw)
 
 -- The bytes are not the text of a read in range.
 abbrev pub SpellsNoRead : (count : ℕ) → List ℕ → Type 0

@@ -1,6 +1,7 @@
 -- What the parser's values say, apart from where they lie in memory.
 use Rattle.std.specs.Prelude.{ℕ, map}
-use Rattle.kp_script.specs.Call.{Call, Header, Elect, Adopt, Append, Raise, Show, Read}
+use Rattle.kp_script.specs.Call.{Call, Header, Elect, Adopt, Append, Raw, Raise, Show, Read, pieces}
+use Rattle.kp_script.specs.Hex.{bytes_of}
 use Rattle.kp_script.specs.declared.call.Call.{Call as ParsedCall}
 use Rattle.kp_script.specs.declared.call.Call.TheVariants as parsed
 use Rattle.kp_script.specs.declared.call.Header.{Header as ParsedHeader}
@@ -14,7 +15,8 @@ seen_header header = record { count = header.count; segment = header.segment; in
 abbrev pub seen_call : ParsedCall → Call
 seen_call (parsed.Elect node) = Elect node
 seen_call (parsed.Adopt node) = Adopt node
-seen_call (parsed.Append node time value) = Append node time value.now
+seen_call (parsed.Append node time values) = Append node time (pieces values.now)
+seen_call (parsed.Raw node digits) = Raw node (bytes_of digits.now)
 seen_call (parsed.Raise node) = Raise node
 seen_call (parsed.Show node) = Show node
 seen_call (parsed.Read node from) = Read node from

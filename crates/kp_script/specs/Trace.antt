@@ -1,19 +1,12 @@
 -- The text of a trace: a line for each event, with the number of the event's line and what was answered.
-use Rattle.std.specs.Prelude.{ℕ, ◌+◌, ◌/◌, ◌%◌, Bool, true, false, nat_lt, List, [], ◌∷◌, ◌++◌, length, map, codes, Option, Some, None, if◌then◌else◌}
+use Rattle.std.specs.Prelude.{ℕ, Bool, true, false, List, [], ◌∷◌, ◌++◌, length, map, codes, Option, Some, None}
 use Rattle.std.specs.List.{join_with_byte, flat_map, zip}
 use Rattle.std.specs.Fmt.{decimal}
 use Rattle.kp_types.specs.Texts.{refusal_text}
 use Rattle.kp_model.specs.World.{Leader, LeaderAndIsr}
 use Rattle.kp_model.specs.Event.{Line, Reply, Refused, Changed, NowLeads, NowFollows, At, DuplicateOf, AsksFrom, AsksEpoch, SentBatches, SentEpoch, Took, Cut, MarkAt, CheckpointAt, Stopped, Restarted, Shown, Lines, Outcome}
 use Rattle.kp_script.specs.Call.{spaced}
-
--- a number below 16 as a digit: 0 to 9, then a to f
-abbrev pub hex_digit : ℕ → ℕ
-hex_digit n = if nat_lt n 10 then 48 + n else 87 + n
-
--- each byte as two such digits
-abbrev pub hex_text : List ℕ → List ℕ
-hex_text bytes = flat_map (λ byte. hex_digit (byte / 16) ∷ hex_digit (byte % 16) ∷ []) bytes
+use Rattle.kp_script.specs.Hex.{hex_text}
 
 -- The value of a record, where null is a dash.
 abbrev pub value_text : Option (List ℕ) → List ℕ

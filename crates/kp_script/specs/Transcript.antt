@@ -4,11 +4,12 @@ use Rattle.std.specs.Io.KnownBytes.{Appends, Keeps}
 use Rattle.kp_types.specs.declared.refusal.Refusal.{Refusal}
 use Rattle.kp_types.specs.declared.refusal.Refusal.TheVariants as refusals
 use Rattle.kp_types.specs.Devices.{AppendsFront}
-use Rattle.kp_model.specs.Event.{Reply, Refused, Outcome}
+use Rattle.kp_types.specs.declared.limits.TheConstants.{MAX_BATCH}
+use Rattle.kp_model.specs.Event.{Event, Reply, Refused, Outcome}
 use Rattle.kp_world.specs.Plays.{IsPlayed}
 use Rattle.kp_script.specs.Call.{node_of}
 use Rattle.kp_script.specs.Script.{Script, IsScript}
-use Rattle.kp_script.specs.Told.{events_told}
+use Rattle.kp_script.specs.Told.{AreTold}
 use Rattle.kp_script.specs.Trace.{trace_text}
 
 abbrev pub is_refusal : Reply → Bool
@@ -19,13 +20,15 @@ is_refusal _ = false
 abbrev pub refusals_in : List Outcome → ℕ
 refusals_in outcomes = count_by (λ outcome. is_refusal outcome.reply) outcomes
 
--- The input spells a script, a run of the definitions has its events, and the text is the trace of this run;
--- so many of the events were refused.
+-- The input spells a script, its calls tell events, a run of the definitions has these, and the text is the trace of
+-- this run; so many of the events were refused.
 pub record IsTranscript (input text : List ℕ) (refused : ℕ) : Type 0 where
   pub script : Script
   pub spelled : IsScript input script
+  pub events : List Event
+  pub told : AreTold MAX_BATCH (map (λ call. call.1) script.calls) events
   pub outcomes : List Outcome
-  pub played : IsPlayed script.header.count (events_told script.calls) outcomes
+  pub played : IsPlayed script.header.count events outcomes
   pub text_is : text ≡ trace_text (map (λ call. (call.0, node_of call.1)) script.calls) outcomes
   pub refused_is : refused ≡ refusals_in outcomes
 

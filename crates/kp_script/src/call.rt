@@ -1,19 +1,19 @@
 //! The header and the calls, and the readers of their lines.
 
-ghost use Rattle.std.specs.Prelude.{◌≡◌, IfSome, IfNone};
-ghost use Rattle.kp_script.specs.Call.{is_value, is_value_byte, IsHeaderText, IsCallText, SpellsNoHeader, SpellsNoCall};
+ghost use Rattle.std.specs.Prelude.{◌≡◌, ◌≤◌, length, IfSome, IfNone};
+ghost use Rattle.kp_script.specs.Call.{is_value, is_value_byte, pieces, IsHeaderText, IsCallText, SpellsNoHeader, SpellsNoCall, HasOneCall};
 ghost use Rattle.std.specs.List.{list_all};
-ghost use Rattle.kp_script.specs.Read.{SpellsNoAppend, SpellsNoRead};
+ghost use Rattle.kp_script.specs.Read.{SpellsNoAppend, SpellsNoRaw, SpellsNoRead};
 ghost use Rattle.kp_script.specs.Seen.{seen_header, seen_call};
 
+use crate::hex::is_hex;
+use crate::lines::LONGEST_LINE;
 use crate::words::{after, field_then, last_field, number_below, number_then};
 use kp_types::{
     GREATEST_OFFSET, GREATEST_SEGMENT_BYTES, LEAST_SEGMENT_BYTES, MAX_INDEX_INTERVAL, NodeId,
     Offset,
 };
 
-/// How many bytes a value has at most.
-pub const LONGEST_VALUE: usize = 57;
 /// The greatest time of a record, 2^62 - 1.
 pub const GREATEST_TIME: u64 = 4_611_686_018_427_387_903;
 /// How many nodes there are.
@@ -41,11 +41,17 @@ pub enum Call<'a> {
     Adopt {
         node: NodeId,
     },
-    /// The node, where it leads, appends a batch of one record that has this time in milliseconds and this value.
+    /// A client hands the node a batch with a record for each of these values, which stand with a comma between
+    /// each two. Each record has this time in milliseconds.
     Append {
         node: NodeId,
         time: u64,
-        value: &'a [u8],
+        values: &'a [u8],
+    },
+    /// A client hands the node the bytes that these hexadecimal digits spell.
+    Raw {
+        node: NodeId,
+        digits: &'a [u8],
     },
     /// The node raises its high watermark.
     Raise {
@@ -75,6 +81,7 @@ impl Call<'_> {
             Call::Elect { node }
             | Call::Adopt { node }
             | Call::Append { node, .. }
+            | Call::Raw { node, .. }
             | Call::Raise { node }
             | Call::Show { node }
             | Call::Read { node, .. } => *node,
@@ -123,11 +130,19 @@ fn are_value_bytes(bytes: &[u8]) -> bool
 fn is_value(value: &[u8]) -> bool
     ensures { result ≡ is_value value.now }
 {
-    1 <= value.len() && value.len() <= LONGEST_VALUE && are_value_bytes(value)
+    !value.is_empty() && are_value_bytes(value)
+}
+
+/// Whether each piece between the commas can be the value of a record. Takes time proportional to the bytes.
+fn are_values(values: &[u8]) -> bool
+    ensures { result ≡ list_all is_value (pieces values.now) }
+{
+    values.split(|byte| *byte == b',').all(is_value)
 }
 
 /// The append that the whole line spells.
 fn append_of(line: &[u8], count: NodeId) -> Option<Call<'_>>
+    requires short { length line.now ≤ 2100000 }
     ensures found { IfSome result (λ call. IsCallText count line.now (seen_call call)) }
     ensures none { IfNone result (SpellsNoAppend count line.now) }
 {
@@ -137,21 +152,40 @@ fn append_of(line: &[u8], count: NodeId) -> Option<Call<'_>>
     let Some((time, rest)) = number_then(rest, GREATEST_TIME + 1) else {
         return None;
     };
-    let Some(value) = after(b"-1 -1 -1 d ", rest) else {
+    let Some(values) = after(b"-1 -1 -1 d ", rest) else {
         return None;
     };
-    if !is_value(value) {
+    if !are_values(values) {
         return None;
     }
     Some(Call::Append {
         node: node as NodeId,
         time,
-        value,
+        values,
+    })
+}
+
+/// The call that the whole line spells where it hands in raw bytes.
+fn raw_of(line: &[u8], count: NodeId) -> Option<Call<'_>>
+    requires short { length line.now ≤ 2100000 }
+    ensures found { IfSome result (λ call. IsCallText count line.now (seen_call call)) }
+    ensures none { IfNone result (SpellsNoRaw count line.now) }
+{
+    let Some((node, digits)) = field_then(b"raw ", line, u64::from(count)) else {
+        return None;
+    };
+    if !is_hex(digits) {
+        return None;
+    }
+    Some(Call::Raw {
+        node: node as NodeId,
+        digits,
     })
 }
 
 /// The read that the whole line spells.
 fn read_of(line: &[u8], count: NodeId) -> Option<Call<'_>>
+    requires short { length line.now ≤ 2100000 }
     ensures found { IfSome result (λ call. IsCallText count line.now (seen_call call)) }
     ensures none { IfNone result (SpellsNoRead count line.now) }
 {
@@ -167,12 +201,19 @@ fn read_of(line: &[u8], count: NodeId) -> Option<Call<'_>>
     })
 }
 
-/// The call that the whole line spells, where there are so many nodes.
+/// The call that the whole line spells, where there are so many nodes. Takes time proportional to the line, and no
+/// memory.
 pub fn call_of(line: &[u8], count: NodeId) -> Option<Call<'_>>
     ensures found { IfSome result (λ call. IsCallText count line.now (seen_call call)) }
     ensures none { IfNone result (SpellsNoCall count line.now) }
 {
+    if line.len() > LONGEST_LINE {
+        return None;
+    }
     if let Some(call) = append_of(line, count) {
+        return Some(call);
+    }
+    if let Some(call) = raw_of(line, count) {
         return Some(call);
     }
     if let Some(call) = read_of(line, count) {
@@ -201,3 +242,8 @@ pub fn call_of(line: &[u8], count: NodeId) -> Option<Call<'_>>
     }
     None
 }
+
+/// That a line says one call at most: two calls in range with one text are one call. It does nothing when it runs.
+pub fn lines_say_one_call()
+    ensures { HasOneCall }
+{}

@@ -1,38 +1,55 @@
 //! The events of a script, as a run takes them.
 
-ghost use Rattle.std.specs.Prelude.{◌≡◌, ◌<◌, ◌≤◌, ◌^◌, IfOk, IfErr, Ok, length, map, IsTrue};
+ghost use Rattle.std.specs.Prelude.{◌≡◌, ℕ, ◌<◌, ◌≤◌, ◌^◌, IfOk, IfErr, length, map};
 ghost use Rattle.std.specs.List.{AllByRecursion};
 ghost use Rattle.kp_types.specs.declared.refusal.Refusal.TheVariants.{Memory};
-ghost use Rattle.kp_batch.specs.Stage.{plain_body};
-ghost use Rattle.kp_model.specs.Event.{Acts, Produce};
-ghost use Rattle.kp_world.specs.Events.{IsEvent, AreEvents, node_of};
-ghost use Rattle.kp_script.specs.Call.{IsCall};
-ghost use Rattle.kp_script.specs.Told.{event_told, events_told};
+ghost use Rattle.kp_record.specs.Made.{record_made};
+ghost use Rattle.kp_world.specs.Events.{node_of};
+ghost use Rattle.kp_script.specs.Call.{Append, Raw, IsCall, pieces};
+ghost use Rattle.kp_script.specs.Hex.{bytes_of};
+ghost use Rattle.kp_script.specs.Told.{plain_record, Tells, TellsAll};
 ghost use Rattle.kp_script.specs.Seen.{seen_call, seen_line};
 
 use crate::call::Call;
+use crate::hex::bytes_of;
 use crate::script::Line;
 use bytes::Bytes;
 use kp_batch::{Batch, Fields, Parts};
-use kp_types::{Limits, MAX_BATCH, NodeId, Refusal};
+use kp_types::{GREATEST_SEGMENT_BYTES, Limits, MAX_INDEX_INTERVAL, NodeId, Refusal};
 use kp_world::Event;
-use std::alloc::Global;
+use std::alloc::{AllocError, Global};
 
-/// A batch of one record that has a value alone, at this time, handed to the node.
-fn append_event(
-    alloc: Global,
-    limits: &Limits,
-    node: NodeId,
-    time: u64,
-    value: &[u8],
-) -> Result<Event, Refusal>
+/// A record for each piece between the commas: it has this time in milliseconds, and the piece as its value.
+/// Takes time and memory proportional to the bytes, and fails where memory runs out.
+fn parts_of<'a>(alloc: Global, time: u64, values: &'a [u8]) -> Result<Vec<Parts<'a>>, AllocError>
+    ensures { IfOk result (λ parts. map record_made parts.items ≡ map (plain_record time) (pieces values.now)) }
+{
+    values
+        .split(|byte| *byte == b',')
+        .map(|value| Parts {
+            timestamp: time,
+            key: None,
+            value: Some(value),
+            headers: &[],
+        })
+        .collect(alloc)
+}
+
+/// A batch with a record for each piece between the commas, each at this time in milliseconds, handed to the node.
+/// It is built whatever its size: a node refuses it above its own limit. Takes time and memory proportional to the
+/// bytes, and is refused only where memory runs out.
+fn append_event(alloc: Global, node: NodeId, time: u64, values: &[u8]) -> Result<Event, Refusal>
     requires early { time < 2 ^ 62 }
-    requires short { length value.now ≤ 57 }
-    requires roomy { 125 ≤ limits.now.max_batch }
-    ensures made { IfOk result (λ event. IsEvent limits.now.max_batch event (Acts node (Produce (Ok (plain_body time value.now))))) }
+    requires short { length values.now ≤ 2100000 }
+    ensures told { IfOk result (λ event. (max : ℕ) → Tells max (Append node time (pieces values.now)) event) }
     ensures node { IfOk result (λ event. node_of event ≡ node) }
     ensures only { IfErr result (λ refusal. refusal ≡ Memory) }
 {
+    let limits = Limits {
+        segment_bytes: GREATEST_SEGMENT_BYTES,
+        index_interval: MAX_INDEX_INTERVAL,
+        max_batch: 2_147_483_647,
+    };
     let fields = Fields {
         base_timestamp: time,
         producer_id: None,
@@ -41,29 +58,30 @@ fn append_event(
         transactional: false,
         control: false,
     };
-    let parts = [Parts {
-        timestamp: time,
-        key: None,
-        value: Some(value),
-        headers: &[],
-    }];
-    let batch = Batch::build(alloc, &fields, &parts, limits)?;
+    let parts = parts_of(alloc, time, values)?;
+    let batch = Batch::build(alloc, &fields, &parts, &limits)?;
     let mut bytes = Vec::new(alloc);
     batch.write(&mut bytes)?;
     let bytes = Bytes::from_vec(bytes)?;
     Ok(Event::Produce { node, bytes })
 }
 
+/// The bytes that the digits spell, handed to the node. Takes time and memory proportional to their number, and is
+/// refused only where memory runs out.
+fn raw_event(alloc: Global, node: NodeId, digits: &[u8]) -> Result<Event, Refusal>
+    ensures told { IfOk result (λ event. (max : ℕ) → Tells max (Raw node (bytes_of digits.now)) event) }
+    ensures node { IfOk result (λ event. node_of event ≡ node) }
+    ensures only { IfErr result (λ refusal. refusal ≡ Memory) }
+{
+    kp_replica::bytes_are_an_offer();
+    let bytes = Bytes::from_vec(bytes_of(alloc, digits)?)?;
+    Ok(Event::Produce { node, bytes })
+}
+
 /// The event that a call tells.
-fn event_of(
-    alloc: Global,
-    limits: &Limits,
-    call: &Call<'_>,
-    count: NodeId,
-) -> Result<Event, Refusal>
-    requires lawful { IsCall count (seen_call call.now) }
-    requires roomy { 125 ≤ limits.now.max_batch }
-    ensures told { IfOk result (λ event. IsEvent limits.now.max_batch event (event_told (seen_call call.now))) }
+fn event_of(alloc: Global, call: &Call<'_>, count: NodeId) -> Result<Event, Refusal>
+    requires { IsCall count (seen_call call.now) }
+    ensures told { IfOk result (λ event. (max : ℕ) → Tells max (seen_call call.now) event) }
     ensures node { IfOk result (λ event. node_of event < count) }
     ensures only { IfErr result (λ refusal. refusal ≡ Memory) }
 {
@@ -71,29 +89,29 @@ fn event_of(
     match *call {
         Call::Elect { node } => Ok(Event::Elect { node }),
         Call::Adopt { node } => Ok(Event::Adopt { node }),
-        Call::Append { node, time, value } => append_event(alloc, limits, node, time, value),
+        Call::Append { node, time, values } => append_event(alloc, node, time, values),
+        Call::Raw { node, digits } => raw_event(alloc, node, digits),
         Call::Raise { node } => Ok(Event::Raise { node }),
         Call::Show { node } => Ok(Event::Show { node }),
         Call::Read { node, from } => Ok(Event::Read { node, from }),
     }
 }
 
-/// The events of a script's lines, in their order. F33.
+/// The events of a script's lines, in their order. Takes time and memory proportional to the lines. F33.
 pub(crate) fn events_of(
     alloc: Global,
-    limits: &Limits,
     lines: &[Line<'_>],
     count: NodeId,
 ) -> Result<Vec<Event>, Refusal>
-    requires lawful { AllByRecursion (λ call. IsCall count call.1) (map seen_line lines.now) }
-    requires roomy { 125 ≤ limits.now.max_batch }
-    ensures told { IfOk result (λ events. AreEvents limits.now.max_batch events.items (events_told (map seen_line lines.now))) }
+    requires { AllByRecursion (λ call. IsCall count call.1) (map seen_line lines.now) }
+    ensures told { IfOk result
+        (λ events. (max : ℕ) → TellsAll max (map (λ call. call.1) (map seen_line lines.now)) events.items) }
     ensures nodes { IfOk result (λ events. AllByRecursion (λ event. node_of event < count) events.items) }
     ensures only { IfErr result (λ refusal. refusal ≡ Memory) }
 {
     let mut events = Vec::new(alloc);
     for line in lines {
-        events.push(event_of(alloc, limits, &line.call, count)?)?;
+        events.push(event_of(alloc, &line.call, count)?)?;
     }
     Ok(events)
 }

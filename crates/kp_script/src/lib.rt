@@ -5,14 +5,15 @@
 
 mod call;
 mod events;
+mod hex;
 mod lines;
 mod run;
 mod script;
 mod trace;
 mod words;
 
-pub use call::{Call, GREATEST_TIME, Header, LONGEST_VALUE};
-pub use lines::LONGEST_COMMENT;
+pub use call::{Call, GREATEST_TIME, Header, lines_say_one_call};
+pub use lines::LONGEST_LINE;
 pub use run::run_script;
 pub use script::{Line, MOST_EVENTS, Script, parse};
 pub use trace::trace_text;

@@ -6,8 +6,8 @@ ghost use Rattle.kp_script.specs.Lines.{lines, is_passed_over, counted_from};
 
 use crate::words::split_first_at;
 
-/// How many bytes a line has at most that is passed over.
-pub const LONGEST_COMMENT: usize = 2_100_000;
+/// How many bytes a line has at most, without its line feed.
+pub const LONGEST_LINE: usize = 2_100_000;
 
 /// A line that counts, its number, and what follows it.
 #[derive(Clone, Copy)]
@@ -43,7 +43,7 @@ fn are_ascii(bytes: &[u8]) -> bool
 fn is_passed_over(line: &[u8]) -> bool
     ensures { result ≡ is_passed_over line.now }
 {
-    (line.is_empty() || line[0] == b'#') && are_ascii(line) && line.len() <= LONGEST_COMMENT
+    (line.is_empty() || line[0] == b'#') && are_ascii(line) && line.len() <= LONGEST_LINE
 }
 
 /// The first line that counts, where the first line has this number; or the number after the last line's.

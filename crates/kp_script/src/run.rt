@@ -43,7 +43,7 @@ fn transcript_of(alloc: Global, input: &[u8]) -> Result<Transcript, Refusal>
         index_interval: header.interval,
         max_batch: MAX_BATCH,
     };
-    let events = events_of(alloc, &limits, &script.lines, header.count)?;
+    let events = events_of(alloc, &script.lines, header.count)?;
     let Ok(trace) = run(alloc, header.count, &limits, &events) else {
         return Err(Refusal::Memory);
     };

@@ -32,7 +32,8 @@ pub struct Script<'a> {
 }
 
 /// The script that these bytes are. A refusal has the number of the first line that can't stand where it
-/// stands, or is one of memory.
+/// stands, or is one of memory. Takes time proportional to the bytes, and memory to the number of lines: the calls
+/// borrow their values and digits from the bytes.
 pub fn parse(alloc: Global, bytes: &[u8]) -> Result<Script<'_>, Refusal>
     ensures found { IfOk result (λ script. IsScript bytes.now (seen_script script)) }
     ensures fault { (line : ℕ) → result ≡ Err (BadScript line) → IsFaultAt bytes.now line }

@@ -1,6 +1,7 @@
 use super::*;
-use kp_types::Refusal;
-use std::alloc::Global;
+use crate::hex::bytes_of;
+use kp_types::{Counted, Refusal};
+use std::alloc::{AllocError, Global};
 use std::test::Fail;
 
 const LAWFUL: &str =
@@ -41,7 +42,7 @@ fn a_script_is_read(rt: HostRuntime) -> Result<(), Fail> {
                 call: Call::Append {
                     node: 0,
                     time: 1000,
-                    value: b"a",
+                    values: b"a",
                 },
             },
             Line {
@@ -134,10 +135,33 @@ fn faulty_lines(rt: HostRuntime) -> Result<(), Fail> {
         "append 0 4611686018427387904 -1 -1 -1 d a",
         "append 0 0 -1 -1 -1 d ",
         "append 0 0 -1 -1 -1 d",
-        "append 0 0 -1 -1 -1 d a,b",
+        "append 0 0 -1 -1 -1 d a,",
+        "append 0 0 -1 -1 -1 d ,a",
+        "append 0 0 -1 -1 -1 d ,",
+        "append 0 0 -1 -1 -1 d a,,b",
+        "append 0 0 -1 -1 -1 d a, b",
         "append 0 0 -1 -1 -1 d a b",
+        "append 0 0 -1 -1 -1 d a,b ",
+        "append 0 0 -1 -1 -1 d a\u{7f}",
         "append 0 0 -1 -1 0 d a",
-        "append 0 0 -1 -1 -1 d 0123456789012345678901234567890123456789012345678901234567",
+        "append 0 0 -1 -1 -1 t a",
+        "raw",
+        "raw 0",
+        "raw 0 ",
+        "raw 0 0",
+        "raw 0 012",
+        "raw 0 0A",
+        "raw 0 FF",
+        "raw 0 0g",
+        "raw 0 0x00",
+        "raw 0 /0",
+        "raw 0 :0",
+        "raw 0 `0",
+        "raw 0 00 ",
+        "raw 0 00 00",
+        "raw 0  00",
+        "raw 00 00",
+        "raw 1 00",
     ] {
         let text = format!(in rt.alloc(); "{LAWFUL}\n{bad}\nshow 0\n")?;
         assert_eq!(rt; fault_line(rt.alloc(), text.as_str()), 9, "in {bad:?}");
@@ -145,7 +169,11 @@ fn faulty_lines(rt: HostRuntime) -> Result<(), Fail> {
     for good in [
         "read 0 4611686018427387903",
         "append 0 4611686018427387903 -1 -1 -1 d !~",
-        "append 0 0 -1 -1 -1 d 012345678901234567890123456789012345678901234567890123456",
+        "append 0 0 -1 -1 -1 d 0123456789012345678901234567890123456789012345678901234567",
+        "append 0 0 -1 -1 -1 d a,b",
+        "append 0 0 -1 -1 -1 d a,a,!+-~,b",
+        "raw 0 00",
+        "raw 0 0123456789abcdef",
     ] {
         let text = format!(in rt.alloc(); "{LAWFUL}\n{good}\nshow 0\n")?;
         assert_eq!(rt;
@@ -154,5 +182,93 @@ fn faulty_lines(rt: HostRuntime) -> Result<(), Fail> {
             "in {good:?}"
         );
     }
+    Ok(())
+}
+
+/// A script of one append of a value of so many bytes.
+fn append_of_length(alloc: Global, length: usize) -> Result<String, AllocError> {
+    let mut text = String::from_str(
+        alloc,
+        "nodes 1 segment 1024 interval 0\nappend 0 0 -1 -1 -1 d ",
+    )?;
+    for _ in 0..length {
+        text.push('a')?;
+    }
+    Ok(text)
+}
+
+#[test]
+fn a_long_value(rt: HostRuntime) -> Result<(), Fail> {
+    // The words before the value have 22 bytes.
+    let longest = append_of_length(rt.alloc(), 2_099_978)?;
+    let script = parse(rt.alloc(), longest.as_bytes())?;
+    assert_eq!(rt; script.lines.len(), 1);
+    let longer = append_of_length(rt.alloc(), 2_099_979)?;
+    assert_eq!(rt; fault_line(rt.alloc(), longer.as_str()), 2);
+    Ok(())
+}
+
+#[test]
+fn values_and_raw_bytes_are_read(rt: HostRuntime) -> Result<(), Fail> {
+    let text = "nodes 1 segment 1024 interval 0\nappend 0 7 -1 -1 -1 d a,bc,!~\nraw 0 00ff1a\n";
+    let script = parse(rt.alloc(), text.as_bytes())?;
+    let want = [
+        Line {
+            number: 2,
+            call: Call::Append {
+                node: 0,
+                time: 7,
+                values: b"a,bc,!~",
+            },
+        },
+        Line {
+            number: 3,
+            call: Call::Raw {
+                node: 0,
+                digits: b"00ff1a",
+            },
+        },
+    ];
+    assert_eq!(rt; script.lines.as_slice(), want.as_slice());
+    Ok(())
+}
+
+#[test]
+fn digits_spell_bytes(rt: HostRuntime) -> Result<(), Fail> {
+    let bytes = bytes_of(rt.alloc(), b"0123456789abcdef09a0f9ff00")?;
+    assert_eq!(rt;
+        bytes.as_slice(),
+        [
+            0x01, 0x23, 0x45, 0x67, 0x89, 0xab, 0xcd, 0xef, 0x09, 0xa0, 0xf9, 0xff, 0x00
+        ]
+        .as_slice()
+    );
+    Ok(())
+}
+
+// The batch of one record, of the value `a` and the time 1000; its checksum is of another program.
+#[test]
+fn raw_bytes_are_handed_in(rt: HostRuntime) -> Result<(), Fail> {
+    let script = "nodes 1 segment 1024 interval 0
+elect 0
+adopt 0
+raw 0 000000000000000000000039ffffffff02ebf1884b00000000000000000000000003e800000000000003e8\
+ffffffffffffffffffffffffffff000000010e00000001026100
+raw 0 00
+raise 0
+read 0 0
+";
+    let trace = "2 record leader 0 epoch 0 isr 0 version 1
+3 leads epoch 0 from 0
+4 at 0
+5 F1 Truncated
+6 mark 1
+7 read 1 0=61
+";
+    let mut reader = Counted::new(script.as_bytes());
+    let mut writer = Counted::new(Vec::new(rt.alloc()));
+    let refused = run_script(rt.alloc(), &mut reader, &mut writer)?;
+    assert_eq!(rt; writer.inner.as_slice(), trace.as_bytes());
+    assert_eq!(rt; refused, 1);
     Ok(())
 }

@@ -7,7 +7,8 @@ ghost use Rattle.kp_replica.specs.Replies.{role_reply, receipt_reply};
 ghost use Rattle.kp_world.specs.Answers.{line_of, answer_reply, outcome_of};
 ghost use Rattle.kp_script.specs.Call.{node_of};
 ghost use Rattle.kp_script.specs.Seen.{seen_call};
-ghost use Rattle.kp_script.specs.Trace.{hex_text, leader_text, line_text, lines_text, nodes_text, record_text, reply_text, outcome_text, trace_text};
+ghost use Rattle.kp_script.specs.Hex.{hex_text};
+ghost use Rattle.kp_script.specs.Trace.{leader_text, line_text, lines_text, nodes_text, record_text, reply_text, outcome_text, trace_text};
 
 use crate::script::Line;
 use kp_replica::{Leader, NodeSet, Receipt, Record, Role};

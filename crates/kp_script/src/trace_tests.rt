@@ -41,7 +41,7 @@ fn a_trace(rt: HostRuntime) -> Result<(), Fail> {
             call: Call::Append {
                 node: 0,
                 time: 1000,
-                value: b"a",
+                values: b"a",
             },
         },
         Line {

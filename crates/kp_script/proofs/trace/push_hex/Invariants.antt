@@ -1,5 +1,5 @@
 use Rattle.std.proofs.Common.{◌≡◌, ◌++◌, take, string_bytes}
-use Rattle.kp_script.specs.Trace.{hex_text}
+use Rattle.kp_script.specs.Hex.{hex_text}
 use Rattle.kp_script.proofs.trace.push_hex.Given as goal
 
 abbrev pub invariant-loop-byte : goal.invariant-loop-byte
