@@ -1,0 +1,244 @@
+//! Times the proved reader beside the plain decoder, in turn, by the thread's processor time.
+//!
+//!     main                    the table
+//!     main only SIDE NUMBER   reads and walks one batch of the table, from 0; SIDE is rattle or rust
+//!     main rows FILE          compares the plain decoder with a file of table rows
+
+mod decoder;
+
+use decoder::{Batch, Fault};
+use std::hint::black_box;
+use std::sync::Arc;
+
+const MAX: u32 = 1_048_576;
+const BYTES: usize = 16 << 20;
+const ROUNDS: usize = 31;
+
+// The static library's; nothing compares these lines with its own.
+unsafe extern "C" {
+    fn kp_sum(bytes: *const u8, length: usize, rounds: u32) -> u64;
+    fn kp_read(bytes: *const u8, length: usize, rounds: u32) -> u64;
+    fn kp_walk(bytes: *const u8, length: usize, rounds: u32) -> u64;
+    fn clock_gettime(clock: i32, time: *mut [i64; 2]) -> i32;
+}
+
+type Job = (&'static str, fn(&[u8], u32) -> u64, fn(&[u8], u32) -> u64);
+
+const JOBS: [Job; 3] = [
+    (
+        "checksum",
+        |b, n| unsafe { kp_sum(b.as_ptr(), b.len(), n) },
+        sum,
+    ),
+    (
+        "read",
+        |b, n| unsafe { kp_read(b.as_ptr(), b.len(), n) },
+        read,
+    ),
+    (
+        "read and walk",
+        |b, n| unsafe { kp_walk(b.as_ptr(), b.len(), n) },
+        walk,
+    ),
+];
+
+fn sum(bytes: &[u8], rounds: u32) -> u64 {
+    (0..rounds).fold(0, |sum, _| {
+        sum + u64::from(decoder::crc32c(black_box(bytes)))
+    })
+}
+
+// 0 where a batch is refused.
+fn read(bytes: &[u8], rounds: u32) -> u64 {
+    let bytes: Arc<[u8]> = bytes.into();
+    let mut sum = 0u64;
+    for _ in 0..rounds {
+        let Ok(batch) = Batch::read(black_box(&bytes).clone(), MAX) else {
+            return 0;
+        };
+        sum = sum.wrapping_add(1 + batch.base);
+    }
+    sum
+}
+
+fn walk(bytes: &[u8], rounds: u32) -> u64 {
+    let bytes: Arc<[u8]> = bytes.into();
+    let mut sum = 0u64;
+    for _ in 0..rounds {
+        let Ok(batch) = Batch::read(black_box(&bytes).clone(), MAX) else {
+            return 0;
+        };
+        for record in batch.records() {
+            let [key, value] = [record.key, record.value].map(|it| it.map_or(0, |it| it.len()));
+            sum = sum
+                .wrapping_add(record.timestamp)
+                .wrapping_add((key + value) as u64);
+        }
+    }
+    sum
+}
+
+// Seconds of processor time that this thread has had.
+fn now() -> f64 {
+    let mut time = [0; 2];
+    assert_eq!(unsafe { clock_gettime(3, &mut time) }, 0);
+    time[0] as f64 + time[1] as f64 / 1e9
+}
+
+fn varint(out: &mut Vec<u8>, number: i64) {
+    let mut rest = (number << 1 ^ number >> 63) as u64;
+    while rest > 0x7f {
+        out.push(rest as u8 | 0x80);
+        rest >>= 7;
+    }
+    out.push(rest as u8);
+}
+
+fn text(out: &mut Vec<u8>, bytes: &[u8]) {
+    varint(out, bytes.len() as i64);
+    out.extend(bytes);
+}
+
+// Null keys, values of this size and up to 20 more, times this far apart.
+fn batch(count: usize, size: usize, apart: i64, with_headers: bool) -> Vec<u8> {
+    let first = 1_700_000_000_000i64;
+    let mut records = Vec::new();
+    for i in 0..count {
+        let mut inner = vec![0];
+        varint(&mut inner, i as i64 * apart);
+        varint(&mut inner, i as i64);
+        varint(&mut inner, -1);
+        text(&mut inner, &vec![b'v'; size + i % 21]);
+        varint(&mut inner, i64::from(with_headers));
+        if with_headers {
+            text(&mut inner, b"trace");
+            text(&mut inner, b"0123456789abcdef");
+        }
+        text(&mut records, &inner);
+    }
+    let mut covered = vec![0, 0];
+    covered.extend((count as i32 - 1).to_be_bytes());
+    covered.extend(first.to_be_bytes());
+    covered.extend((first + (count as i64 - 1) * apart).to_be_bytes());
+    covered.extend([0xff; 14]);
+    covered.extend((count as i32).to_be_bytes());
+    covered.extend(records);
+    let mut out = 0i64.to_be_bytes().to_vec();
+    out.extend((covered.len() as i32 + 9).to_be_bytes());
+    out.extend([0xff, 0xff, 0xff, 0xff, 2]);
+    out.extend(decoder::crc32c(&covered).to_be_bytes());
+    out.extend(covered);
+    out
+}
+
+fn batches() -> [(&'static str, Vec<u8>); 6] {
+    [
+        ("1 record of 50 bytes", batch(1, 50, 0, false)),
+        ("1 record of 100 bytes", batch(1, 100, 0, false)),
+        (
+            "1,000 records of 90 to 110 bytes",
+            batch(1000, 90, 3, false),
+        ),
+        ("as the third, each with a header", batch(1000, 90, 3, true)),
+        (
+            "as the third, times far apart",
+            batch(1000, 90, 100_000, false),
+        ),
+        ("1,000 records of 0 to 20 bytes", batch(1000, 0, 3, false)),
+    ]
+}
+
+// The rounds go over all cases in turn, so that each has its share of the machine's quiet moments.
+fn table() {
+    let batches = batches();
+    let mut cases = Vec::new();
+    for (name, bytes) in &batches {
+        for (job, rattle, rust) in JOBS {
+            let expected = rust(bytes, 1);
+            assert!(expected != 0, "{name}: refused by the plain decoder");
+            let found = rattle(bytes, 1);
+            assert!(
+                found == 0 || found == expected,
+                "{name}, {job}: {found}, {expected}"
+            );
+            cases.push((name, job, bytes, [rattle, rust], found != 0, [f64::MAX; 2]));
+        }
+    }
+    for _ in 0..ROUNDS {
+        for (_, _, bytes, calls, _, least) in &mut cases {
+            let rounds = (BYTES / bytes.len()) as u32;
+            for (call, least) in calls.iter().zip(least) {
+                let began = now();
+                black_box(call(black_box(bytes), rounds));
+                *least = least.min((now() - began) / f64::from(rounds));
+            }
+        }
+    }
+    println!("| Batch | Job | Rattle MB/s | Rust MB/s | Rattle / Rust (time) |");
+    println!("|---|---|---|---|---|");
+    for (name, job, bytes, _, is_read, least) in cases {
+        let [rattle, rust] = least.map(|it| bytes.len() as f64 / it / 1e6);
+        if is_read {
+            let ratio = least[0] / least[1];
+            println!("| {name} | {job} | {rattle:.0} | {rust:.0} | {ratio:.2} |");
+        } else {
+            println!("| {name} | {job} | refused | {rust:.0} | |");
+        }
+    }
+}
+
+fn outcome(bytes: &[u8]) -> String {
+    let number = match Batch::read(bytes.into(), MAX) {
+        Ok(_) => return "read".to_string(),
+        Err(Fault::BadRecord(place)) => return format!("F8 BadRecord {place}"),
+        Err(Fault::Truncated) => 1,
+        Err(Fault::BadMagic) => 2,
+        Err(Fault::BadLength) => 3,
+        Err(Fault::BadCrc) => 4,
+        Err(Fault::Compressed) => 5,
+        Err(Fault::BadAttributes) => 6,
+        Err(Fault::BadCount) => 7,
+        Err(Fault::TooLarge) => 9,
+        Err(Fault::BadProducerFields) => 10,
+    };
+    format!(
+        "F{number} {:?}",
+        Batch::read(bytes.into(), MAX).err().unwrap()
+    )
+}
+
+fn rows(file: &str) {
+    let (mut count, mut wrong) = (0, 0);
+    for line in std::fs::read_to_string(file).expect("the file").lines() {
+        let parts: Vec<&str> = line.split(" | ").collect();
+        let [name, expected, digits] = parts[..] else {
+            continue;
+        };
+        let bytes: Vec<u8> = (0..digits.len() / 2)
+            .map(|i| u8::from_str_radix(&digits[2 * i..2 * i + 2], 16).expect("a digit"))
+            .collect();
+        count += 1;
+        let found = outcome(&bytes);
+        if found != expected {
+            wrong += 1;
+            println!("{name}: {found}, but {expected} is expected");
+        }
+    }
+    println!("{count} rows, {wrong} differ");
+    assert!(count > 0 && wrong == 0);
+}
+
+fn main() {
+    let words: Vec<String> = std::env::args().skip(1).collect();
+    match words.iter().map(String::as_str).collect::<Vec<_>>()[..] {
+        ["rows", file] => rows(file),
+        ["only", side, number] => {
+            let number: usize = number.parse().expect("a number");
+            let (_, bytes) = &batches()[number];
+            let (_, rattle, rust) = JOBS[2];
+            let call = if side == "rattle" { rattle } else { rust };
+            println!("{}", call(bytes, (20 * BYTES / bytes.len()) as u32));
+        }
+        _ => table(),
+    }
+}
