@@ -11,7 +11,7 @@ member_of r =
       max_batch = r.limits.max_batch;
       state =
           record {
-            log = r.log;
+            log = r.log.log;
             watermark = r.watermark;
             checkpoint = r.checkpoint;
             life = r.life;
@@ -22,5 +22,5 @@ member_of r =
 -- the undo entries are those of the log's last batches
 pub record IsKept (r : Inside) : Type 0 where
   pub entries : AreEntriesOf r.log r.entries
-  pub epochs : HasEpochs r.log (mode_of r.mode)
-  pub plain : ArePlain r.log
+  pub epochs : HasEpochs r.log.log (mode_of r.mode)
+  pub plain : ArePlain r.log.log

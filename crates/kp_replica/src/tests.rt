@@ -107,6 +107,27 @@ fn leads_by_a_record_that_is_news(rt: HostRuntime) -> Result<(), Fail> {
 }
 
 #[test]
+fn cuts_its_log_by_its_limits(rt: HostRuntime) -> Result<(), Fail> {
+    // a batch of the record `a` has 69 bytes
+    let limits = Limits {
+        segment_bytes: 137,
+        index_interval: 0,
+        max_batch: 1_048_576,
+    };
+    let mut node = Replica::new(rt.alloc(), 0, &limits);
+    assert_eq!(rt;
+        node.adopt(&elected(1)?),
+        Ok(Role::Leads { epoch: 0, start: 0 })
+    );
+    for base in 0..2 {
+        assert_eq!(rt; node.produce(batch(rt.alloc())?)?.base, base);
+    }
+    assert_eq!(rt; node.log().tables().limits(), &limits);
+    assert_eq!(rt; node.log().tables().runs().len(), 2);
+    Ok(())
+}
+
+#[test]
 fn appends_and_raises(rt: HostRuntime) -> Result<(), Fail> {
     let mut node = Replica::new(rt.alloc(), 0, &LIMITS);
     assert_eq!(rt;

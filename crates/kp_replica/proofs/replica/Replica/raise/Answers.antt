@@ -1,6 +1,7 @@
 use Rattle.std.proofs.Common.{ℕ, List, refl, ap, subst, sym, ◌∙◌}
 use Rattle.kp_types.specs.declared.refusal.Refusal.TheVariants as refusals
 use Rattle.kp_model.specs.Log.{Batch}
+use Rattle.kp_segment.specs.Segmented.{Segmented}
 use Rattle.std.specs.Prelude.{max}
 use Rattle.kp_model.specs.Event.{Raise, Refused, MarkAt}
 use Rattle.kp_replica.specs.Member.{Member, Does}
@@ -27,6 +28,6 @@ returns c =
     c.raised-watermark.ensures.among in
     let P : Member → List Batch → Type 0 =
     λ x log. Does x (record m { state = record m.state { log = log; watermark = mark } }) Raise (MarkAt mark) in
-    subst (λ (x : Member). P x c.settle.new.log) c.self.view_is
-    (subst (λ (log : List Batch). P m log) (sym c.settle.ensures.same_log)
+    subst (λ (x : Member). P x c.settle.new.log.log) c.self.view_is
+    (subst (λ (log : List Batch). P m log) (ap (λ (s : Segmented). s.log) (sym c.settle.ensures.same_log))
     (λ r. (raises r m.number m.state l mark (ap mode_of c.in-Leads.is) is, (refl, refl))))

@@ -1,4 +1,9 @@
-use Rattle.std.proofs.Common.{arith, sym}
+use Rattle.std.proofs.Common.{◌≡◌, ℕ, ◌+◌, ◌<◌, List, [], ◌∷◌, ◌++◌, length, get_or, arith, sym, ap, ◌∙◌, subst, inl, inr}
+use Rattle.std.proofs.lemmas.Bool.{cases_lt}
+use Rattle.std.proofs.lemmas.List.{length_push, get_or_append_left, get_or_push}
+use Rattle.kp_model.specs.World.{fresh}
+use Rattle.kp_replica.specs.Member.{Member}
+use Rattle.kp_world.specs.Shown.{IsNode}
 use Rattle.kp_world.proofs.world.World.start.Goals as goal
 
 pub returns-clause-shown : goal.returns-clause-shown
@@ -7,3 +12,31 @@ returns-clause-shown c = record {
   count = omega arith;
   nodes = λ n d h. c.loop-number.invariant.nodes n d (omega (arith, c.loop-number.invariant.count));
 }
+
+-- one node more, of the next number
+node_more : (max number : ℕ) (members : List Member) (new : Member) → length members ≡ number → new ≡ record { number = number; max_batch = max; state = fresh }
+    → ((n : ℕ) (d : Member) → n < number → IsNode max n (get_or members n d) fresh) → (n : ℕ) (d : Member) → n < number + 1 → IsNode max n (get_or (members ++ new ∷ []) n d) fresh
+node_more max number members new count is nodes n d below =
+    elim (cases_lt n number) [
+      | inl before ↦
+          let same = get_or_append_left members (new ∷ []) d n (omega (arith, count, before)) in
+          subst (λ (m : Member). IsNode max n m fresh) (sym same) (nodes n d before)
+      | inr behind ↦
+          let at : n ≡ number = omega (arith, behind, below) in
+          let last = get_or_push members new d n (count ∙ sym at) ∙ is in
+          record {
+            number_is = ap (λ (m : Member). m.number) last ∙ sym at;
+            limit = ap (λ (m : Member). m.max_batch) last;
+            state = sym (ap (λ (m : Member). m.state) last);
+          }
+    ]
+
+pub loop-number-preserved : goal.loop-number-preserved
+loop-number-preserved c =
+    let members = c.loop-number.replicas.items in
+    record {
+      count = ap length c.in_ok-push.ensures.items ∙ length_push members c.new.result ∙ ap (λ (k : ℕ). k + 1) c.loop-number.invariant.count;
+      nodes = λ n d below.
+          subst (λ (l : List Member). IsNode c.args.limits.now.max_batch n (get_or l n d) fresh) (sym c.in_ok-push.ensures.items)
+          (node_more c.args.limits.now.max_batch c.loop-number.number members c.new.result c.loop-number.invariant.count c.new.ensures c.loop-number.invariant.nodes n d below);
+    }
