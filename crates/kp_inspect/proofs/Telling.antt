@@ -1,0 +1,65 @@
+-- A text of a log's batches that grows line by line.
+use Rattle.std.proofs.Common.{◌≡◌, ℕ, ◌+◌, ◌≤◌, ◌^◌, List, [], ◌∷◌, ◌++◌, map, refl, sym, ap, ◌∙◌, arith, append_assoc, append-nil, add-zero, subst, codes}
+use Rattle.std.specs.List.{AllByRecursion, flat_map}
+use Rattle.std.specs.Fmt.{decimal}
+use Rattle.std.proofs.lemmas.List.Sums.{sum_by-cons}
+use Rattle.kp_batch.specs.Batch.{Written, size_of}
+use Rattle.kp_model.specs.Log.{logged, size, bytes, next_offset, end_of}
+use Rattle.kp_segment.specs.Segmented.{Segmented}
+use Rattle.kp_segment.specs.Shown.{Shown, AreRunsOf, run_shows, segment_shows}
+use Rattle.kp_segment.specs.declared.run.Run.{Run}
+use Rattle.kp_inspect.specs.Dump.{line, batch_line, batch_lines, segment_lines}
+use Rattle.kp_inspect.specs.Texts.{shown_lines, TellsTables}
+
+abbrev pub IsPlaced : Written → Type 0
+IsPlaced w = next_offset (logged w) ≤ 2 ^ 62
+
+-- the batches that are still to come begin at this byte
+pub record Told (before now : List ℕ) (all : List Written) (position : ℕ) (rest : List Written) : Type 0 where
+  pub text : now ++ batch_lines position (map logged rest) ≡ before ++ batch_lines 0 (map logged all)
+  pub size : position + bytes (map logged rest) ≡ bytes (map logged all)
+  pub placed : AllByRecursion IsPlaced rest
+
+-- one batch more
+pub Told-more : (before now after : List ℕ) (all : List Written) (position : ℕ) (rest others : List Written) (w : Written)
+    → Told before now all position rest → rest ≡ w ∷ others → after ≡ now ++ batch_line position (logged w)
+    → Told before after all (position + size_of w.body) others
+Told-more before now after all position rest others w told is grown =
+    let told : Told before now all position (w ∷ others) = rw is at told in
+    let one : bytes (map logged (w ∷ others)) ≡ size_of w.body + bytes (map logged others) = sum_by-cons size (logged w) (map logged others) in
+    record {
+      text =
+          ap (λ (t : List ℕ). t ++ batch_lines (position + size_of w.body) (map logged others)) grown
+          ∙ append_assoc now (batch_line position (logged w)) (batch_lines (position + size_of w.body) (map logged others)) ∙ told.text;
+      size = omega (arith, told.size, one);
+      placed = told.placed.1;
+    }
+
+-- none is left
+pub Told-all : (before now : List ℕ) (all : List Written) (position : ℕ) (rest : List Written) → Told before now all position rest → rest ≡ []
+    → (now ≡ before ++ batch_lines 0 (map logged all)) × (position ≡ bytes (map logged all))
+Told-all before now all position rest told is =
+    let told : Told before now all position [] = rw is at told in
+    (sym (append-nil now) ∙ told.text, sym (add-zero position) ∙ told.size)
+
+-- ---- the tables
+
+flat_map_over : {A B : Type 0} (g : A → B) (f : B → List ℕ) (xs : List A) → flat_map f (map g xs) ≡ flat_map (λ x. f (g x)) xs
+flat_map_over g f [] = refl
+flat_map_over g f (x ∷ xs) = ap (λ (rest : List ℕ). f (g x) ++ rest) (flat_map_over g f xs)
+
+pub tables_told : (s t : Segmented) (runs : List Run) (before between after : List ℕ) (end : ℕ) → t ≡ s → AreRunsOf t.limits t.log runs
+    → between ≡ before ++ flat_map shown_lines (map run_shows runs) → after ≡ between ++ line (codes "end" ∷ decimal end ∷ []) → end ≡ end_of s.log
+    → TellsTables s before after
+tables_told s t runs before between after end same are grown more ends =
+    let are : AreRunsOf s.limits s.log runs = subst (λ (x : Segmented). AreRunsOf x.limits x.log runs) same are in
+    let shown : flat_map shown_lines (map run_shows runs) ≡ flat_map segment_lines are.segments =
+    ap (λ (l : List Shown). flat_map shown_lines l) are.shown ∙ flat_map_over segment_shows shown_lines are.segments in
+    record {
+      segments = are.segments;
+      tables = are.lawful;
+      grown =
+          more ∙ ap (λ (t : List ℕ). t ++ line (codes "end" ∷ decimal end ∷ [])) (grown ∙ ap (λ (t : List ℕ). before ++ t) shown)
+          ∙ ap (λ (n : ℕ). (before ++ flat_map segment_lines are.segments) ++ line (codes "end" ∷ decimal n ∷ [])) ends
+          ∙ append_assoc before (flat_map segment_lines are.segments) (line (codes "end" ∷ decimal (end_of s.log) ∷ []));
+    }

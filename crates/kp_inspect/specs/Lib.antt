@@ -1,0 +1,5 @@
+pub mod Dump
+pub mod Texts
+pub mod Scanned
+pub mod Inspected
+pub mod Laws

@@ -1,0 +1,28 @@
+//! Bytes looked into: each batch of a log, the first fault, and the tables that a broker builds of them.
+//! It stands on kp_batch, kp_marker and kp_log, and on the counted devices of kp_types.
+//! Its contract says that what is written is the dump of the bytes that were read, and names the fault.
+#![tactic(auto)]
+
+mod inspecting;
+mod scan;
+mod text;
+
+ghost use Rattle.kp_inspect.specs.Laws.{DumpsAreOne};
+
+pub use inspecting::inspect;
+
+/// The bytes have one dump: what `inspect` writes and answers is determined by them and the limits. It costs
+/// nothing.
+pub fn dumps_are_one()
+    ensures { DumpsAreOne }
+{
+    kp_batch::batches_stand_apart();
+    kp_batch::bytes_are_judged_once();
+    kp_batch::batches_are_framed();
+    kp_model::segments_are_one();
+}
+
+#[cfg(test)]
+mod dump_tests;
+#[cfg(test)]
+mod tests;
