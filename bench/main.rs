@@ -5,8 +5,10 @@
 //!     main rows FILE          compares the plain decoder with a file of table rows
 
 mod decoder;
+mod encoder;
 
 use decoder::{Batch, Fault};
+use encoder::{FIRST, batch};
 use std::hint::black_box;
 use std::sync::Arc;
 
@@ -85,66 +87,26 @@ fn now() -> f64 {
     time[0] as f64 + time[1] as f64 / 1e9
 }
 
-fn varint(out: &mut Vec<u8>, number: i64) {
-    let mut rest = (number << 1 ^ number >> 63) as u64;
-    while rest > 0x7f {
-        out.push(rest as u8 | 0x80);
-        rest >>= 7;
-    }
-    out.push(rest as u8);
-}
-
-fn text(out: &mut Vec<u8>, bytes: &[u8]) {
-    varint(out, bytes.len() as i64);
-    out.extend(bytes);
-}
-
-// Null keys, values of this size and up to 20 more, times this far apart.
-fn batch(count: usize, size: usize, apart: i64, with_headers: bool) -> Vec<u8> {
-    let first = 1_700_000_000_000i64;
-    let mut records = Vec::new();
-    for i in 0..count {
-        let mut inner = vec![0];
-        varint(&mut inner, i as i64 * apart);
-        varint(&mut inner, i as i64);
-        varint(&mut inner, -1);
-        text(&mut inner, &vec![b'v'; size + i % 21]);
-        varint(&mut inner, i64::from(with_headers));
-        if with_headers {
-            text(&mut inner, b"trace");
-            text(&mut inner, b"0123456789abcdef");
-        }
-        text(&mut records, &inner);
-    }
-    let mut covered = vec![0, 0];
-    covered.extend((count as i32 - 1).to_be_bytes());
-    covered.extend(first.to_be_bytes());
-    covered.extend((first + (count as i64 - 1) * apart).to_be_bytes());
-    covered.extend([0xff; 14]);
-    covered.extend((count as i32).to_be_bytes());
-    covered.extend(records);
-    let mut out = 0i64.to_be_bytes().to_vec();
-    out.extend((covered.len() as i32 + 9).to_be_bytes());
-    out.extend([0xff, 0xff, 0xff, 0xff, 2]);
-    out.extend(decoder::crc32c(&covered).to_be_bytes());
-    out.extend(covered);
-    out
-}
-
 fn batches() -> [(&'static str, Vec<u8>); 6] {
     [
-        ("1 record of 50 bytes", batch(1, 50, 0, false)),
-        ("1 record of 100 bytes", batch(1, 100, 0, false)),
+        ("1 record of 50 bytes", batch(FIRST, 1, 50, 0, false)),
+        ("1 record of 100 bytes", batch(FIRST, 1, 100, 0, false)),
         (
             "1,000 records of 90 to 110 bytes",
-            batch(1000, 90, 3, false),
+            batch(FIRST, 1000, 90, 3, false),
         ),
-        ("as the third, each with a header", batch(1000, 90, 3, true)),
+        (
+            "as the third, each with a header",
+            batch(FIRST, 1000, 90, 3, true),
+        ),
         (
             "as the third, times far apart",
-            batch(1000, 90, 100_000, false),
+            batch(FIRST, 1000, 90, 100_000, false),
         ),
-        ("1,000 records of 0 to 20 bytes", batch(1000, 0, 3, false)),
+        (
+            "1,000 records of 0 to 20 bytes",
+            batch(FIRST, 1000, 0, 3, false),
+        ),
     ]
 }
 

@@ -1,3 +1,5 @@
 pub mod Aside
 pub mod Filled
+pub mod Suits
 pub mod Taken
+pub mod Ending

@@ -1,6 +1,6 @@
 -- Where nothing refuses the words, they name a call.
-use Rattle.std.proofs.Common.{◌≡◌, ◌∙◌, ◌||◌, Bool, cond, true, false, not, refl, sym, subst, List, [], ◌∷◌, Option, Some, None, codes, true≢false}
-use Rattle.std.specs.List.{find, slice_index_or}
+use Rattle.std.proofs.Common.{◌≡◌, ◌∙◌, ◌||◌, ℕ, Bool, cond, true, false, not, refl, sym, List, [], ◌∷◌, length, Option, Some, None, IsSomeAnd, codes, inl, inr, true≢false}
+use Rattle.std.specs.List.{find, fold, slice_index_or}
 use Rattle.std.specs.Option.{is_some, option_map, option_map_or}
 use Rattle.std.specs.Prelude.{option_and_then, slice_get}
 use Rattle.std.specs.Str.{bytes_eq}
@@ -8,20 +8,47 @@ use Rattle.std.proofs.lemmas.Bool.Decides.{Decides-like, same_from_decides}
 use Rattle.std.proofs.lemmas.Slice.Eq.{bytes_eq-Decides}
 use Rattle.clap.specs.Facts.{explicit_source}
 use Rattle.clap.specs.Takes.{is_given}
-use Rattle.clap.specs.Kinds.{check_kinds}
+use Rattle.clap.specs.Kinds.{check_kinds, or_else, range_kinds}
 use Rattle.clap.specs.Simple.{Shape, argument_words, built, entered, is_simple, names_of, rows_at, subcommand_of}
-use Rattle.clap.specs.Faults.{check_fault, defaults_fault, entered_fault, fault_of, is_simple_and_free, level_fault, settle_fault, walk_fault}
-use Rattle.clap.specs.Walk.{Held, Names, Row, Rule, Text, Walk, finished, first_of, nothing_held, reading_by, rows_after, settled, walk, walk_from, without}
-use Rattle.clap.specs.declared.parser.matches.ValueSource.TheVariants.{CommandLine}
-use Rattle.kp_cli.specs.Line.{NamesCall, file_rule, kpart}
+use Rattle.clap.specs.Faults.{check_fault, defaults_fault, entered_fault, fault_of, is_simple_and_free, level_fault, repeat_fault, set_fault, settle_fault, values_fault, walk_fault}
+use Rattle.clap.specs.ValueTests.{accepts}
+use Rattle.clap.specs.Values.{IsUnsignedIn}
+use Rattle.clap.specs.Walk.{Names, Row, Rule, Text, Walk, finished, has_row, nothing_held, reading_by, rows_after, settled, values_or_missing, walk, walk_from, with_default, with_values, without}
+use Rattle.clap.specs.declared.builder.value_parser.ValueParser.TheVariants.{Unsigned}
+use Rattle.clap.specs.declared.parser.matches.ValueSource.TheVariants.{CommandLine, DefaultValue}
+use Rattle.clap.proofs.ValueTestLemmas.{accepts-Accepts}
+use Rattle.kp_cli.specs.Line.{HasFile, HasNumber, NamesCall, file_rule, kpart}
 use Rattle.kp_cli.proofs.Aside.{StopsAside, walk_aside}
-use Rattle.kp_cli.proofs.Filled.{EachFills, Filled, FillsItself, HasOne, defaults_filled, first_empty, found_filled, next_empty, refuses, settled_filled, walk_filled, with_values_filled, without_filled}
+use Rattle.kp_cli.proofs.Filled.{EachRule, Filled, FillsByDefault, FillsItself, first_empty, found_filled, level_checked, level_filled, next_empty, refuses}
+use Rattle.kp_cli.proofs.Suits.{HasOne, Suits, given_suits, row_by_default, row_stays, text_there, used_suits, values_passed}
 
 pub kpart_is_simple : is_simple kpart ≡ true
 kpart_is_simple = refl
 
 pub kpart_is_free : is_simple_and_free kpart ≡ true
 kpart_is_free = refl
+
+-- ---- a file that is required
+
+given : (rows : List Row) → check_kinds false false (not (is_given (codes "FILE") rows) || false) ≡ [] → is_given (codes "FILE") rows ≡ true
+given rows e = go (is_given (codes "FILE") rows) e
+  where
+    go : (b : Bool) → check_kinds false false (not b || false) ≡ [] → b ≡ true
+    go true h = refl
+    go false h = refuses _ _ _ h
+
+first_there : (values : List Text) → HasOne values → is_some (slice_get values 0) ≡ true
+first_there [] one = absurd one
+first_there (v ∷ vs) one = refl
+
+has_value : (a : Rule) (rows : List Row) → Filled (Suits a) rows → is_given (codes "FILE") rows ≡ true → HasFile rows
+has_value a rows filled e = go (find (λ r. bytes_eq r.id (codes "FILE")) rows) refl e
+  where
+    go : (o : Option Row) → find (λ r. bytes_eq r.id (codes "FILE")) rows ≡ o
+        → option_map_or (λ r. explicit_source r.source) o false ≡ true
+        → is_some (option_and_then (λ r. slice_get r.values 0) o) ≡ true
+    go None is h = h
+    go (Some r) is h = first_there r.values (found_filled (Suits a) _ rows r filled is).0.0
 
 -- ---- `run FILE`
 
@@ -34,56 +61,107 @@ file = slice_index_or run_shape.rules 0 file_rule
 abbrev help : Rule
 help = slice_index_or run_shape.rules 1 file_rule
 
-file_fills : FillsItself false file
-file_fills [] rows e filled = refuses _ _ _ e
-file_fills (v ∷ vs) rows e filled =
-    with_values_filled file.id (reading_by file) CommandLine (v ∷ vs) (without file.id rows) tt (without_filled file.id rows filled)
+-- a use that takes one value, by a rule that is a where it has the id of a
+takes_one : (a b : Rule) → (bytes_eq b.id a.id ≡ true → b ≡ a) → (values : List Text) (rows : List Row)
+    → or_else (range_kinds 1 1 (length values)) (set_fault false b (values_or_missing b values) rows) ≡ [] → Filled (Suits a) rows
+    → Filled (Suits a) (with_values b.id (reading_by b) CommandLine (values_or_missing b values) (without b.id rows))
+takes_one a b one [] rows e filled = refuses _ _ _ e
+takes_one a b one (v ∷ vs) rows e filled =
+    used_suits a b one v vs rows
+    (next_empty (repeat_fault false b.id rows) _ (next_empty (range_kinds 1 1 (length (v ∷ vs))) _ e)) filled
 
-help_fills : FillsItself false help
-help_fills values rows e filled = filled
+run_uses : EachRule (FillsItself (Suits file) false) run_shape.rules
+run_uses = (takes_one file file (λ e. refl), ((λ values rows e filled. filled), tt))
 
-of_two : (P : Rule → Type 0) (x y : Rule) → P x → P y → (p : Rule → Bool) (a : Rule) → find p (x ∷ y ∷ []) ≡ Some a → P a
-of_two P x y px py p a e = go (p x) (p y) e
-  where
-    go : (b d : Bool) → cond b (Some x) (cond d (Some y) None) ≡ Some a → P a
-    go true d h = let same : x ≡ a = cc in subst P same px
-    go false true h = let same : y ≡ a = cc in subst P same py
-    go false false h = absurd cc
+run_defaults : EachRule (FillsByDefault (Suits file)) run_shape.rules
+run_defaults = ((λ rows filled. filled), ((λ rows filled. filled), tt))
 
-run_fills : EachFills run_shape.args_override_self run_shape.rules
-run_fills = of_two (FillsItself false) file help file_fills help_fills
-
-given : (rows : List Row) → check_fault run_shape rows false ≡ [] → is_given (codes "FILE") rows ≡ true
-given rows e = go (is_given (codes "FILE") rows) e
-  where
-    go : (b : Bool) → check_kinds false false (not b || false) ≡ [] → b ≡ true
-    go true h = refl
-    go false h = refuses _ _ _ h
-
-first_there : (values : List Text) → HasOne values → is_some (slice_get values 0) ≡ true
-first_there [] one = absurd one
-first_there (v ∷ vs) one = refl
-
-has_value : (rows : List Row) → Filled rows → is_given (codes "FILE") rows ≡ true → is_some (first_of (codes "FILE") rows) ≡ true
-has_value rows filled e = go (find (λ r. bytes_eq r.id (codes "FILE")) rows) refl e
-  where
-    go : (o : Option Row) → find (λ r. bytes_eq r.id (codes "FILE")) rows ≡ o
-        → option_map_or (λ r. explicit_source r.source) o false ≡ true
-        → is_some (option_and_then (λ r. slice_get r.values 0) o) ≡ true
-    go None is h = h
-    go (Some r) is h = first_there r.values (found_filled _ rows r filled is)
-
-run_has_file : (words : List Text) → level_fault run_shape [] nothing_held words false [] ≡ []
-    → is_some (first_of (codes "FILE") (rows_after run_shape.rules [] words)) ≡ true
+run_has_file : (words : List Text) → level_fault run_shape [] nothing_held words false [] ≡ [] → HasFile (rows_after run_shape.rules [] words)
 run_has_file words e =
-    let end : Held = (walk run_shape.rules [] nothing_held words).held in
-    let rest = next_empty (walk_fault run_shape [] (walk_from nothing_held) words) _ e in
-    let here : Filled end.rows = walk_filled run_shape run_fills [] words (walk_from nothing_held) (first_empty _ _ e) tt in
-    let there : Filled (settled run_shape.rules end).rows =
-    settled_filled run_shape.rules false run_fills end (first_empty _ _ rest) here in
-    let last = next_empty (defaults_fault (settled run_shape.rules end).rows run_shape.rules) _
-    (next_empty (settle_fault run_shape.rules false end) _ rest) in
-    has_value (finished run_shape.rules end) (defaults_filled run_shape.rules _ there) (given (finished run_shape.rules end) last)
+    has_value file _ (level_filled (Suits file) run_shape run_uses run_defaults words e)
+    (given (rows_after run_shape.rules [] words) (level_checked run_shape words e))
+
+-- ---- `inspect FILE`
+
+abbrev inspect_shape : Shape
+inspect_shape = slice_index_or (built kpart).subs 1 kpart.top
+
+abbrev segment : Rule
+segment = slice_index_or inspect_shape.rules 1 file_rule
+
+abbrev interval : Rule
+interval = slice_index_or inspect_shape.rules 2 file_rule
+
+segment_uses : EachRule (FillsItself (Suits segment) false) inspect_shape.rules
+segment_uses = (
+  takes_one segment file (λ e. absurd cc),
+  (takes_one segment segment (λ e. refl), (takes_one segment interval (λ e. absurd cc), ((λ values rows e filled. filled), tt))),
+)
+
+interval_uses : EachRule (FillsItself (Suits interval) false) inspect_shape.rules
+interval_uses = (
+  takes_one interval file (λ e. absurd cc),
+  (takes_one interval segment (λ e. absurd cc), (takes_one interval interval (λ e. refl), ((λ values rows e filled. filled), tt))),
+)
+
+by_default : (a b : Rule) → (bytes_eq b.id a.id ≡ true → b ≡ a) → (v : Text) → values_fault b (v ∷ []) ≡ [] → (rows : List Row)
+    → Filled (Suits a) rows → Filled (Suits a) (with_values b.id (reading_by b) DefaultValue (v ∷ []) rows)
+by_default a b one v e rows filled = given_suits a b one DefaultValue v [] rows (values_passed b (v ∷ []) e) filled
+
+segment_defaults : EachRule (FillsByDefault (Suits segment)) inspect_shape.rules
+segment_defaults = (
+  (λ rows filled. filled),
+  (
+    by_default segment segment (λ e. refl) (codes "1073741824") refl,
+    (by_default segment interval (λ e. absurd cc) (codes "4096") refl, ((λ rows filled. filled), tt)),
+  ),
+)
+
+interval_defaults : EachRule (FillsByDefault (Suits interval)) inspect_shape.rules
+interval_defaults = (
+  (λ rows filled. filled),
+  (
+    by_default interval segment (λ e. absurd cc) (codes "1073741824") refl,
+    (by_default interval interval (λ e. refl) (codes "4096") refl, ((λ rows filled. filled), tt)),
+  ),
+)
+
+has_segment : (rows : List Row) → has_row segment.id (fold with_default rows inspect_shape.rules) ≡ true
+has_segment rows =
+    let before = with_default rows file in
+    row_stays segment.id help (with_default (with_default before segment) interval)
+    (row_stays segment.id interval (with_default before segment) (row_by_default segment (codes "1073741824") [] before refl))
+
+has_interval : (rows : List Row) → has_row interval.id (fold with_default rows inspect_shape.rules) ≡ true
+has_interval rows =
+    let before = with_default (with_default rows file) segment in
+    row_stays interval.id help (with_default before interval) (row_by_default interval (codes "4096") [] before refl)
+
+inspect_has_file : (words : List Text) → level_fault inspect_shape [] nothing_held words false [] ≡ []
+    → HasFile (rows_after inspect_shape.rules [] words)
+inspect_has_file words e =
+    has_value segment _ (level_filled (Suits segment) inspect_shape segment_uses segment_defaults words e)
+    (given (rows_after inspect_shape.rules [] words) (level_checked inspect_shape words e))
+
+-- a text that passes the test of numbers is a number
+number_there : (o : Option Text) (least greatest : ℕ) → IsSomeAnd o (λ text. accepts false (Unsigned least greatest) text ≡ true)
+    → IsSomeAnd o (IsUnsignedIn least greatest)
+number_there None least greatest h = h
+number_there (Some text) least greatest h = accepts-Accepts false (Unsigned least greatest) text h
+
+inspect_has_segment : (words : List Text) → level_fault inspect_shape [] nothing_held words false [] ≡ []
+    → HasNumber (codes "segment") 1024 1073741824 (rows_after inspect_shape.rules [] words)
+inspect_has_segment words e =
+    number_there _ 1024 1073741824 (text_there segment refl (rows_after inspect_shape.rules [] words)
+    (level_filled (Suits segment) inspect_shape segment_uses segment_defaults words e)
+    (has_segment (settled inspect_shape.rules (walk inspect_shape.rules [] nothing_held words).held).rows))
+
+inspect_has_interval : (words : List Text) → level_fault inspect_shape [] nothing_held words false [] ≡ []
+    → HasNumber (codes "interval") 0 1048576 (rows_after inspect_shape.rules [] words)
+inspect_has_interval words e =
+    number_there _ 0 1048576 (text_there interval refl (rows_after inspect_shape.rules [] words)
+    (level_filled (Suits interval) inspect_shape interval_uses interval_defaults words e)
+    (has_interval (settled inspect_shape.rules (walk inspect_shape.rules [] nothing_held words).held).rows))
 
 -- ---- the whole command
 
@@ -92,25 +170,28 @@ is_used rows true e = refl
 is_used rows false e = refuses _ _ _ e
 
 abbrev help_shape : Shape
-help_shape = slice_index_or (built kpart).subs 1 kpart.top
+help_shape = slice_index_or (built kpart).subs 2 kpart.top
 
 swapped : (xs ys : Text) → bytes_eq xs ys ≡ bytes_eq ys xs
 swapped xs ys = same_from_decides _ _ (bytes_eq-Decides xs ys) (Decides-like _ sym sym (bytes_eq-Decides ys xs))
+
+-- the subcommand of which the tests say that it is `run`, `inspect` or `help`
+abbrev chosen : Bool → Bool → Bool → Option Shape
+chosen b d h = cond (b || false) (Some run_shape) (cond (d || false) (Some inspect_shape) (cond (h || false) (Some help_shape) None))
 
 answered : (stop : Option (Text × List Text)) → StopsAside stop → is_some (entered (built kpart) stop) ≡ true
     → entered_fault (built kpart) stop ≡ [] → NamesCall (entered (built kpart) stop)
 answered None aside has e = absurd (true≢false (sym has))
 answered (Some p) aside has e =
-    go (bytes_eq (codes "run") p.0) (bytes_eq (codes "help") p.0) (swapped (codes "help") p.0 ∙ aside) has e
+    go (bytes_eq (codes "run") p.0) (bytes_eq (codes "inspect") p.0) (bytes_eq (codes "help") p.0) (swapped (codes "help") p.0 ∙ aside) has e
   where
-    go : (b d : Bool) → d ≡ false
-        → is_some (option_map (λ s. rows_at s p.1) (cond (b || false) (Some run_shape) (cond (d || false) (Some help_shape) None))) ≡ true
-        → option_map_or (λ s. level_fault s [] nothing_held p.1 false [])
-        (cond (b || false) (Some run_shape) (cond (d || false) (Some help_shape) None)) [] ≡ []
-        → NamesCall (option_map (λ s. rows_at s p.1) (cond (b || false) (Some run_shape) (cond (d || false) (Some help_shape) None)))
-    go true d n h f = (refl, run_has_file p.1 f)
-    go false true n h f = absurd (true≢false n)
-    go false false n h f = absurd (true≢false (sym h))
+    go : (b d h : Bool) → h ≡ false → is_some (option_map (λ s. rows_at s p.1) (chosen b d h)) ≡ true
+        → option_map_or (λ s. level_fault s [] nothing_held p.1 false []) (chosen b d h) [] ≡ []
+        → NamesCall (option_map (λ s. rows_at s p.1) (chosen b d h))
+    go true d h n some f = inl (refl, run_has_file p.1 f)
+    go false true h n some f = inr (refl, inspect_has_file p.1 f, inspect_has_segment p.1 f, inspect_has_interval p.1 f)
+    go false false true n some f = absurd (true≢false n)
+    go false false false n some f = absurd (true≢false (sym some))
 
 pub taken : (words : List Text) → fault_of kpart words ≡ [] → NamesCall (subcommand_of kpart words)
 taken words e =

@@ -1,10 +1,12 @@
 -- The program's command line.
-use Rattle.std.specs.Prelude.{◌≡◌, List, Option, Some, None, codes, true, is_some, string_bytes}
-use Rattle.clap.specs.Words.{App, Row, Rule, Text, first_of, new_app, new_rule, with_rule, with_subcommand}
+use Rattle.std.specs.Prelude.{◌≡◌, ◌⊎◌, ℕ, List, [], ◌∷◌, Option, Some, None, IsSomeAnd, codes, true, is_some, string_bytes}
+use Rattle.std.specs.Str.Parse.{digits_value, without_leading_plus}
+use Rattle.clap.specs.Words.{App, IsUnsignedIn, Row, Rule, Text, first_of, new_app, new_rule, one_of, with_rule, with_subcommand}
+use Rattle.clap.specs.declared.builder.value_parser.ValueParser.TheVariants.{Unsigned}
 use Rattle.kp_cli.specs.declared.call.Call.{Call}
-use Rattle.kp_cli.specs.declared.call.Call.TheVariants.{Run}
+use Rattle.kp_cli.specs.declared.call.Call.TheVariants.{Inspect, Run}
 
--- the script's path, a required word
+-- the path of a file, a required word
 abbrev pub file_rule : Rule
 file_rule = record (new_rule (codes "FILE")) { required = true }
 
@@ -12,21 +14,64 @@ file_rule = record (new_rule (codes "FILE")) { required = true }
 abbrev pub run_app : App
 run_app = with_rule (new_app (codes "run")) file_rule
 
+-- `--NAME NUMBER`, a number from `least` to `greatest`, with the text that stands for it where it is left out
+abbrev pub number_rule : (name : Text) → (least greatest : ℕ) → (default : Text) → Rule
+number_rule name least greatest default = record (new_rule name) {
+  long = Some name;
+  value_names = 1;
+  parser = Some (Unsigned least greatest);
+  defaults = default ∷ [];
+}
+
+-- `--segment S`
+abbrev pub segment_rule : Rule
+segment_rule = number_rule (codes "segment") 1024 1073741824 (codes "1073741824")
+
+-- `--interval I`
+abbrev pub interval_rule : Rule
+interval_rule = number_rule (codes "interval") 0 1048576 (codes "4096")
+
+-- `inspect FILE [--segment S] [--interval I]`
+abbrev pub inspect_app : App
+inspect_app = with_rule (with_rule (with_rule (new_app (codes "inspect")) file_rule) segment_rule) interval_rule
+
 -- a subcommand has to be used
 abbrev pub requiring_subcommand : App → App
 requiring_subcommand a = record a { top = record a.top { subcommand_required = true } }
 
 -- the whole command line
 abbrev pub kpart : App
-kpart = with_subcommand (requiring_subcommand (new_app (codes "kpart"))) run_app.top
+kpart = with_subcommand
+    (with_subcommand (requiring_subcommand (new_app (codes "kpart"))) run_app.top)
+    inspect_app.top
+
+-- the text of this name is a decimal numeral from `least` to `greatest`
+abbrev pub HasNumber : (name : Text) → (least greatest : ℕ) → List Row → Type 0
+HasNumber name least greatest rows = IsSomeAnd (one_of name rows) (IsUnsignedIn least greatest)
+
+-- the text of this name is a decimal numeral from `least` to `greatest`, and its number is this
+abbrev pub HasTheNumber : (name : Text) → (least greatest : ℕ) → List Row → ℕ → Type 0
+HasTheNumber name least greatest rows number = IsSomeAnd (one_of name rows) (λ text.
+    IsUnsignedIn least greatest text × (digits_value 10 (without_leading_plus text) ≡ number))
 
 -- the call is the one that the used subcommand and its matches are
 abbrev pub IsCallOf : Option (Text × List Row) → Call → Type 0
 IsCallOf None call = ⊥
 IsCallOf (Some entered) (Run file) =
     (entered.0 ≡ codes "run") × (first_of (codes "FILE") entered.1 ≡ Some (string_bytes file))
+IsCallOf (Some entered) (Inspect file segment_bytes index_interval) =
+    (entered.0 ≡ codes "inspect") × (first_of (codes "FILE") entered.1 ≡ Some (string_bytes file))
+    × HasTheNumber (codes "segment") 1024 1073741824 entered.1 segment_bytes
+    × HasTheNumber (codes "interval") 0 1048576 entered.1 index_interval
+
+-- the matches have a file
+abbrev pub HasFile : List Row → Type 0
+HasFile rows = is_some (first_of (codes "FILE") rows) ≡ true
 
 -- the used subcommand and its matches are a call
 abbrev pub NamesCall : Option (Text × List Row) → Type 0
 NamesCall None = ⊥
-NamesCall (Some entered) = (entered.0 ≡ codes "run") × (is_some (first_of (codes "FILE") entered.1) ≡ true)
+NamesCall (Some entered) = ((entered.0 ≡ codes "run") × HasFile entered.1)
+    ⊎ ((entered.0 ≡ codes "inspect") × HasFile entered.1
+    × HasNumber (codes "segment") 1024 1073741824 entered.1
+    × HasNumber (codes "interval") 0 1048576 entered.1)

@@ -1,11 +1,16 @@
 -- What the program does once its command line is read.
-use Rattle.std.specs.Prelude.{◌++◌, ℕ, zero, suc, List, Option, Result, Ok, Err, IfSome, codes}
+use Rattle.std.specs.Prelude.{◌++◌, ℕ, zero, suc, List, Option, Some, None, Result, Ok, Err, IfSome, ◌≡◌, codes}
 use Rattle.std.specs.Io.KnownBytes.{Appends, Keeps}
 use Rattle.kp_types.specs.declared.refusal.Refusal.{Refusal}
 use Rattle.kp_types.specs.declared.refusal.Refusal.TheVariants as refusals
+use Rattle.kp_types.specs.declared.limits.Limits.{Limits}
+use Rattle.kp_types.specs.declared.limits.TheConstants.{MAX_BATCH}
 use Rattle.kp_types.specs.Texts.{refusal_text}
 use Rattle.kp_script.specs.Script.{IsFaultAt}
 use Rattle.kp_script.specs.Transcript.{Writes, WritesFront}
+use Rattle.kp_inspect.specs.Inspected.{Writes as WritesDump, WritesFront as WritesDumpFront}
+use Rattle.kp_cli.specs.declared.call.Call.{Call}
+use Rattle.kp_cli.specs.declared.call.Call.TheVariants.{Run, Inspect}
 
 -- What running a script leaves on standard output, where the input is known: with an answer the trace, with a
 -- fault of the script nothing, and a beginning of the trace where a device failed or a growth was refused.
@@ -15,6 +20,25 @@ RunsScript input old new (Err (refusals.BadScript line)) = IfSome input (λ byte
 RunsScript input old new (Err refusals.Device) = WritesFront input old new
 RunsScript input old new (Err refusals.Memory) = WritesFront input old new
 RunsScript input old new (Err _) = ⊥
+
+-- how many fault lines a dump has
+abbrev pub faults_in : Option Refusal → ℕ
+faults_in None = 0
+faults_in (Some refusal) = 1
+
+-- What inspecting a log leaves on standard output, where the input is known: with an answer the dump, and a beginning
+-- of it where a device failed or a growth was refused.
+abbrev pub Inspects : Limits → Option (List ℕ) → Option (List ℕ) → Option (List ℕ) → Result ℕ Refusal → Type 0
+Inspects limits input old new (Ok faults) = (fault : Option Refusal) × (faults ≡ faults_in fault) × WritesDump limits input old new fault
+Inspects limits input old new (Err refusals.Device) = WritesDumpFront limits input old new
+Inspects limits input old new (Err refusals.Memory) = WritesDumpFront limits input old new
+Inspects limits input old new (Err _) = ⊥
+
+-- what the call leaves on standard output, with how many events were refused or faults were found
+abbrev pub Performs : Call → Option (List ℕ) → Option (List ℕ) → Option (List ℕ) → Result ℕ Refusal → Type 0
+Performs (Run file) input old new outcome = RunsScript input old new outcome
+Performs (Inspect file segment_bytes index_interval) input old new outcome =
+    Inspects (record { segment_bytes = segment_bytes; index_interval = index_interval; max_batch = MAX_BATCH }) input old new outcome
 
 -- what stands on standard error for a refusal
 abbrev pub complaint : Refusal → List ℕ
@@ -30,7 +54,7 @@ abbrev pub status_of_refusal : Refusal → ℕ
 status_of_refusal (refusals.BadScript line) = 2
 status_of_refusal _ = 1
 
--- 0 where no event was refused, and 1 where one or more were
+-- 0 where no event was refused and no fault was found, and 1 where one or more were
 abbrev pub status_of : Result ℕ Refusal → ℕ
 status_of (Ok zero) = 0
 status_of (Ok (suc refused)) = 1

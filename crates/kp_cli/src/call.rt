@@ -8,4 +8,13 @@ pub enum Call {
         /// The path of the script, as it was written.
         file: String,
     },
+    /// Read the log at the path `file` and print its dump.
+    Inspect {
+        /// The path of the log's bytes, as it was written.
+        file: String,
+        /// The most bytes of a segment that has more than one batch, from 1,024 to 1,073,741,824.
+        segment_bytes: u32,
+        /// How many bytes lie between two entries of an index, up to 1,048,576.
+        index_interval: u32,
+    },
 }

@@ -12,6 +12,8 @@ pub use line::call_of;
 pub use running::{perform, refuse};
 
 #[cfg(test)]
+mod inspect_tests;
+#[cfg(test)]
 mod run_tests;
 #[cfg(test)]
 mod tests;

@@ -1,23 +1,53 @@
 //! Reads the command line.
 
-ghost use Rattle.std.specs.Prelude.{◌≡◌, IfOk, MatchOption, None, Some, codes, false, is_some, map, true};
-ghost use Rattle.clap.specs.Words.{FailsBy, app_of, fault_of, first_of, found_of, rows_of, rule_of};
+ghost use Rattle.std.specs.Prelude.{◌≡◌, ◌<◌, ◌^◌, IfOk, IsSomeAnd, MatchOption, None, Some, codes, false, is_some};
+ghost use Rattle.std.specs.Prelude.{map, true};
+ghost use Rattle.std.specs.Str.Parse.{IsNumeral, digits_value, without_leading_plus};
+ghost use Rattle.clap.specs.Words.{FailsBy, app_of, fault_of, first_of, found_of, one_of, rows_of, rule_of};
 ghost use Rattle.clap.specs.Words.{subcommand_of, subcommand_rows_of};
 ghost use Rattle.clap.specs.declared.builder.command.Command.TheViews.{out-Command};
-ghost use Rattle.kp_cli.specs.Line.{IsCallOf, NamesCall, file_rule, kpart, run_app};
+ghost use Rattle.kp_cli.specs.Line.{IsCallOf, NamesCall, file_rule, inspect_app, interval_rule, kpart, run_app};
+ghost use Rattle.kp_cli.specs.Line.{segment_rule};
 
 use crate::Call;
+use clap::builder::ValueParser;
 use clap::{Arg, ArgMatches, Command, Error};
+use kp_types::{GREATEST_SEGMENT_BYTES, LEAST_SEGMENT_BYTES, MAX_INDEX_INTERVAL};
 use std::alloc::{AllocError, Global};
 use std::convert::AsStr;
 
-fn file_argument<'a>(alloc: Global) -> Arg<'a>
+fn file_argument<'a>(alloc: Global, help: &'a str) -> Arg<'a>
     ensures rule { rule_of result ≡ file_rule }
     ensures local { result.global ≡ false }
 {
-    Arg::new(alloc, "FILE")
-        .required(true)
-        .help("the script to run")
+    Arg::new(alloc, "FILE").required(true).help(help)
+}
+
+fn segment_argument<'a>(alloc: Global) -> Arg<'a>
+    ensures rule { rule_of result ≡ segment_rule }
+    ensures local { result.global ≡ false }
+{
+    Arg::new(alloc, "segment")
+        .long("segment")
+        .value_name("S")
+        .value_parser(ValueParser::unsigned(
+            u64::from(LEAST_SEGMENT_BYTES),
+            u64::from(GREATEST_SEGMENT_BYTES),
+        ))
+        .default_value("1073741824")
+        .help("the most bytes of a segment")
+}
+
+fn interval_argument<'a>(alloc: Global) -> Arg<'a>
+    ensures rule { rule_of result ≡ interval_rule }
+    ensures local { result.global ≡ false }
+{
+    Arg::new(alloc, "interval")
+        .long("interval")
+        .value_name("I")
+        .value_parser(ValueParser::unsigned(0, u64::from(MAX_INDEX_INTERVAL)))
+        .default_value("4096")
+        .help("the bytes between two entries of an index")
 }
 
 fn run_command<'a>(alloc: Global) -> Result<Command<'a>, AllocError>
@@ -25,7 +55,19 @@ fn run_command<'a>(alloc: Global) -> Result<Command<'a>, AllocError>
 {
     let command = Command::new(alloc, "run")
         .about("Runs a script and prints its trace")
-        .arg(file_argument(alloc))?;
+        .arg(file_argument(alloc, "the script to run"))?;
+    Ok(command)
+}
+
+fn inspect_command<'a>(alloc: Global) -> Result<Command<'a>, AllocError>
+    ensures { IfOk result (λ command. (app_of command ≡ inspect_app)
+        × ((out-Command command).has_globals ≡ false)) }
+{
+    let command = Command::new(alloc, "inspect")
+        .about("Reads a log and prints its batches, segments and tables")
+        .arg(file_argument(alloc, "the log to read"))?
+        .arg(segment_argument(alloc))?
+        .arg(interval_argument(alloc))?;
     Ok(command)
 }
 
@@ -33,10 +75,12 @@ fn whole_command<'a>(alloc: Global) -> Result<Command<'a>, AllocError>
     ensures { IfOk result (λ command. app_of command ≡ kpart) }
 {
     let run = run_command(alloc)?;
+    let inspect = inspect_command(alloc)?;
     let command = Command::new(alloc, "kpart")
         .about("A replicated partition log with Kafka's replication rules")
         .subcommand_required(true)
-        .subcommand(run)?;
+        .subcommand(run)?
+        .subcommand(inspect)?;
     Ok(command)
 }
 
@@ -70,6 +114,19 @@ fn file_value<'a>(found: &ArgMatches<'a>) -> &'a str
     }
 }
 
+fn number_value(found: &ArgMatches<'_>, name: &str) -> u32
+    requires { IsSomeAnd (one_of name.now (rows_of (found_of found.now))) (λ text.
+        IsNumeral 10 (without_leading_plus text)
+        × (digits_value 10 (without_leading_plus text) < 2 ^ 32)) }
+    ensures { IsSomeAnd (one_of name.now (rows_of (found_of found.now))) (λ text.
+        digits_value 10 (without_leading_plus text) ≡ result) }
+{
+    match found.get_one::<u32>(name) {
+        Some(number) => number,
+        None => unreachable!(),
+    }
+}
+
 fn call_in(alloc: Global, matches: &ArgMatches<'_>) -> Result<Call, AllocError>
     requires { NamesCall (subcommand_rows_of matches.now) }
     ensures { IfOk result (IsCallOf (subcommand_rows_of matches.now)) }
@@ -77,16 +134,23 @@ fn call_in(alloc: Global, matches: &ArgMatches<'_>) -> Result<Call, AllocError>
     let Some((name, found)) = entered(matches) else {
         unreachable!();
     };
+    let file = String::from_str(alloc, file_value(found))?;
     if name == "run" {
-        let file = String::from_str(alloc, file_value(found))?;
         Ok(Call::Run { file })
+    } else if name == "inspect" {
+        Ok(Call::Inspect {
+            file,
+            segment_bytes: number_value(found, "segment"),
+            index_interval: number_value(found, "interval"),
+        })
     } else {
         unreachable!()
     }
 }
 
 /// The call that `words` ask for, of which the first is the program's name, as in `std::env::args`.
-/// An error is clap's own, or says that memory ran out; help that was asked for is an error too.
+/// An error is clap's own, also for a number out of its range, or says that memory ran out; help that was
+/// asked for is an error too.
 pub fn call_of<S: AsStr>(alloc: Global, words: &[S]) -> Result<Call, Error>
     ensures call { IfOk result (IsCallOf (subcommand_of kpart (map S.text words.now))) }
     ensures kinds { FailsBy (fault_of kpart (map S.text words.now)) result }

@@ -4,11 +4,12 @@ ghost use Rattle.std.specs.Prelude.{◌≡◌, ◌+◌, ◌<◌, ◌^◌, ℕ, R
 ghost use Rattle.std.specs.Io.KnownBytes.{Appends};
 ghost use Rattle.kp_types.specs.Devices.{CountsFaults};
 ghost use Rattle.kp_types.specs.declared.refusal.Refusal.{Refusal as SomeRefusal};
-ghost use Rattle.kp_cli.specs.Perform.{RunsScript, Complains, complaint, status_of, status_of_refusal};
+ghost use Rattle.kp_cli.specs.Perform.{RunsScript, Inspects, Performs, Complains, complaint, status_of, status_of_refusal};
 
 use crate::Call;
+use kp_inspect::inspect;
 use kp_script::run_script;
-use kp_types::{Counted, Refusal};
+use kp_types::{Counted, Limits, MAX_BATCH, Refusal};
 use std::alloc::Global;
 use std::io::{Read, Write};
 
@@ -29,13 +30,9 @@ pub fn refuse<E: Write>(err: &mut Counted<E>, refusal: Refusal) -> u8
     }
 }
 
-/// Does what the call asks for, with the opened file as the reader, and answers the exit status: 0 where no
-/// event was refused, 1 where one or more were and for F32 and F33, 2 for F31. The trace goes to standard output
-/// and a refusal of the whole script to standard error; with F31 nothing is on standard output. Takes time and
-/// memory proportional to the script and its trace.
-pub fn perform<R: Read, W: Write, E: Write>(
+/// Runs the script that the reader has left.
+fn run_file<R: Read, W: Write, E: Write>(
     alloc: Global,
-    call: &Call,
     reader: &mut Counted<R>,
     out: &mut Counted<W>,
     err: &mut Counted<E>,
@@ -50,10 +47,72 @@ pub fn perform<R: Read, W: Write, E: Write>(
         → Complains (E.contents err.old.inner) (E.contents err.new.inner) outcome)
         × result ≡ status_of outcome }
 {
-    let Call::Run { .. } = call;
     match run_script(alloc, reader, out) {
         Ok(0) => 0,
         Ok(_) => 1,
         Err(refusal) => refuse(err, refusal),
+    }
+}
+
+/// Inspects the log that the reader has left.
+fn inspect_file<R: Read, W: Write, E: Write>(
+    alloc: Global,
+    limits: &Limits,
+    reader: &mut Counted<R>,
+    out: &mut Counted<W>,
+    err: &mut Counted<E>,
+) -> u8
+    requires reads { reader.old.failed + 1 < 2 ^ 64 }
+    requires writes { out.old.failed + 1 < 2 ^ 64 }
+    requires complaints { err.old.failed + 1 < 2 ^ 64 }
+    ensures { (outcome : Result ℕ SomeRefusal)
+        × Inspects limits.now (R.remaining reader.old.inner) (W.contents out.old.inner) (W.contents out.new.inner) outcome
+        × CountsFaults outcome (reader.old.failed + out.old.failed) (reader.new.failed + out.new.failed)
+        × (err.new.failed ≡ err.old.failed
+        → Complains (E.contents err.old.inner) (E.contents err.new.inner) outcome)
+        × result ≡ status_of outcome }
+{
+    match inspect(alloc, reader, out, limits) {
+        Ok(None) => 0,
+        Ok(Some(_)) => 1,
+        Err(refusal) => refuse(err, refusal),
+    }
+}
+
+/// Does what the call asks for, with the opened file as the reader, and answers the exit status: 0 where no
+/// event was refused and no fault was found, 1 where one or more were and for F32 and F33, 2 for F31. The trace
+/// or the dump goes to standard output and a refusal of the whole call to standard error; with F31 nothing
+/// is on standard output. Takes time and memory proportional to the file and what is written of it.
+pub fn perform<R: Read, W: Write, E: Write>(
+    alloc: Global,
+    call: &Call,
+    reader: &mut Counted<R>,
+    out: &mut Counted<W>,
+    err: &mut Counted<E>,
+) -> u8
+    requires reads { reader.old.failed + 1 < 2 ^ 64 }
+    requires writes { out.old.failed + 1 < 2 ^ 64 }
+    requires complaints { err.old.failed + 1 < 2 ^ 64 }
+    ensures { (outcome : Result ℕ SomeRefusal)
+        × Performs call.now (R.remaining reader.old.inner) (W.contents out.old.inner) (W.contents out.new.inner) outcome
+        × CountsFaults outcome (reader.old.failed + out.old.failed) (reader.new.failed + out.new.failed)
+        × (err.new.failed ≡ err.old.failed
+        → Complains (E.contents err.old.inner) (E.contents err.new.inner) outcome)
+        × result ≡ status_of outcome }
+{
+    match call {
+        Call::Run { .. } => run_file(alloc, reader, out, err),
+        Call::Inspect {
+            segment_bytes,
+            index_interval,
+            ..
+        } => {
+            let limits = Limits {
+                segment_bytes: *segment_bytes,
+                index_interval: *index_interval,
+                max_batch: MAX_BATCH,
+            };
+            inspect_file(alloc, &limits, reader, out, err)
+        }
     }
 }

@@ -1,4 +1,4 @@
-//! The program `kpart`: reads its words, opens the script and leaves the rest to `kp_cli`.
+//! The program `kpart`: reads its words, opens the file and leaves the rest to `kp_cli`.
 //! It stands on `kp_cli` for the command line and for what a call does, and on `clap` for its texts.
 //! Its contract is the exit status of a command line that is no call; the rest its stored run shows.
 #![tactic(auto)]
@@ -20,7 +20,7 @@ enum Fault {
     /// The words are no call; where help was asked for, the help.
     #[error(transparent)]
     Words(clap::Error),
-    /// The words could not be read or the script not be opened, or a growth was refused.
+    /// The words could not be read or the file not be opened, or a growth was refused.
     #[error("kpart: {0}")]
     Refused(Refusal),
 }
@@ -65,8 +65,10 @@ fn call(rt: &HostRuntime) -> Result<Call, Fault> {
 
 /// Does the call and answers its exit status.
 fn perform_call(rt: &HostRuntime, call: &Call) -> Result<u8, Fault> {
-    let Call::Run { file } = call;
-    let file = match fs::open(rt, file.as_str()) {
+    let path = match call {
+        Call::Run { file } | Call::Inspect { file, .. } => file.as_str(),
+    };
+    let file = match fs::open(rt, path) {
         Ok(file) => file,
         Err(error) => return Err(Fault::Refused(refusal_of(&error))),
     };
