@@ -32,7 +32,9 @@ whole_dump limits input read s now text same found none lines tables =
       whole = whole;
       segments = tables.segments;
       tables = subst (λ (l : Limits). AreSegmentsOf l s.log.log tables.segments) found.limits_are tables.tables;
-      text_is = tables.grown ∙ ap (λ (l : List ℕ). l ++ table_lines tables.segments s.log.log) lines;
+      producers = tables.producers;
+      kept = tables.kept;
+      text_is = tables.grown ∙ ap (λ (l : List ℕ). l ++ table_lines tables.segments tables.producers s.log.log) lines;
     })
 
 pub faulty_dump : (limits : Limits) (input read : List ℕ) (s : Scan) (refusal : Refusal) (position : ℕ) (now text : List ℕ) → read ≡ input → IsScan limits read s

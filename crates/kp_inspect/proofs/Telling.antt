@@ -8,7 +8,9 @@ use Rattle.kp_model.specs.Log.{logged, size, bytes, next_offset, end_of}
 use Rattle.kp_segment.specs.Segmented.{Segmented}
 use Rattle.kp_segment.specs.Shown.{Shown, AreRunsOf, run_shows, segment_shows}
 use Rattle.kp_segment.specs.declared.run.Run.{Run}
-use Rattle.kp_inspect.specs.Dump.{line, batch_line, batch_lines, segment_lines}
+use Rattle.kp_inspect.specs.Dump.{line, batch_line, batch_lines, segment_lines, producer_line}
+use Rattle.kp_model.specs.Producers.{Producer}
+use Rattle.kp_producers.specs.Table.{Table, AreProducersOf}
 use Rattle.kp_inspect.specs.Texts.{shown_lines, TellsTables}
 
 abbrev pub IsPlaced : Written → Type 0
@@ -48,18 +50,31 @@ flat_map_over : {A B : Type 0} (g : A → B) (f : B → List ℕ) (xs : List A) 
 flat_map_over g f [] = refl
 flat_map_over g f (x ∷ xs) = ap (λ (rest : List ℕ). f (g x) ++ rest) (flat_map_over g f xs)
 
-pub tables_told : (s t : Segmented) (runs : List Run) (before between after : List ℕ) (end : ℕ) → t ≡ s → AreRunsOf t.limits t.log runs
-    → between ≡ before ++ flat_map shown_lines (map run_shows runs) → after ≡ between ++ line (codes "end" ∷ decimal end ∷ []) → end ≡ end_of s.log
-    → TellsTables s before after
-tables_told s t runs before between after end same are grown more ends =
+pub tables_told : (s t : Segmented) (runs : List Run) (table : Table) (before segments producers after : List ℕ) (end : ℕ) → t ≡ s → AreRunsOf t.limits t.log runs
+    → AreProducersOf s.log table → segments ≡ before ++ flat_map shown_lines (map run_shows runs) → producers ≡ segments ++ flat_map producer_line table
+    → after ≡ producers ++ line (codes "end" ∷ decimal end ∷ []) → end ≡ end_of s.log → TellsTables s before after
+tables_told s t runs table before segments producers after end same are kept grown told more ends =
     let are : AreRunsOf s.limits s.log runs = subst (λ (x : Segmented). AreRunsOf x.limits x.log runs) same are in
     let shown : flat_map shown_lines (map run_shows runs) ≡ flat_map segment_lines are.segments =
     ap (λ (l : List Shown). flat_map shown_lines l) are.shown ∙ flat_map_over segment_shows shown_lines are.segments in
+    let all : List ℕ = flat_map segment_lines are.segments in
+    let kept_lines : List ℕ = flat_map producer_line table in
+    let last : ℕ → List ℕ = λ n. line (codes "end" ∷ decimal n ∷ []) in
     record {
       segments = are.segments;
       tables = are.lawful;
+      producers = table;
+      kept = kept;
       grown =
-          more ∙ ap (λ (t : List ℕ). t ++ line (codes "end" ∷ decimal end ∷ [])) (grown ∙ ap (λ (t : List ℕ). before ++ t) shown)
-          ∙ ap (λ (n : ℕ). (before ++ flat_map segment_lines are.segments) ++ line (codes "end" ∷ decimal n ∷ [])) ends
-          ∙ append_assoc before (flat_map segment_lines are.segments) (line (codes "end" ∷ decimal (end_of s.log) ∷ []));
+          more ∙ ap (λ (t : List ℕ). t ++ last end) (told ∙ ap (λ (t : List ℕ). t ++ kept_lines) (grown ∙ ap (λ (t : List ℕ). before ++ t) shown))
+          ∙ ap (λ (n : ℕ). ((before ++ all) ++ kept_lines) ++ last n) ends
+          ∙ ap (λ (t : List ℕ). t ++ last (end_of s.log)) (append_assoc before all kept_lines)
+          ∙ append_assoc before (all ++ kept_lines) (last (end_of s.log));
     }
+
+-- one producer more
+pub producers_more : (now after all : List ℕ) (rest others : Table) (entry : ℕ × Producer) → rest ≡ entry ∷ others → after ≡ now ++ producer_line entry
+    → now ++ flat_map producer_line rest ≡ all → after ++ flat_map producer_line others ≡ all
+producers_more now after all rest others entry is grown told =
+    ap (λ (t : List ℕ). t ++ flat_map producer_line others) grown ∙ append_assoc now (producer_line entry) (flat_map producer_line others)
+    ∙ ap (λ (l : Table). now ++ flat_map producer_line l) (sym is) ∙ told

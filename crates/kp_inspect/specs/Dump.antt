@@ -9,6 +9,8 @@ use Rattle.kp_batch.specs.Producer.{producer_of, producer_epoch_of, sequence_of}
 use Rattle.kp_model.specs.Log.{Batch, size, bytes, last_offset, end_of}
 use Rattle.kp_model.specs.Indexes.{run_base}
 use Rattle.kp_model.specs.Tables.{Segment}
+use Rattle.kp_model.specs.Producers.{Kept, Producer}
+use Rattle.kp_producers.specs.Table.{Table}
 use Rattle.kp_segment.specs.Name.{segment_name}
 
 -- words with a space between each two, and a line feed
@@ -66,9 +68,25 @@ segment_text base size offsets times =
 abbrev pub segment_lines : Segment → List ℕ
 segment_lines s = segment_text (run_base s.batches) (bytes s.batches) s.offsets s.times
 
+-- a kept batch of a producer: its first and last sequence, and its base offset
+abbrev pub kept_text : Kept → List ℕ
+kept_text kept = decimal kept.first ++ 45 ∷ decimal kept.last ++ 64 ∷ decimal kept.base
+
+-- the coordinator epoch of a producer's last marker, a dash where it has none
+abbrev pub coordinator_text : Option ℕ → List ℕ
+coordinator_text (Some coordinator) = decimal coordinator
+coordinator_text None = codes "-"
+
+-- a producer: its number, its epoch, its coordinator epoch, and its kept batches, the oldest first, a space before each
+abbrev pub producer_line : ℕ × Producer → List ℕ
+producer_line entry =
+    join_with_byte 32 (codes "producer" ∷ decimal entry.0 ∷ decimal entry.1.epoch ∷ coordinator_text entry.1.coordinator ∷ [])
+    ++ flat_map (λ kept. 32 ∷ kept_text kept) entry.1.recent ++ 10 ∷ []
+
 -- the tables that the log builds, and its end
-abbrev pub table_lines : List Segment → List Batch → List ℕ
-table_lines segments log = flat_map segment_lines segments ++ line (codes "end" ∷ decimal (end_of log) ∷ [])
+abbrev pub table_lines : List Segment → Table → List Batch → List ℕ
+table_lines segments producers log =
+    flat_map segment_lines segments ++ flat_map producer_line producers ++ line (codes "end" ∷ decimal (end_of log) ∷ [])
 
 -- the first fault, and the byte at which the faulty batch begins
 abbrev pub fault_line : Refusal → ℕ → List ℕ

@@ -6,6 +6,7 @@ use Rattle.kp_types.specs.declared.limits.Limits.{Limits}
 use Rattle.kp_types.specs.Devices.{AppendsFront}
 use Rattle.kp_model.specs.Log.{Batch, bytes}
 use Rattle.kp_model.specs.Tables.{Segment, AreSegmentsOf}
+use Rattle.kp_producers.specs.Table.{Table, AreProducersOf}
 use Rattle.kp_inspect.specs.Dump.{batch_lines, table_lines, fault_line}
 use Rattle.kp_inspect.specs.Scanned.{BeginsWithLog, StopsAt}
 
@@ -15,7 +16,9 @@ pub record IsWholeDump (limits : Limits) (input text : List ℕ) : Type 0 where
   pub whole : BeginsWithLog limits.max_batch input log []
   pub segments : List Segment
   pub tables : AreSegmentsOf limits log segments
-  pub text_is : text ≡ batch_lines 0 log ++ table_lines segments log
+  pub producers : Table
+  pub kept : AreProducersOf log producers
+  pub text_is : text ≡ batch_lines 0 log ++ table_lines segments producers log
 
 -- The batches before the first fault, and the fault.
 pub record IsFaultyDump (limits : Limits) (input text : List ℕ) (refusal : Refusal) : Type 0 where

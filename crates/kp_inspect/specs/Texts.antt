@@ -3,6 +3,7 @@ use Rattle.std.specs.Prelude.{◌≡◌, ℕ, List, ◌++◌, codes}
 use Rattle.std.specs.Fmt.{decimal}
 use Rattle.kp_marker.specs.Marker.{commits}
 use Rattle.kp_model.specs.Tables.{Segment, AreSegmentsOf}
+use Rattle.kp_producers.specs.Table.{Table, AreProducersOf}
 use Rattle.kp_segment.specs.Segmented.{Segmented}
 use Rattle.kp_segment.specs.Shown.{Shown}
 use Rattle.kp_inspect.specs.Dump.{table_lines, segment_text, ending_text}
@@ -22,4 +23,6 @@ contents_text (Ending marker) = ending_text (commits marker.kind) ++ decimal mar
 pub record TellsTables (s : Segmented) (before after : List ℕ) : Type 0 where
   pub segments : List Segment
   pub tables : AreSegmentsOf s.limits s.log segments
-  pub grown : after ≡ before ++ table_lines segments s.log
+  pub producers : Table
+  pub kept : AreProducersOf s.log producers
+  pub grown : after ≡ before ++ table_lines segments producers s.log

@@ -20,6 +20,7 @@ pub fn dumps_are_one()
     kp_batch::bytes_are_judged_once();
     kp_batch::batches_are_framed();
     kp_model::segments_are_one();
+    kp_producers::tables_are_one();
 }
 
 #[cfg(test)]

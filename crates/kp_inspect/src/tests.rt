@@ -269,6 +269,7 @@ segment 00000000000000000000.log 363
 offset 2 138
 offset 4 294
 time 30 1
+producer 5 2 8 7-7@4
 end 5
 ";
     dumps(&rt, rt.alloc(), &limits(100), bytes, text, None)
@@ -289,5 +290,76 @@ fn a_device_that_fails_is_told_apart(rt: HostRuntime) -> Result<(), Fail> {
         assert_eq!(rt; reader.failed + writer.failed, 1);
         assert_eq!(rt; writer.inner.bytes.len(), 0);
     }
+    Ok(())
+}
+
+// A batch of so many records of producer 9, the first with this sequence.
+fn produced(alloc: Global, epoch: u16, sequence: u32, count: u8) -> Result<Batch, Refusal> {
+    let fields = Fields {
+        producer_id: Some(9),
+        producer_epoch: Some(epoch),
+        base_sequence: Some(sequence),
+        ..plain(10)
+    };
+    let mut parts = Vec::new(alloc);
+    for _ in 0..count {
+        parts.push(Parts {
+            timestamp: 10,
+            key: None,
+            value: Some(b"a"),
+            headers: &[],
+        })?;
+    }
+    Batch::build(alloc, &fields, &parts, &limits(0))
+}
+
+// The dump's line of producer 9.
+fn producer_line(alloc: Global, bytes: Vec<u8>) -> Result<String, Fail> {
+    let mut reader = Counted::new(Faulty::new(bytes, u64::MAX));
+    let mut writer = Counted::new(Faulty::new(Vec::new(alloc), u64::MAX));
+    let fault = inspect(alloc, &mut reader, &mut writer, &limits(1_000))?;
+    let text = str::from_utf8(&writer.inner.bytes)?;
+    let found = text
+        .lines()
+        .find(|line| line.starts_with("producer "))
+        .ok_or("no producer")?;
+    if fault.is_some() {
+        return Err("a fault".into());
+    }
+    Ok(found.to_string(alloc)?)
+}
+
+#[test]
+fn a_producer_has_its_last_five_batches(rt: HostRuntime) -> Result<(), Fail> {
+    let mut bytes = Vec::new(rt.alloc());
+    for sequence in 0..6u8 {
+        let batch = produced(rt.alloc(), 0, u32::from(sequence), 1)?;
+        put(&mut bytes, batch, Offset::from(sequence), 0)?;
+    }
+    let line = producer_line(rt.alloc(), bytes)?;
+    assert_eq!(rt;
+        line.as_str(),
+        "producer 9 0 - 1-1@1 2-2@2 3-3@3 4-4@4 5-5@5"
+    );
+    Ok(())
+}
+
+#[test]
+fn a_higher_epoch_begins_anew(rt: HostRuntime) -> Result<(), Fail> {
+    let mut bytes = Vec::new(rt.alloc());
+    put(&mut bytes, produced(rt.alloc(), 0, 0, 2)?, 0, 0)?;
+    put(&mut bytes, produced(rt.alloc(), 1, 0, 1)?, 2, 0)?;
+    let line = producer_line(rt.alloc(), bytes)?;
+    assert_eq!(rt; line.as_str(), "producer 9 1 - 0-0@2");
+    Ok(())
+}
+
+#[test]
+fn sequences_wrap(rt: HostRuntime) -> Result<(), Fail> {
+    let mut bytes = Vec::new(rt.alloc());
+    let batch = produced(rt.alloc(), 0, 2_147_483_646, 3)?;
+    put(&mut bytes, batch, 0, 0)?;
+    let line = producer_line(rt.alloc(), bytes)?;
+    assert_eq!(rt; line.as_str(), "producer 9 0 - 2147483646-0@0");
     Ok(())
 }

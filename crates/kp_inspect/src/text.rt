@@ -1,16 +1,18 @@
 //! The lines of a dump.
 
-ghost use Rattle.std.specs.Prelude.{◌≡◌, Some, ◌<◌, ◌≤◌, ◌^◌, ◌++◌, map, OnOk, IfOk, string_bytes};
+ghost use Rattle.std.specs.Prelude.{◌≡◌, Some, ◌∷◌, ◌<◌, ◌≤◌, ◌^◌, ◌++◌, map, OnOk, IfOk, string_bytes};
 ghost use Rattle.std.specs.List.{AllByRecursion, flat_map};
 ghost use Rattle.kp_model.specs.Log.{logged, bytes, end_of, next_offset};
 ghost use Rattle.kp_segment.specs.Shown.{run_shows, offset_pair, time_pair};
 ghost use Rattle.kp_inspect.specs.Dump.{batch_line, batch_lines, fault_line, field_text, kind_text, offset_line, time_line};
+ghost use Rattle.kp_inspect.specs.Dump.{kept_text, coordinator_text, producer_line};
 ghost use Rattle.kp_inspect.specs.Texts.{shown_lines, contents_text, TellsTables};
 
 use kp_batch::Batch;
 use kp_log::PartitionLog;
 use kp_marker::{Kind, Marker, read_marker};
 use kp_offset_index::OffsetEntry;
+use kp_producers::{KeptBatch, ProducerState, Producers};
 use kp_segment::Run;
 use kp_time_index::TimeEntry;
 use kp_types::{Offset, Refusal};
@@ -177,11 +179,62 @@ fn push_runs(text: &mut String, runs: &[Run]) -> Result<(), AllocError>
     Ok(())
 }
 
+/// Appends a kept batch of a producer, with a space before it.
+fn push_kept(text: &mut String, kept: &KeptBatch) -> Result<(), AllocError>
+    ensures { OnOk result (string_bytes text.new ≡ string_bytes text.old ++ 32 ∷ kept_text kept.now) }
+{
+    let first = kept.first_sequence();
+    let last = kept.last_sequence();
+    let base = kept.base_offset();
+    write!(text, " {first}-{last}@{base}")
+}
+
+/// Appends the kept batches of a producer, each with a space before it.
+fn push_recent(text: &mut String, recent: &[KeptBatch]) -> Result<(), AllocError>
+    ensures { OnOk result (string_bytes text.new ≡ string_bytes text.old ++ flat_map (λ kept. 32 ∷ kept_text kept) recent.now) }
+{
+    for kept in recent {
+        push_kept(text, kept)?;
+    }
+    Ok(())
+}
+
+/// Appends the coordinator epoch of a producer's last marker, a dash where it has none.
+fn push_coordinator(text: &mut String, coordinator: Option<u32>) -> Result<(), AllocError>
+    ensures { OnOk result (string_bytes text.new ≡ string_bytes text.old ++ coordinator_text coordinator) }
+{
+    match coordinator {
+        Some(epoch) => write!(text, "{epoch}"),
+        None => text.push('-'),
+    }
+}
+
+/// Appends the line of a producer.
+fn push_producer(text: &mut String, producer: u64, state: &ProducerState) -> Result<(), AllocError>
+    ensures { OnOk result (string_bytes text.new ≡ string_bytes text.old ++ producer_line (producer, state.now)) }
+{
+    write!(text, "producer {producer} {} ", state.epoch())?;
+    push_coordinator(text, state.coordinator_epoch())?;
+    push_recent(text, state.recent())?;
+    text.push('\n')
+}
+
+/// Appends the lines of the producers.
+fn push_producers(text: &mut String, producers: &Producers) -> Result<(), AllocError>
+    ensures { OnOk result (string_bytes text.new ≡ string_bytes text.old ++ flat_map producer_line producers.now) }
+{
+    for (producer, state) in producers.all() {
+        push_producer(text, *producer, state)?;
+    }
+    Ok(())
+}
+
 /// Appends the tables that the log builds, and its end.
 pub(crate) fn push_tables(text: &mut String, log: &PartitionLog) -> Result<(), AllocError>
     ensures { OnOk result (TellsTables log.now (string_bytes text.old) (string_bytes text.new)) }
 {
     push_runs(text, log.tables().runs())?;
+    push_producers(text, log.producers())?;
     writeln!(text, "end {}", log.end_offset())
 }
 
