@@ -3,6 +3,7 @@ use Rattle.std.proofs.Common.{◌≡◌, ℕ, ◌+◌, ◌≤◌, ◌^◌, List,
 use Rattle.std.specs.List.{AllByRecursion, flat_map}
 use Rattle.std.specs.Fmt.{decimal}
 use Rattle.std.proofs.lemmas.List.Sums.{sum_by-cons}
+use Rattle.std.proofs.lemmas.List.Folds.{flat_map-map}
 use Rattle.kp_batch.specs.Batch.{Written, size_of}
 use Rattle.kp_model.specs.Log.{logged, size, bytes, next_offset, end_of}
 use Rattle.kp_segment.specs.Segmented.{Segmented}
@@ -46,17 +47,13 @@ Told-all before now all position rest told is =
 
 -- ---- the tables
 
-flat_map_over : {A B : Type 0} (g : A → B) (f : B → List ℕ) (xs : List A) → flat_map f (map g xs) ≡ flat_map (λ x. f (g x)) xs
-flat_map_over g f [] = refl
-flat_map_over g f (x ∷ xs) = ap (λ (rest : List ℕ). f (g x) ++ rest) (flat_map_over g f xs)
-
 pub tables_told : (s t : Segmented) (runs : List Run) (table : Table) (before segments producers after : List ℕ) (end : ℕ) → t ≡ s → AreRunsOf t.limits t.log runs
     → AreProducersOf s.log table → segments ≡ before ++ flat_map shown_lines (map run_shows runs) → producers ≡ segments ++ flat_map producer_line table
     → after ≡ producers ++ line (codes "end" ∷ decimal end ∷ []) → end ≡ end_of s.log → TellsTables s before after
 tables_told s t runs table before segments producers after end same are kept grown told more ends =
     let are : AreRunsOf s.limits s.log runs = subst (λ (x : Segmented). AreRunsOf x.limits x.log runs) same are in
     let shown : flat_map shown_lines (map run_shows runs) ≡ flat_map segment_lines are.segments =
-    ap (λ (l : List Shown). flat_map shown_lines l) are.shown ∙ flat_map_over segment_shows shown_lines are.segments in
+    ap (λ (l : List Shown). flat_map shown_lines l) are.shown ∙ flat_map-map shown_lines segment_shows are.segments in
     let all : List ℕ = flat_map segment_lines are.segments in
     let kept_lines : List ℕ = flat_map producer_line table in
     let last : ℕ → List ℕ = λ n. line (codes "end" ∷ decimal n ∷ []) in
