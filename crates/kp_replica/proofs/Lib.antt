@@ -1,7 +1,9 @@
 pub mod Numbers
 pub mod Calls
 pub mod Ups
-pub mod Stable
+pub mod Elements
+pub mod Untransacted
+pub mod Standing
 pub mod Produced
 pub mod Reports
 pub mod Offered

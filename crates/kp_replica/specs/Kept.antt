@@ -1,6 +1,6 @@
 -- What a replica keeps of its fields.
 use Rattle.kp_log.specs.Entries.{AreEntriesOf}
-use Rattle.kp_replica.specs.Member.{Member, ArePlain, HasEpochs}
+use Rattle.kp_replica.specs.Member.{Member, AreOfNoTransaction, HasEpochs}
 use Rattle.kp_replica.specs.Modes.{mode_of}
 use Rattle.kp_replica.specs.declared.replica.Replica.TheInside.{Inside}
 
@@ -23,4 +23,4 @@ member_of r =
 pub record IsKept (r : Inside) : Type 0 where
   pub entries : AreEntriesOf r.log r.entries
   pub epochs : HasEpochs r.log.log (mode_of r.mode)
-  pub plain : ArePlain r.log.log
+  pub untransacted : AreOfNoTransaction r.log.log

@@ -1,8 +1,9 @@
 -- A node of the model with its number, and what it is that a call does.
-use Rattle.std.specs.Prelude.{◌≡◌, ℕ, ◌+◌, ◌<◌, ◌≤◌, ◌^◌, List, [], unwrap_or}
+use Rattle.std.specs.Prelude.{◌≡◌, ℕ, ◌+◌, ◌<◌, ◌≤◌, ◌^◌, false, List, [], unwrap_or}
 use Rattle.std.specs.List.{AllByRecursion}
-use Rattle.kp_batch.specs.Batch.{Content, Plain, Produced, Marker}
 use Rattle.kp_model.specs.Log.{Batch}
+use Rattle.kp_model.specs.Producers.{content_of}
+use Rattle.kp_model.specs.Transactions.{is_transactional}
 use Rattle.kp_model.specs.World.{LeaderAndIsr, Mode, Down, Idle, Leads, Follows, Node}
 use Rattle.kp_model.specs.Event.{Act, Reply}
 use Rattle.kp_model.specs.Local.{Local, becomes, last_epoch}
@@ -26,14 +27,9 @@ DoesUnder controller old new act reply =
 abbrev pub Does : Member → Member → Act → Reply → Type 0
 Does old new act reply = (controller : LeaderAndIsr) → DoesUnder controller old new act reply
 
--- a batch of no producer
-abbrev pub IsPlainContent : Content → Type 0
-IsPlainContent (Plain records) = Unit {0}
-IsPlainContent (Produced producer epoch sequence transactional records) = ⊥
-IsPlainContent (Marker producer epoch coordinator commit) = ⊥
-
-abbrev pub ArePlain : List Batch → Type 0
-ArePlain log = AllByRecursion (λ b. IsPlainContent b.body.content) log
+-- no batch of the log is of a transaction (KIP-98)
+abbrev pub AreOfNoTransaction : List Batch → Type 0
+AreOfNoTransaction log = AllByRecursion (λ b. is_transactional (content_of b) ≡ false) log
 
 -- The node's log has no epoch above the node's own; an idle node has had none.
 abbrev pub HasEpochs : List Batch → Mode → Type 0

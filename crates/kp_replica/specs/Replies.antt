@@ -1,13 +1,14 @@
 -- The replies of the definitions that the calls' results are.
-use Rattle.std.specs.Prelude.{◌≡◌, ◌⊎◌, ℕ, List, Result, Ok, Err, if◌then◌else◌, Contains}
+use Rattle.std.specs.Prelude.{◌≡◌, ◌⊎◌, ℕ, ◌-◌, true, false, Bool, List, Option, Some, None, Result, Ok, Err, if◌then◌else◌, Contains}
 use Rattle.kp_types.specs.declared.refusal.Refusal.{Refusal}
 use Rattle.kp_types.specs.declared.refusal.Refusal.TheVariants.{BadProducerFields}
-use Rattle.kp_batch.specs.Batch.{Body, Written}
+use Rattle.kp_batch.specs.Batch.{Body, Written, Content, Plain, Produced, Marker, count_of}
 use Rattle.kp_batch.specs.Laws.{IsBatch}
 use Rattle.kp_batch.specs.Reading.{IsFirstFault}
 use Rattle.kp_model.specs.Log.{Batch, last_offset}
 use Rattle.kp_model.specs.Event.{Reply, Refused, NowLeads, NowFollows, At, DuplicateOf, MarkAt}
-use Rattle.kp_replica.specs.Member.{IsPlainContent}
+use Rattle.kp_model.specs.Producers.{sequence_after}
+use Rattle.kp_model.specs.Transactions.{is_transactional}
 use Rattle.kp_replica.specs.declared.replica.Role.{Role}
 use Rattle.kp_replica.specs.declared.replica.Role.TheVariants as roles
 use Rattle.kp_replica.specs.declared.replica.Receipt.{Receipt}
@@ -25,15 +26,16 @@ abbrev pub mark_reply : Result ℕ Refusal → Reply
 mark_reply (Ok watermark) = MarkAt watermark
 mark_reply (Err refusal) = Refused refusal
 
--- the bytes are a batch that a producer wrote, or a marker for one
-abbrev pub IsOfProducer : ℕ → List ℕ → Type 0
-IsOfProducer max bytes = (w : Written) × IsBatch max bytes w × (¬ IsPlainContent w.body.content)
+-- the bytes are a batch of a transaction
+abbrev pub IsOfTransaction : ℕ → List ℕ → Type 0
+IsOfTransaction max bytes = (w : Written) × IsBatch max bytes w × (is_transactional w.body.content ≡ true)
 
--- What the bytes hand in: the batch of no producer that they are, or their first fault. A batch of a producer is
--- refused behind all of them (of this stage; the next ones admit producers).
+-- What the bytes hand in: the batch that they are, or their first fault. A batch of a transaction is refused
+-- behind all of them (of this stage; the next one admits transactions).
 abbrev pub IsOffer : ℕ → List ℕ → Result Body Refusal → Type 0
-IsOffer max bytes (Ok body) = (w : Written) × IsBatch max bytes w × IsPlainContent w.body.content × (w.body ≡ body)
-IsOffer max bytes (Err fault) = IsFirstFault max bytes fault ⊎ (IsOfProducer max bytes × (fault ≡ BadProducerFields))
+IsOffer max bytes (Ok body) =
+    (w : Written) × IsBatch max bytes w × (is_transactional w.body.content ≡ false) × (w.body ≡ body)
+IsOffer max bytes (Err fault) = IsFirstFault max bytes fault ⊎ (IsOfTransaction max bytes × (fault ≡ BadProducerFields))
 
 -- the receipt names this batch
 pub record IsNamedBy (receipt : Receipt) (b : Batch) : Type 0 where
@@ -41,6 +43,33 @@ pub record IsNamedBy (receipt : Receipt) (b : Batch) : Type 0 where
   pub last : receipt.last ≡ last_offset b
   pub epoch : receipt.epoch ≡ b.epoch
 
--- the batch that the receipt names stands in the log
-abbrev pub IsStanding : List Batch → Receipt → Type 0
-IsStanding log receipt = (b : Batch) × Contains log b × IsNamedBy receipt b
+-- what a data batch says of its producer: who, in which epoch, with which first and last sequence number (KIP-98)
+pub record Claim : Type 0 where
+  pub producer : ℕ
+  pub epoch : ℕ
+  pub first : ℕ
+  pub last : ℕ
+
+abbrev pub claim_in : Body → Content → Option Claim
+claim_in body (Plain records) = None
+claim_in body (Produced producer epoch sequence transactional records) =
+    Some (record { producer = producer; epoch = epoch; first = sequence; last = sequence_after sequence (count_of body - 1) })
+claim_in body (Marker producer epoch coordinator commit) = None
+
+abbrev pub claim_of : Body → Option Claim
+claim_of body = claim_in body body.content
+
+-- What stands is what was handed in; for a duplicate, a batch of the same producer, producer epoch, first and last
+-- sequence number.
+abbrev pub StandsFor : (duplicate : Bool) → Batch → Body → Type 0
+StandsFor false b body = b.body ≡ body
+StandsFor true b body = (claim : Claim) × (claim_of b.body ≡ Some claim) × (claim_of body ≡ Some claim)
+
+-- The bytes handed in a batch, and the one that the receipt names stands in the log for it.
+pub record IsReceiptOf (max : ℕ) (bytes : List ℕ) (log : List Batch) (receipt : Receipt) : Type 0 where
+  pub body : Body
+  pub handed : IsOffer max bytes (Ok body)
+  pub batch : Batch
+  pub stands : Contains log batch
+  pub named : IsNamedBy receipt batch
+  pub stands_for : StandsFor receipt.duplicate batch body

@@ -5,13 +5,14 @@
 
 ghost use Rattle.kp_replica.specs.Offers.{BytesAreAnOffer, OffersAreOne};
 
+mod producing;
 mod record;
 mod replica;
 
 pub use record::{Leader, NodeSet, Record};
 pub use replica::{Receipt, Replica, Role};
 
-/// All bytes hand in one thing, and only one: a batch of no producer, or the refusal of what they are. It costs
+/// All bytes hand in one thing, and only one: a batch of no transaction, or the refusal of what they are. It costs
 /// nothing.
 pub fn bytes_are_an_offer()
     ensures some { BytesAreAnOffer }

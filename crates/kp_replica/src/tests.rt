@@ -3,6 +3,7 @@ ghost use Rattle.std.specs.Prelude.{◌≤◌};
 use super::*;
 use bytes::Bytes;
 use kp_batch::{Batch, Fields, Parts};
+use kp_marker::{Kind, marker};
 use kp_types::{Limits, NodeId, Refusal};
 use std::alloc::Global;
 use std::test::Fail;
@@ -26,6 +27,15 @@ const FIELDS: Fields = Fields {
 const OF_A_PRODUCER: [u8; 69] = [
     0x00, 0x00, 0x00, 0x00, 0x00, 0x00, 0x00, 0x00, 0x00, 0x00, 0x00, 0x39, 0xff, 0xff, 0xff, 0xff,
     0x02, 0x4a, 0xee, 0x07, 0x68, 0x00, 0x00, 0x00, 0x00, 0x00, 0x00, 0x00, 0x00, 0x00, 0x00, 0x00,
+    0x00, 0x03, 0xe8, 0x00, 0x00, 0x00, 0x00, 0x00, 0x00, 0x03, 0xe8, 0x00, 0x00, 0x00, 0x00, 0x00,
+    0x00, 0x00, 0x05, 0x00, 0x00, 0x00, 0x00, 0x00, 0x00, 0x00, 0x00, 0x00, 0x01, 0x0e, 0x00, 0x00,
+    0x00, 0x01, 0x02, 0x61, 0x00,
+];
+
+// The same as data of a transaction.
+const OF_A_TRANSACTION: [u8; 69] = [
+    0x00, 0x00, 0x00, 0x00, 0x00, 0x00, 0x00, 0x00, 0x00, 0x00, 0x00, 0x39, 0xff, 0xff, 0xff, 0xff,
+    0x02, 0xad, 0xdf, 0xa9, 0x6c, 0x00, 0x10, 0x00, 0x00, 0x00, 0x00, 0x00, 0x00, 0x00, 0x00, 0x00,
     0x00, 0x03, 0xe8, 0x00, 0x00, 0x00, 0x00, 0x00, 0x00, 0x03, 0xe8, 0x00, 0x00, 0x00, 0x00, 0x00,
     0x00, 0x00, 0x05, 0x00, 0x00, 0x00, 0x00, 0x00, 0x00, 0x00, 0x00, 0x00, 0x01, 0x0e, 0x00, 0x00,
     0x00, 0x01, 0x02, 0x61, 0x00,
@@ -188,20 +198,67 @@ fn waits_for_the_others_in_sync(rt: HostRuntime) -> Result<(), Fail> {
 }
 
 #[test]
-fn refuses_a_batch_of_a_producer(rt: HostRuntime) -> Result<(), Fail> {
+fn refuses_data_of_a_transaction(rt: HostRuntime) -> Result<(), Fail> {
     let mut node = Replica::new(rt.alloc(), 0, &LIMITS);
-    let produced = Bytes::copy_from_slice(rt.alloc(), &OF_A_PRODUCER)?;
-    assert_eq!(rt; node.produce(produced.clone()?), Err(Refusal::NotLeader));
+    let bytes = Bytes::copy_from_slice(rt.alloc(), &OF_A_TRANSACTION)?;
+    assert_eq!(rt; node.produce(bytes.clone()?), Err(Refusal::NotLeader));
     assert_eq!(rt;
         node.adopt(&elected(1)?),
         Ok(Role::Leads { epoch: 0, start: 0 })
     );
-    let short = Bytes::copy_from_slice(rt.alloc(), &OF_A_PRODUCER[..68])?;
+    let short = Bytes::copy_from_slice(rt.alloc(), &OF_A_TRANSACTION[..68])?;
     assert_eq!(rt; node.produce(short), Err(Refusal::Truncated));
-    assert_eq!(rt; node.produce(produced), Err(Refusal::BadProducerFields));
+    assert_eq!(rt; node.produce(bytes), Err(Refusal::BadProducerFields));
     assert!(rt; node.log().is_empty());
-    assert_eq!(rt; node.log().end_offset(), 0);
     assert_eq!(rt; node.raise(), Ok(0));
+    Ok(())
+}
+
+#[test]
+fn refuses_a_clients_marker(rt: HostRuntime) -> Result<(), Fail> {
+    let mut node = Replica::new(rt.alloc(), 0, &LIMITS);
+    assert_eq!(rt;
+        node.adopt(&elected(1)?),
+        Ok(Role::Leads { epoch: 0, start: 0 })
+    );
+    let mut out = Vec::new(rt.alloc());
+    marker(rt.alloc(), 5, 0, 7, Kind::Commit, 20)?.write(&mut out)?;
+    let bytes = Bytes::from_vec(out)?;
+    assert_eq!(rt; node.produce(bytes), Err(Refusal::ControlFromClient));
+    assert!(rt; node.log().is_empty());
+    Ok(())
+}
+
+// The batch that stands was stamped in an earlier leader epoch, and another batch stands behind it.
+#[test]
+fn a_batch_that_comes_twice_is_stored_once(rt: HostRuntime) -> Result<(), Fail> {
+    let first = elected(1)?;
+    let second = first.elected(0)?;
+    let mut node = Replica::new(rt.alloc(), 0, &LIMITS);
+    assert_eq!(rt; node.adopt(&first), Ok(Role::Leads { epoch: 0, start: 0 }));
+    let two = Bytes::copy_from_slice(rt.alloc(), &OF_TWO_RECORDS)?;
+    assert_eq!(rt; node.produce(two.clone()?)?.last, 1);
+    let produced = Bytes::copy_from_slice(rt.alloc(), &OF_A_PRODUCER)?;
+    let stored = Receipt {
+        base: 2,
+        last: 2,
+        epoch: 0,
+        duplicate: false,
+    };
+    let again = Receipt {
+        base: 2,
+        last: 2,
+        epoch: 0,
+        duplicate: true,
+    };
+    assert_eq!(rt; node.produce(produced.clone()?), Ok(stored));
+    assert_eq!(rt; node.produce(two)?.base, 3);
+    assert_eq!(rt; node.adopt(&second), Ok(Role::Leads { epoch: 1, start: 5 }));
+    for _ in 0..2 {
+        assert_eq!(rt; node.produce(produced.clone()?), Ok(again));
+        assert_eq!(rt; node.log().end_offset(), 5);
+    }
+    assert_eq!(rt; node.log().batches().len(), 3);
     Ok(())
 }
 
