@@ -98,6 +98,74 @@ show 0
 }
 
 #[test]
+fn a_batch_that_comes_twice_is_stored_once(rt: HostRuntime) -> Result<(), Fail> {
+    let events = "elect 0
+adopt 0
+append 0 1000 9 0 0 d a
+append 0 1000 9 0 0 d a
+append 0 1000 9 0 2 d a
+show 0
+raise 0
+read 0 0
+";
+    let trace = "2 record leader 0 epoch 0 isr 0 version 1
+3 leads epoch 0 from 0
+4 at 0
+5 duplicate 0
+6 F12 OutOfOrderSequence
+7 node 0 life 0 end 1 mark 0 stable 0
+8 mark 1
+9 read 1 0=61
+";
+    let script = format!(in rt.alloc(); "{HEADER}{events}")?;
+    let left = run(rt.alloc(), script.as_bytes())?;
+    assert_eq!(rt; left.out.as_slice(), trace.as_bytes());
+    assert_eq!(rt; left.err.as_slice(), b"".as_slice());
+    assert_eq!(rt; left.status, 1);
+    Ok(())
+}
+
+// An old epoch, a gap, other records under the same sequences, and another leadership between a batch and its copy.
+#[test]
+fn producers_are_admitted_by_the_table(rt: HostRuntime) -> Result<(), Fail> {
+    let events = "elect 0
+adopt 0
+append 0 10 9 0 1 d a
+append 0 10 9 0 0 d a,b
+append 0 10 9 0 0 d a
+append 0 10 9 0 0 d x,y
+append 0 10 9 1 2 d c
+append 0 10 9 1 0 d c
+append 0 10 9 0 2 d e
+elect 0
+adopt 0
+append 0 10 9 1 0 d c
+append 0 10 9 -1 0 d c
+append 0 10 9223372036854775807 32767 0 d z
+";
+    let trace = "2 record leader 0 epoch 0 isr 0 version 1
+3 leads epoch 0 from 0
+4 F12 OutOfOrderSequence
+5 at 0
+6 F12 OutOfOrderSequence
+7 duplicate 0
+8 F12 OutOfOrderSequence
+9 at 2
+10 F11 InvalidProducerEpoch
+11 record leader 0 epoch 1 isr 0 version 2
+12 leads epoch 1 from 3
+13 duplicate 2
+14 F10 BadProducerFields
+15 at 3
+";
+    let script = format!(in rt.alloc(); "{HEADER}{events}")?;
+    let left = run(rt.alloc(), script.as_bytes())?;
+    assert_eq!(rt; left.out.as_slice(), trace.as_bytes());
+    assert_eq!(rt; left.status, 1);
+    Ok(())
+}
+
+#[test]
 fn a_second_leadership_goes_on(rt: HostRuntime) -> Result<(), Fail> {
     let events =
         "elect 0\nadopt 0\nappend 0 5 -1 -1 -1 d ab\nelect 0\nadopt 0\nappend 0 4 -1 -1 -1 d ~\nraise 0\nread 0 0\nread 0 1\nread 0 2\nread 0 3\n";
@@ -258,12 +326,16 @@ fn raw_bytes_name_their_first_fault(rt: HostRuntime) -> Result<(), Fail> {
             "F8 BadRecord 61",
         ),
         (
-            "000000000000000000000039ffffffff024aee076800000000000000000000000003e800000000000003e80000000000000005000000000000000000010e00000001026100",
+            "000000000000000000000039ffffffff02addfa96c00100000000000000000000003e800000000000003e80000000000000005000000000000000000010e00000001026100",
+            "F10 BadProducerFields",
+        ),
+        (
+            "000000000000000000000039ffffffff02f761627d00000000000000000000000003e800000000000003e800000000000000050000ffffffff000000010e00000001026100",
             "F10 BadProducerFields",
         ),
         (
             "000000000000000000000042ffffffff022454dce30030000000000000000000000014000000000000001400000000000000050000ffffffff000000012000000008000000010c00000000000700",
-            "F10 BadProducerFields",
+            "F30 ControlFromClient",
         ),
         ("00", "F1 Truncated"),
     ];

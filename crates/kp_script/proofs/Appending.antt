@@ -1,5 +1,5 @@
--- No cause speaks against a batch of a line's values, and what is built is that batch.
-use Rattle.std.proofs.Common.{◌≡◌, ℕ, suc, ◌+◌, ◌<◌, ◌≤◌, ◌^◌, true, false, List, [], ◌∷◌, length, None, map, refl, sym, ap, ◌∙◌, arith}
+-- No cause speaks against a batch of a line's values, and a batch that is asked for has the content that its fields say.
+use Rattle.std.proofs.Common.{◌≡◌, ℕ, suc, ◌+◌, ◌<◌, ◌≤◌, ◌^◌, Bool, true, false, List, [], ◌∷◌, length, Some, None, map, refl, sym, ap, ◌∙◌, arith}
 use Rattle.std.specs.Prelude.{nat_lt}
 use Rattle.std.specs.List.{list_all}
 use Rattle.std.specs.Str.{is_utf8}
@@ -10,15 +10,25 @@ use Rattle.kp_record.specs.Made.{header_made, record_made}
 use Rattle.kp_record.specs.declared.parts.Parts.{Parts}
 use Rattle.kp_record.specs.declared.parts.HeaderParts.{HeaderParts}
 use Rattle.kp_batch.specs.Batch.{Content, Plain, Produced, Marker, Body, attributes, contents}
-use Rattle.kp_batch.specs.Producer.{producer_of}
-use Rattle.kp_batch.specs.Building.{IsMade, asked_size, has_text_keys, head_cause, middle_cause, key_cause, marker_cause, build_cause}
+use Rattle.kp_batch.specs.Producer.{producer_of, producer_epoch_of, sequence_of}
+use Rattle.kp_batch.specs.Building.{asked_size, has_text_keys, head_cause, key_cause, marker_cause}
+use Rattle.kp_batch.specs.Spelling.{spell_cause}
 use Rattle.kp_batch.specs.declared.build.Fields.{Fields}
-use Rattle.kp_script.specs.Told.{plain_record, values_body}
+use Rattle.kp_model.specs.Transactions.{is_transactional}
+use Rattle.kp_script.specs.Call.{Sender}
+use Rattle.kp_script.specs.Told.{plain_record, body_at}
 
--- the fields of a batch of no producer
-abbrev pub fields_at : ℕ → Fields
-fields_at time =
-    record { base_timestamp = time; producer_id = None; producer_epoch = None; base_sequence = None; transactional = false; control = false }
+-- the fields that a line asks for
+abbrev pub fields_at : (time : ℕ) → Sender → (transactional : Bool) → Fields
+fields_at time sender transactional =
+    record {
+      base_timestamp = time;
+      producer_id = sender.producer;
+      producer_epoch = sender.epoch;
+      base_sequence = sender.sequence;
+      transactional = transactional;
+      control = false;
+    }
 
 -- each part is at the time, and has no headers
 are_early : (time : ℕ) (values : List (List ℕ)) (parts : List Parts) → map record_made parts ≡ map (plain_record time) values → time < 2 ^ 62 →
@@ -49,44 +59,50 @@ no_keys base place at time (v ∷ vs) (p ∷ ps) e =
     let rest = no_keys base (suc place) (at + length (record_spelling base place (record_made p))) time vs ps others in
     rw (text_keys p none) rest
 
-head_none : (max time : ℕ) (parts : List Parts) → 0 < length parts → asked_size (fields_at time) parts ≤ max → max ≤ 2147483647 → time < 2 ^ 62 →
-    head_cause max (fields_at time) parts ≡ None
+head_none : (time : ℕ) (sender : Sender) (transactional : Bool) (parts : List Parts) → 0 < length parts → asked_size (fields_at time sender transactional) parts ≤ 2147483647 → time < 2 ^ 62 →
+    head_cause 2147483659 (fields_at time sender transactional) parts ≡ None
 unfolding head_cause
-head_none max time parts some fits few early =
+head_none time sender transactional parts some fits early =
     rw (
-      le-ltb max (asked_size (fields_at time) parts) fits,
-      le-ltb 2147483659 (asked_size (fields_at time) parts) (omega (arith, fits, few)),
+      le-ltb 2147483659 (asked_size (fields_at time sender transactional) parts) (omega (arith, fits)),
       ne_eqb (length parts) 0 (λ e. omega (arith, e, some)),
       lt-ltb time (2 ^ 62) early,
     ) refl
 
-middle_none : (time : ℕ) (parts : List Parts) → list_all (λ p. nat_lt p.timestamp (2 ^ 62)) parts ≡ true → middle_cause (fields_at time) parts ≡ None
-unfolding middle_cause
-middle_none time parts times = rw (times) refl
-
-marker_none : (time : ℕ) (parts : List Parts) → marker_cause (fields_at time) parts ≡ None
+marker_none : (time : ℕ) (sender : Sender) (transactional : Bool) (parts : List Parts) → marker_cause (fields_at time sender transactional) parts ≡ None
 unfolding marker_cause
-marker_none time parts = refl
+marker_none time sender transactional parts = refl
 
-pub no_cause : (time : ℕ) (values : List (List ℕ)) (parts : List Parts) → map record_made parts ≡ map (plain_record time) values → 0 < length values → time < 2 ^ 62 →
-    61 + length (records_spelling time 0 (map (plain_record time) values)) ≤ 2147483647 → build_cause 2147483647 (fields_at time) parts ≡ None
-no_cause time values parts e some early fits =
+pub no_cause : (time : ℕ) (sender : Sender) (transactional : Bool) (values : List (List ℕ)) (parts : List Parts) → map record_made parts ≡ map (plain_record time) values → 0 < length values → time < 2 ^ 62 →
+    61 + length (records_spelling time 0 (map (plain_record time) values)) ≤ 2147483647 → spell_cause (fields_at time sender transactional) parts ≡ None
+no_cause time sender transactional values parts e some early fits =
     let count : length parts ≡ length values = sym (length-map parts record_made) ∙ ap length e ∙ length-map values (plain_record time) in
     let size = ap (λ (rs : List Record). 61 + length (records_spelling time 0 rs)) e in
-    let head = head_none 2147483647 time parts (omega (arith, count, some)) (omega (arith, size, fits)) (omega arith) early in
-    rw (head, middle_none time parts (are_early time values parts e early), no_keys time 0 61 time values parts e, marker_none time parts) refl
+    let head = head_none time sender transactional parts (omega (arith, count, some)) (omega (arith, size, fits)) early in
+    rw (head, are_early time values parts e early, no_keys time 0 61 time values parts e, marker_none time sender transactional parts) refl
 
--- ---- what is built
+-- ---- what is spelled
 
-plain_is : (time : ℕ) (c : Content) → attributes c ≡ 0 → producer_of c ≡ None → c ≡ Plain (contents time c)
+-- the content of an asked batch of no producer
+pub plain_is : (time : ℕ) (c : Content) → attributes c ≡ 0 → producer_of c ≡ None → c ≡ Plain (contents time c)
 plain_is time (Plain records) a p = refl
 plain_is time (Produced producer epoch sequence transactional records) a p = absurd cc
 plain_is time (Marker producer epoch coordinator commit) a p = absurd (omega (arith, a))
 
-pub built_is : (time : ℕ) (values : List (List ℕ)) (parts : List Parts) (b : Body) → map record_made parts ≡ map (plain_record time) values → IsMade (fields_at time) parts b →
-    b ≡ values_body time values
-built_is time values parts b e made =
-    let content : b.content ≡ Plain (map (plain_record time) values) =
-    plain_is b.base_time b.content made.attributes_are made.producer ∙ ap Plain (made.records ∙ e) in
-    ap (λ (c : Content). let x : Body = record { base_time = b.base_time; content = c } in x) content
-    ∙ ap (λ (t : ℕ). let x : Body = record { base_time = t; content = Plain (map (plain_record time) values) } in x) made.base_time
+-- the content of an asked batch of a producer
+pub produced_is : (time : ℕ) (c : Content) (p e s : ℕ) → attributes c ≡ 0 → producer_of c ≡ Some p → producer_epoch_of c ≡ Some e → sequence_of c ≡ Some s → c ≡ Produced p e s false (contents time c)
+produced_is time (Plain records) p e s a x y z = absurd cc
+produced_is time (Produced producer epoch sequence true records) p e s a x y z = absurd (omega (arith, a))
+produced_is time (Produced producer epoch sequence false records) p e s a x y z = cc
+produced_is time (Marker producer epoch coordinator commit) p e s a x y z = absurd (omega (arith, a))
+
+-- an asked batch of a transaction
+pub transactional_is : (c : Content) → attributes c ≡ 16 → is_transactional c ≡ true
+transactional_is (Plain records) a = absurd (omega (arith, a))
+transactional_is (Produced producer epoch sequence true records) a = refl
+transactional_is (Produced producer epoch sequence false records) a = absurd (omega (arith, a))
+transactional_is (Marker producer epoch coordinator commit) a = absurd (omega (arith, a))
+
+-- a body is its time and its content
+pub body_is : (b : Body) (time : ℕ) (content : Content) → b.base_time ≡ time → b.content ≡ content → b ≡ body_at time content
+body_is b time content first second = ap (λ (t : ℕ). body_at t b.content) first ∙ ap (body_at time) second

@@ -8,6 +8,7 @@ pub mod Telling
 pub mod Refusing
 pub mod HexLaws
 pub mod Values
+pub mod Senders
 pub mod Spelling
 pub mod Sizes
 pub mod Offers

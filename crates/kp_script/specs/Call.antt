@@ -1,15 +1,21 @@
 -- What a line of a script says, and how it is written: words with one space between each two.
-use Rattle.std.specs.Prelude.{◌≡◌, ◌≢◌, ℕ, ◌<◌, ◌≤◌, ◌^◌, ◌&&◌, ◌==◌, Bool, not, nat_le, IsTrue, List, [], ◌∷◌, length, codes}
+use Rattle.std.specs.Prelude.{◌≡◌, ◌≢◌, ℕ, ◌<◌, ◌≤◌, ◌^◌, ◌&&◌, ◌==◌, Bool, true, false, not, nat_le, IsTrue, List, [], ◌∷◌, length, Option, Some, None, IfSome, codes}
 use Rattle.std.specs.List.{join_with_byte, list_all, slice_split}
 use Rattle.std.specs.Fmt.{decimal}
 use Rattle.kp_record.specs.Record.{AreBytes}
 use Rattle.kp_script.specs.Hex.{hex_text}
 
+-- What an append says of its producer: who, in which epoch, and with which first sequence number (KIP-98). None is -1.
+pub record Sender : Type 0 where
+  pub producer : Option ℕ
+  pub epoch : Option ℕ
+  pub sequence : Option ℕ
+
 -- what an event's line asks of a node
 pub data Call : Type 0 where
   Elect : (node : ℕ) → Call
   Adopt : (node : ℕ) → Call
-  Append : (node time : ℕ) → (values : List (List ℕ)) → Call
+  Append : (node time : ℕ) → (sender : Sender) → (transactional : Bool) → (values : List (List ℕ)) → Call
   Raw : (node : ℕ) → (bytes : List ℕ) → Call
   Raise : (node : ℕ) → Call
   Show : (node : ℕ) → Call
@@ -19,7 +25,7 @@ pub data Call : Type 0 where
 abbrev pub node_of : Call → ℕ
 node_of (Elect node) = node
 node_of (Adopt node) = node
-node_of (Append node time values) = node
+node_of (Append node time sender transactional values) = node
 node_of (Raw node bytes) = node
 node_of (Raise node) = node
 node_of (Show node) = node
@@ -43,6 +49,16 @@ values_text values = join_with_byte 44 values
 abbrev pub pieces : List ℕ → List (List ℕ)
 pieces text = slice_split (λ byte. byte == 44) text
 
+-- a producer field: -1, or a number
+abbrev pub signed_text : Option ℕ → List ℕ
+signed_text None = codes "-1"
+signed_text (Some n) = decimal n
+
+-- data of a transaction, or other data
+abbrev pub kind_text : (transactional : Bool) → List ℕ
+kind_text true = codes "t"
+kind_text false = codes "d"
+
 abbrev pub header_text : Header → List ℕ
 header_text header =
     spaced (codes "nodes" ∷ decimal header.count ∷ codes "segment" ∷ decimal header.segment ∷ codes "interval" ∷ decimal header.interval ∷ [])
@@ -50,8 +66,8 @@ header_text header =
 abbrev pub call_text : Call → List ℕ
 call_text (Elect node) = spaced (codes "elect" ∷ decimal node ∷ [])
 call_text (Adopt node) = spaced (codes "adopt" ∷ decimal node ∷ [])
-call_text (Append node time values) =
-    spaced (codes "append" ∷ decimal node ∷ decimal time ∷ codes "-1 -1 -1 d" ∷ values_text values ∷ [])
+call_text (Append node time sender transactional values) =
+    spaced (codes "append" ∷ decimal node ∷ decimal time ∷ signed_text sender.producer ∷ signed_text sender.epoch ∷ signed_text sender.sequence ∷ kind_text transactional ∷ values_text values ∷ [])
 call_text (Raw node bytes) = spaced (codes "raw" ∷ decimal node ∷ hex_text bytes ∷ [])
 call_text (Raise node) = spaced (codes "raise" ∷ decimal node ∷ [])
 call_text (Show node) = spaced (codes "show" ∷ decimal node ∷ [])
@@ -72,13 +88,19 @@ pub record IsHeader (header : Header) : Type 0 where
   pub greatest_segment : header.segment ≤ 1073741824
   pub interval : header.interval ≤ 1048576
 
+-- A producer's fields are in range.
+pub record IsSender (sender : Sender) : Type 0 where
+  pub producer : IfSome sender.producer (λ producer. producer < 2 ^ 63)
+  pub epoch : IfSome sender.epoch (λ epoch. epoch < 2 ^ 15)
+  pub sequence : IfSome sender.sequence (λ sequence. sequence < 2 ^ 31)
+
 -- A call's numbers, its values and its bytes are in range where there are so many nodes. Times and offsets are
 -- below 2 ^ 62. There is a value, or a byte.
 abbrev pub IsCallInRange : (count : ℕ) → Call → Type 0
 IsCallInRange count (Elect node) = node < count
 IsCallInRange count (Adopt node) = node < count
-IsCallInRange count (Append node time values) =
-    (node < count) × (time < 2 ^ 62) × (0 < length values) × IsTrue (list_all is_value values)
+IsCallInRange count (Append node time sender transactional values) =
+    (node < count) × (time < 2 ^ 62) × IsSender sender × (0 < length values) × IsTrue (list_all is_value values)
 IsCallInRange count (Raw node bytes) = (node < count) × (0 < length bytes) × AreBytes bytes
 IsCallInRange count (Raise node) = node < count
 IsCallInRange count (Show node) = node < count

@@ -1,16 +1,22 @@
 -- Words of the readers' contracts.
-use Rattle.std.specs.Prelude.{◌≢◌, ℕ, List}
+use Rattle.std.specs.Prelude.{◌≢◌, ℕ, Bool, List, [], ◌∷◌}
 use Rattle.std.specs.List.{AllByRecursion}
-use Rattle.kp_script.specs.Call.{Append, Raw, Read, call_text, IsCall}
+use Rattle.kp_script.specs.Call.{Sender, Append, Raw, Read, spaced, signed_text, call_text, IsCall}
 
 -- No byte is this one.
 abbrev pub Lacks : ℕ → List ℕ → Type 0
 Lacks byte bytes = AllByRecursion (λ x. x ≢ byte) bytes
 
+-- the three fields of a producer in front of other bytes, with one space between each two
+abbrev pub sender_front : Sender → List ℕ → List ℕ
+sender_front sender rest =
+    spaced (signed_text sender.producer ∷ signed_text sender.epoch ∷ signed_text sender.sequence ∷ rest ∷ [])
+
 -- The bytes are not the text of an append in range.
 abbrev pub SpellsNoAppend : (count : ℕ) → List ℕ → Type 0
 SpellsNoAppend count bytes =
-    (node time : ℕ) (values : List (List ℕ)) → IsCall count (Append node time values) → bytes ≢ call_text (Append node time values)
+    (node time : ℕ) (sender : Sender) (transactional : Bool) (values : List (List ℕ)) →
+    IsCall count (Append node time sender transactional values) → bytes ≢ call_text (Append node time sender transactional values)
 
 -- The bytes are not the text of a call in range that hands in raw bytes.
 abbrev pub SpellsNoRaw : (count : ℕ) → List ℕ → Type 0

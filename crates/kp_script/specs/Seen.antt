@@ -1,10 +1,11 @@
 -- What the parser's values say, apart from where they lie in memory.
 use Rattle.std.specs.Prelude.{ℕ, map}
-use Rattle.kp_script.specs.Call.{Call, Header, Elect, Adopt, Append, Raw, Raise, Show, Read, pieces}
+use Rattle.kp_script.specs.Call.{Call, Header, Sender, Elect, Adopt, Append, Raw, Raise, Show, Read, pieces}
 use Rattle.kp_script.specs.Hex.{bytes_of}
 use Rattle.kp_script.specs.declared.call.Call.{Call as ParsedCall}
 use Rattle.kp_script.specs.declared.call.Call.TheVariants as parsed
 use Rattle.kp_script.specs.declared.call.Header.{Header as ParsedHeader}
+use Rattle.kp_script.specs.declared.call.Sender.{Sender as ParsedSender}
 use Rattle.kp_script.specs.Script.{Script}
 use Rattle.kp_script.specs.declared.script.Line.{Line as ParsedLine}
 use Rattle.kp_script.specs.declared.script.Script.{Script as ParsedScript}
@@ -12,10 +13,13 @@ use Rattle.kp_script.specs.declared.script.Script.{Script as ParsedScript}
 abbrev pub seen_header : ParsedHeader → Header
 seen_header header = record { count = header.count; segment = header.segment; interval = header.interval }
 
+abbrev pub seen_sender : ParsedSender → Sender
+seen_sender sender = record { producer = sender.producer; epoch = sender.epoch; sequence = sender.sequence }
+
 abbrev pub seen_call : ParsedCall → Call
 seen_call (parsed.Elect node) = Elect node
 seen_call (parsed.Adopt node) = Adopt node
-seen_call (parsed.Append node time values) = Append node time (pieces values.now)
+seen_call (parsed.Append node time sender transactional values) = Append node time (seen_sender sender) transactional (pieces values.now)
 seen_call (parsed.Raw node digits) = Raw node (bytes_of digits.now)
 seen_call (parsed.Raise node) = Raise node
 seen_call (parsed.Show node) = Show node

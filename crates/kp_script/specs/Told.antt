@@ -1,33 +1,48 @@
 -- The events that a script tells.
-use Rattle.std.specs.Prelude.{◌≡◌, ℕ, nat_le, List, [], ◌∷◌, map, Some, None, Result, Ok, Err, if◌then◌else◌}
+use Rattle.std.specs.Prelude.{◌≡◌, ℕ, ◌+◌, Bool, false, nat_lt, List, [], ◌∷◌, length, map, Option, Some, None, Result, Err, if◌then◌else◌}
+use Rattle.std.specs.Option.{ok_or, option_map}
 use Rattle.kp_types.specs.declared.refusal.Refusal.{Refusal}
-use Rattle.kp_types.specs.declared.refusal.Refusal.TheVariants.{TooLarge}
-use Rattle.kp_record.specs.Record.{Record}
-use Rattle.kp_batch.specs.Batch.{Plain, Body, size_of}
+use Rattle.kp_types.specs.declared.refusal.Refusal.TheVariants.{TooLarge, BadProducerFields}
+use Rattle.kp_record.specs.Record.{Record, records_spelling}
+use Rattle.kp_batch.specs.Batch.{Content, Plain, Produced, Body}
 use Rattle.kp_model.specs.Event.{Event, Elect as ElectNode, Acts, Adopt as AdoptRecord, Produce, Raise as RaiseMark, Show as ShowState, Read as ReadFrom}
 use Rattle.kp_replica.specs.Replies.{IsOffer}
 use Rattle.kp_world.specs.Events.{IsEvent, AreEvents}
 use Rattle.kp_world.specs.declared.event.Event.{Event as CodeEvent}
-use Rattle.kp_script.specs.Call.{Call, Elect, Adopt, Append, Raw, Raise, Show, Read}
+use Rattle.kp_script.specs.Call.{Call, Sender, Elect, Adopt, Append, Raw, Raise, Show, Read}
 
 -- a record that has a value alone
 abbrev pub plain_record : (time : ℕ) → List ℕ → Record
 plain_record time value = record { time = time; key = None; value = Some value; headers = [] }
 
--- a batch of no producer, with a record for each value: each at this time
-abbrev pub values_body : (time : ℕ) → List (List ℕ) → Body
-values_body time values = record { base_time = time; content = Plain (map (plain_record time) values) }
+-- The content that a producer's fields and the kind of a batch say, where they agree (KIP-98). A transaction's batch
+-- is none of this stage: a replica refuses it as fields that don't agree.
+abbrev pub said_of : (producer epoch sequence : Option ℕ) → (transactional : Bool) → List Record → Option Content
+said_of None None None false records = Some (Plain records)
+said_of (Some producer) (Some epoch) (Some sequence) false records = Some (Produced producer epoch sequence false records)
+said_of _ _ _ _ records = None
 
--- what a client hands in: the batch, or its fault where it has more than so many bytes
-abbrev pub offer_of : (max : ℕ) → Body → Result Body Refusal
-offer_of max body = if nat_le (size_of body) max then Ok body else Err TooLarge
+abbrev pub said : Sender → (transactional : Bool) → List Record → Option Content
+said sender transactional records = said_of sender.producer sender.epoch sender.sequence transactional records
+
+abbrev pub body_at : (time : ℕ) → Content → Body
+body_at time content = record { base_time = time; content = content }
+
+-- What a client hands in, each record at this time: the batch that the fields say, or its fault where they don't agree,
+-- or where it has more than so many bytes.
+abbrev pub offer_of : (max time : ℕ) → Sender → (transactional : Bool) → List (List ℕ) → Result Body Refusal
+offer_of max time sender transactional values =
+    let records : List Record = map (plain_record time) values in
+    if nat_lt max (61 + length (records_spelling time 0 records)) then Err TooLarge else
+    ok_or (option_map (body_at time) (said sender transactional records)) BadProducerFields
 
 -- The call tells this event, where batches have at most so many bytes. Raw bytes hand in the batch that they
 -- spell, or the first fault of them.
 abbrev pub IsTold : (max : ℕ) → Call → Event → Type 0
 IsTold max (Elect node) e = e ≡ ElectNode node
 IsTold max (Adopt node) e = e ≡ Acts node AdoptRecord
-IsTold max (Append node time values) e = e ≡ Acts node (Produce (offer_of max (values_body time values)))
+IsTold max (Append node time sender transactional values) e =
+    e ≡ Acts node (Produce (offer_of max time sender transactional values))
 IsTold max (Raw node bytes) e =
     (offer : Result Body Refusal) × IsOffer max bytes offer × (e ≡ Acts node (Produce offer))
 IsTold max (Raise node) e = e ≡ Acts node RaiseMark

@@ -1,14 +1,14 @@
 //! The header and the calls, and the readers of their lines.
 
-ghost use Rattle.std.specs.Prelude.{◌≡◌, ◌≤◌, length, IfSome, IfNone};
-ghost use Rattle.kp_script.specs.Call.{is_value, is_value_byte, pieces, IsHeaderText, IsCallText, SpellsNoHeader, SpellsNoCall, HasOneCall};
+ghost use Rattle.std.specs.Prelude.{◌≡◌, ◌≢◌, ℕ, Bool, List, ◌∷◌, ◌++◌, ◌≤◌, length, IfSome, IfNone};
+ghost use Rattle.kp_script.specs.Call.{is_value, is_value_byte, kind_text, pieces, Sender as SpelledSender, IsSender, IsHeaderText, IsCallText, SpellsNoHeader, SpellsNoCall, HasOneCall};
 ghost use Rattle.std.specs.List.{list_all};
-ghost use Rattle.kp_script.specs.Read.{SpellsNoAppend, SpellsNoRaw, SpellsNoRead};
-ghost use Rattle.kp_script.specs.Seen.{seen_header, seen_call};
+ghost use Rattle.kp_script.specs.Read.{sender_front, SpellsNoAppend, SpellsNoRaw, SpellsNoRead};
+ghost use Rattle.kp_script.specs.Seen.{seen_header, seen_sender, seen_call};
 
 use crate::hex::is_hex;
 use crate::lines::LONGEST_LINE;
-use crate::words::{after, field_then, last_field, number_below, number_then};
+use crate::words::{after, field_then, last_field, number_below, number_then, signed_then};
 use kp_types::{
     GREATEST_OFFSET, GREATEST_SEGMENT_BYTES, LEAST_SEGMENT_BYTES, MAX_INDEX_INTERVAL, NodeId,
     Offset,
@@ -18,6 +18,12 @@ use kp_types::{
 pub const GREATEST_TIME: u64 = 4_611_686_018_427_387_903;
 /// How many nodes there are.
 const NODES: u64 = 1;
+/// The greatest number of a producer, 2^63 - 1.
+const GREATEST_PRODUCER: u64 = 9_223_372_036_854_775_807;
+/// The greatest epoch of a producer, 2^15 - 1.
+const GREATEST_PRODUCER_EPOCH: u64 = 32_767;
+/// The greatest sequence number of a producer, 2^31 - 1.
+const GREATEST_SEQUENCE: u64 = 2_147_483_647;
 
 /// How many nodes there are, and the limits of their segments and indexes.
 #[derive(Clone, Copy, Debug, PartialEq, Eq)]
@@ -28,6 +34,17 @@ pub struct Header {
     pub segment: u32,
     /// How many bytes lie between two entries of an index.
     pub interval: u32,
+}
+
+/// What an append says of its producer (KIP-98). Each field may be absent without the others.
+#[derive(Clone, Copy, Debug, PartialEq, Eq)]
+pub struct Sender {
+    /// The producer, below 2^63.
+    pub producer: Option<u64>,
+    /// The producer's epoch, below 2^15.
+    pub epoch: Option<u16>,
+    /// The producer's sequence number of the first record, below 2^31.
+    pub sequence: Option<u32>,
 }
 
 /// What an event's line asks of a node.
@@ -46,6 +63,10 @@ pub enum Call<'a> {
     Append {
         node: NodeId,
         time: u64,
+        /// What the batch says of its producer, whether or not that agrees with the kind.
+        sender: Sender,
+        /// Whether the batch is of a transaction.
+        transactional: bool,
         values: &'a [u8],
     },
     /// A client hands the node the bytes that these hexadecimal digits spell.
@@ -140,6 +161,44 @@ fn are_values(values: &[u8]) -> bool
     values.split(|byte| *byte == b',').all(is_value)
 }
 
+/// The three fields of a producer, each in front of a space, and what follows them.
+fn sender_then(bytes: &[u8]) -> Option<(Sender, &[u8])>
+    ensures found { IfSome result
+        (λ found. (bytes.now ≡ sender_front (seen_sender found.0) found.1.now) × IsSender (seen_sender found.0)) }
+    ensures none { IfNone result
+        ((sender : SpelledSender) (rest : List ℕ) → IsSender sender → bytes.now ≢ sender_front sender rest) }
+{
+    let Some((producer, rest)) = signed_then(bytes, GREATEST_PRODUCER + 1) else {
+        return None;
+    };
+    let Some((epoch, rest)) = signed_then(rest, GREATEST_PRODUCER_EPOCH + 1) else {
+        return None;
+    };
+    let Some((sequence, rest)) = signed_then(rest, GREATEST_SEQUENCE + 1) else {
+        return None;
+    };
+    let sender = Sender {
+        producer,
+        epoch: epoch.map(|epoch| epoch as u16),
+        sequence: sequence.map(|sequence| sequence as u32),
+    };
+    Some((sender, rest))
+}
+
+/// The kind of a batch, `t` of a transaction or `d`, in front of a space, and what follows the space.
+fn kind_then(bytes: &[u8]) -> Option<(bool, &[u8])>
+    ensures found { IfSome result (λ found. bytes.now ≡ kind_text found.0 ++ 32 ∷ found.1.now) }
+    ensures none { IfNone result ((transactional : Bool) (rest : List ℕ) → bytes.now ≢ kind_text transactional ++ 32 ∷ rest) }
+{
+    if let Some(rest) = after(b"d ", bytes) {
+        return Some((false, rest));
+    }
+    match after(b"t ", bytes) {
+        Some(rest) => Some((true, rest)),
+        None => None,
+    }
+}
+
 /// The append that the whole line spells.
 fn append_of(line: &[u8], count: NodeId) -> Option<Call<'_>>
     requires short { length line.now ≤ 2100000 }
@@ -152,7 +211,10 @@ fn append_of(line: &[u8], count: NodeId) -> Option<Call<'_>>
     let Some((time, rest)) = number_then(rest, GREATEST_TIME + 1) else {
         return None;
     };
-    let Some(values) = after(b"-1 -1 -1 d ", rest) else {
+    let Some((sender, rest)) = sender_then(rest) else {
+        return None;
+    };
+    let Some((transactional, values)) = kind_then(rest) else {
         return None;
     };
     if !are_values(values) {
@@ -161,6 +223,8 @@ fn append_of(line: &[u8], count: NodeId) -> Option<Call<'_>>
     Some(Call::Append {
         node: node as NodeId,
         time,
+        sender,
+        transactional,
         values,
     })
 }

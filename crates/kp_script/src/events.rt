@@ -5,17 +5,17 @@ ghost use Rattle.std.specs.List.{AllByRecursion};
 ghost use Rattle.kp_types.specs.declared.refusal.Refusal.TheVariants.{Memory};
 ghost use Rattle.kp_record.specs.Made.{record_made};
 ghost use Rattle.kp_world.specs.Events.{node_of};
-ghost use Rattle.kp_script.specs.Call.{Append, Raw, IsCall, pieces};
+ghost use Rattle.kp_script.specs.Call.{Append, Raw, IsCall, IsSender, pieces};
 ghost use Rattle.kp_script.specs.Hex.{bytes_of};
 ghost use Rattle.kp_script.specs.Told.{plain_record, Tells, TellsAll};
-ghost use Rattle.kp_script.specs.Seen.{seen_call, seen_line};
+ghost use Rattle.kp_script.specs.Seen.{seen_call, seen_line, seen_sender};
 
-use crate::call::Call;
+use crate::call::{Call, Sender};
 use crate::hex::bytes_of;
 use crate::script::Line;
 use bytes::Bytes;
-use kp_batch::{Batch, Fields, Parts};
-use kp_types::{GREATEST_SEGMENT_BYTES, Limits, MAX_INDEX_INTERVAL, NodeId, Refusal};
+use kp_batch::{Fields, Parts, spell};
+use kp_types::{NodeId, Refusal};
 use kp_world::Event;
 use std::alloc::{AllocError, Global};
 
@@ -36,33 +36,35 @@ fn parts_of<'a>(alloc: Global, time: u64, values: &'a [u8]) -> Result<Vec<Parts<
 }
 
 /// A batch with a record for each piece between the commas, each at this time in milliseconds, handed to the node.
-/// It is built whatever its size: a node refuses it above its own limit. Takes time and memory proportional to the
-/// bytes, and is refused only where memory runs out.
-fn append_event(alloc: Global, node: NodeId, time: u64, values: &[u8]) -> Result<Event, Refusal>
+/// What it says of its producer and its kind need not agree, and it has any size: a node refuses what doesn't agree, and
+/// what is above its own limit. Takes time and memory proportional to the bytes, and is refused only where memory runs
+/// out.
+fn append_event(
+    alloc: Global,
+    node: NodeId,
+    time: u64,
+    sender: Sender,
+    transactional: bool,
+    values: &[u8],
+) -> Result<Event, Refusal>
     requires early { time < 2 ^ 62 }
+    requires sender { IsSender (seen_sender sender) }
     requires short { length values.now ≤ 2100000 }
-    ensures told { IfOk result (λ event. (max : ℕ) → Tells max (Append node time (pieces values.now)) event) }
+    ensures told { IfOk result
+        (λ event. (max : ℕ) → Tells max (Append node time (seen_sender sender) transactional (pieces values.now)) event) }
     ensures node { IfOk result (λ event. node_of event ≡ node) }
     ensures only { IfErr result (λ refusal. refusal ≡ Memory) }
 {
-    let limits = Limits {
-        segment_bytes: GREATEST_SEGMENT_BYTES,
-        index_interval: MAX_INDEX_INTERVAL,
-        max_batch: 2_147_483_647,
-    };
     let fields = Fields {
         base_timestamp: time,
-        producer_id: None,
-        producer_epoch: None,
-        base_sequence: None,
-        transactional: false,
+        producer_id: sender.producer,
+        producer_epoch: sender.epoch,
+        base_sequence: sender.sequence,
+        transactional,
         control: false,
     };
     let parts = parts_of(alloc, time, values)?;
-    let batch = Batch::build(alloc, &fields, &parts, &limits)?;
-    let mut bytes = Vec::new(alloc);
-    batch.write(&mut bytes)?;
-    let bytes = Bytes::from_vec(bytes)?;
+    let bytes = Bytes::from_vec(spell(alloc, &fields, &parts)?)?;
     Ok(Event::Produce { node, bytes })
 }
 
@@ -89,7 +91,13 @@ fn event_of(alloc: Global, call: &Call<'_>, count: NodeId) -> Result<Event, Refu
     match *call {
         Call::Elect { node } => Ok(Event::Elect { node }),
         Call::Adopt { node } => Ok(Event::Adopt { node }),
-        Call::Append { node, time, values } => append_event(alloc, node, time, values),
+        Call::Append {
+            node,
+            time,
+            sender,
+            transactional,
+            values,
+        } => append_event(alloc, node, time, sender, transactional, values),
         Call::Raw { node, digits } => raw_event(alloc, node, digits),
         Call::Raise { node } => Ok(Event::Raise { node }),
         Call::Show { node } => Ok(Event::Show { node }),

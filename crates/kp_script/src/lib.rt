@@ -12,7 +12,7 @@ mod script;
 mod trace;
 mod words;
 
-pub use call::{Call, GREATEST_TIME, Header, lines_say_one_call};
+pub use call::{Call, GREATEST_TIME, Header, Sender, lines_say_one_call};
 pub use lines::LONGEST_LINE;
 pub use run::run_script;
 pub use script::{Line, MOST_EVENTS, Script, parse};

@@ -2,10 +2,18 @@ use super::*;
 use crate::hex::bytes_of;
 use kp_types::{Counted, Refusal};
 use std::alloc::{AllocError, Global};
+use std::process::Abort;
 use std::test::Fail;
 
 const LAWFUL: &str =
     "nodes 1 segment 1024 interval 0\nelect 0\nadopt 0\nappend 0 1000 -1 -1 -1 d a\nread 0 0\nraise 0\nread 0 0\nshow 0";
+
+/// What an append says that has no producer.
+pub(crate) const NO_SENDER: Sender = Sender {
+    producer: None,
+    epoch: None,
+    sequence: None,
+};
 
 /// The line that a script is refused for, or 0 where it is not refused for a line.
 fn fault_line(alloc: Global, text: &str) -> u64 {
@@ -42,6 +50,8 @@ fn a_script_is_read(rt: HostRuntime) -> Result<(), Fail> {
                 call: Call::Append {
                     node: 0,
                     time: 1000,
+                    sender: NO_SENDER,
+                    transactional: false,
                     values: b"a",
                 },
             },
@@ -143,8 +153,6 @@ fn faulty_lines(rt: HostRuntime) -> Result<(), Fail> {
         "append 0 0 -1 -1 -1 d a b",
         "append 0 0 -1 -1 -1 d a,b ",
         "append 0 0 -1 -1 -1 d a\u{7f}",
-        "append 0 0 -1 -1 0 d a",
-        "append 0 0 -1 -1 -1 t a",
         "raw",
         "raw 0",
         "raw 0 ",
@@ -185,6 +193,78 @@ fn faulty_lines(rt: HostRuntime) -> Result<(), Fail> {
     Ok(())
 }
 
+#[test]
+fn faulty_senders(rt: HostRuntime) -> Result<(), Fail> {
+    for bad in [
+        "append 0 0 9223372036854775808 0 0 d a",
+        "append 0 0 18446744073709551616 0 0 d a",
+        "append 0 0 9 32768 0 d a",
+        "append 0 0 9 65536 0 d a",
+        "append 0 0 9 0 2147483648 d a",
+        "append 0 0 9 0 4294967296 d a",
+        "append 0 0 -0 -1 -1 d a",
+        "append 0 0 -2 -1 -1 d a",
+        "append 0 0 -1 -2 -1 d a",
+        "append 0 0 -1 -1 -2 d a",
+        "append 0 0 +1 0 0 d a",
+        "append 0 0 01 0 0 d a",
+        "append 0 0 9 00 0 d a",
+        "append 0 0 --1 -1 -1 d a",
+        "append 0 0 -1-1 -1 -1 d a",
+        "append 0 0 - -1 -1 d a",
+        "append 0 0 -1  -1 -1 d a",
+        "append 0 0 -1 -1 d a",
+        "append 0 0 -1 -1 -1 -1 d a",
+        "append 0 0 9 0 0 x a",
+        "append 0 0 9 0 0 D a",
+        "append 0 0 9 0 0 dt a",
+        "append 0 0 9 0 0  a",
+        "append 0 0 9 0 0 a",
+    ] {
+        let text = format!(in rt.alloc(); "{LAWFUL}\n{bad}\nshow 0\n")?;
+        assert_eq!(rt; fault_line(rt.alloc(), text.as_str()), 9, "in {bad:?}");
+    }
+    Ok(())
+}
+
+#[test]
+fn senders_are_read(rt: HostRuntime) -> Result<(), Fail> {
+    for (fields, producer, epoch, sequence, transactional) in [
+        (
+            "9223372036854775807 32767 2147483647 d",
+            Some(9_223_372_036_854_775_807),
+            Some(32_767),
+            Some(2_147_483_647),
+            false,
+        ),
+        ("9 0 0 t", Some(9), Some(0), Some(0), true),
+        ("-1 0 5 d", None, Some(0), Some(5), false),
+        ("0 -1 -1 d", Some(0), None, None, false),
+        ("-1 -1 -1 t", None, None, None, true),
+    ] {
+        let text = format!(in rt.alloc();
+            "nodes 1 segment 1024 interval 0\nappend 0 0 {fields} a"
+        )?;
+        let script = parse(rt.alloc(), text.as_bytes())?;
+        let want = Line {
+            number: 2,
+            call: Call::Append {
+                node: 0,
+                time: 0,
+                sender: Sender {
+                    producer,
+                    epoch,
+                    sequence,
+                },
+                transactional,
+                values: b"a",
+            },
+        };
+        assert_eq!(rt; script.lines.as_slice(), [want].as_slice(), "in {fields:?}");
+    }
+    Ok(())
+}
+
 /// A script of one append of a value of so many bytes.
 fn append_of_length(alloc: Global, length: usize) -> Result<String, AllocError> {
     let mut text = String::from_str(
@@ -210,7 +290,7 @@ fn a_long_value(rt: HostRuntime) -> Result<(), Fail> {
 
 #[test]
 fn values_and_raw_bytes_are_read(rt: HostRuntime) -> Result<(), Fail> {
-    let text = "nodes 1 segment 1024 interval 0\nappend 0 7 -1 -1 -1 d a,bc,!~\nraw 0 00ff1a\n";
+    let text = "nodes 1 segment 1024 interval 0\nappend 0 7 5 -1 12 t a,bc,!~\nraw 0 00ff1a\n";
     let script = parse(rt.alloc(), text.as_bytes())?;
     let want = [
         Line {
@@ -218,6 +298,12 @@ fn values_and_raw_bytes_are_read(rt: HostRuntime) -> Result<(), Fail> {
             call: Call::Append {
                 node: 0,
                 time: 7,
+                sender: Sender {
+                    producer: Some(5),
+                    epoch: None,
+                    sequence: Some(12),
+                },
+                transactional: true,
                 values: b"a,bc,!~",
             },
         },
@@ -246,6 +332,22 @@ fn digits_spell_bytes(rt: HostRuntime) -> Result<(), Fail> {
     Ok(())
 }
 
+/// Runs the script: what it writes is this trace, and so many of its events are refused.
+fn traces(
+    rt: &impl Abort,
+    alloc: Global,
+    script: &str,
+    trace: &str,
+    refusals: u64,
+) -> Result<(), Fail> {
+    let mut reader = Counted::new(script.as_bytes());
+    let mut writer = Counted::new(Vec::new(alloc));
+    let refused = run_script(alloc, &mut reader, &mut writer)?;
+    assert_eq!(rt; writer.inner.as_slice(), trace.as_bytes());
+    assert_eq!(rt; refused, refusals);
+    Ok(())
+}
+
 // The batch of one record, of the value `a` and the time 1000; its checksum is of another program.
 #[test]
 fn raw_bytes_are_handed_in(rt: HostRuntime) -> Result<(), Fail> {
@@ -265,10 +367,77 @@ read 0 0
 6 mark 1
 7 read 1 0=61
 ";
-    let mut reader = Counted::new(script.as_bytes());
-    let mut writer = Counted::new(Vec::new(rt.alloc()));
-    let refused = run_script(rt.alloc(), &mut reader, &mut writer)?;
-    assert_eq!(rt; writer.inner.as_slice(), trace.as_bytes());
-    assert_eq!(rt; refused, 1);
-    Ok(())
+    traces(&rt, rt.alloc(), script, trace, 1)
+}
+
+#[test]
+fn a_batch_that_is_sent_again(rt: HostRuntime) -> Result<(), Fail> {
+    let script = "nodes 1 segment 1024 interval 0
+elect 0
+adopt 0
+append 0 1000 9 0 0 d a
+append 0 1000 9 0 0 d a
+append 0 1000 9 0 2 d a
+show 0
+raise 0
+read 0 0
+";
+    let trace = "2 record leader 0 epoch 0 isr 0 version 1
+3 leads epoch 0 from 0
+4 at 0
+5 duplicate 0
+6 F12 OutOfOrderSequence
+7 node 0 life 0 end 1 mark 0 stable 0
+8 mark 1
+9 read 1 0=61
+";
+    traces(&rt, rt.alloc(), script, trace, 1)
+}
+
+#[test]
+fn a_producer_and_its_next_epoch(rt: HostRuntime) -> Result<(), Fail> {
+    let script = "nodes 1 segment 1024 interval 0
+elect 0
+adopt 0
+append 0 10 9 0 1 d a
+append 0 10 9 0 0 d a,b
+append 0 10 9 0 0 d a
+append 0 10 9 0 0 d x,y
+append 0 10 9 1 2 d c
+append 0 10 9 1 0 d c
+append 0 10 9 0 2 d e
+append 0 10 9 1 0 d c
+";
+    let trace = "2 record leader 0 epoch 0 isr 0 version 1
+3 leads epoch 0 from 0
+4 F12 OutOfOrderSequence
+5 at 0
+6 F12 OutOfOrderSequence
+7 duplicate 0
+8 F12 OutOfOrderSequence
+9 at 2
+10 F11 InvalidProducerEpoch
+11 duplicate 2
+";
+    traces(&rt, rt.alloc(), script, trace, 4)
+}
+
+#[test]
+fn fields_that_do_not_agree(rt: HostRuntime) -> Result<(), Fail> {
+    let script = "nodes 1 segment 1024 interval 0
+elect 0
+append 0 10 9 -1 0 d a
+adopt 0
+append 0 10 9 -1 0 d a
+append 0 10 9 0 0 t a
+append 0 10 -1 -1 -1 t a
+";
+    let trace = "2 record leader 0 epoch 0 isr 0 version 1
+3 F15 NotLeader
+4 leads epoch 0 from 0
+5 F10 BadProducerFields
+6 F10 BadProducerFields
+7 F10 BadProducerFields
+";
+    traces(&rt, rt.alloc(), script, trace, 4)
 }

@@ -1,3 +1,4 @@
+use crate::tests::NO_SENDER;
 use crate::trace::push_outcome;
 use crate::{Call, Line, trace_text};
 use kp_replica::{Leader, NodeSet, Receipt, Record, Role};
@@ -41,6 +42,8 @@ fn a_trace(rt: HostRuntime) -> Result<(), Fail> {
             call: Call::Append {
                 node: 0,
                 time: 1000,
+                sender: NO_SENDER,
+                transactional: false,
                 values: b"a",
             },
         },

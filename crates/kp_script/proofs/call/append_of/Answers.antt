@@ -1,45 +1,61 @@
-use Rattle.std.proofs.Common.{◌≡◌, true, [], ◌++◌, sym, ap, ◌∙◌, arith, codes}
+use Rattle.std.proofs.Common.{◌≡◌, true, sym, ap, ◌∙◌, arith, codes}
 use Rattle.std.proofs.lemmas.Bool.{false≢true}
-use Rattle.std.proofs.lemmas.List.{append_cancel_left}
 use Rattle.std.specs.List.{list_all}
 use Rattle.kp_script.specs.Call.{Append, is_value, values_text, pieces}
+use Rattle.kp_script.specs.Seen.{seen_sender}
 use Rattle.kp_script.proofs.Numbers.{same_field}
-use Rattle.kp_script.proofs.Spelling.{is_text, append_spelled}
+use Rattle.kp_script.proofs.Senders.{same_sender, same_kind}
+use Rattle.kp_script.proofs.Spelling.{is_text, same_rest, append_spelled}
 use Rattle.kp_script.proofs.Values.{values_back, some_piece}
 use Rattle.kp_script.proofs.call.append_of.Goals as goal
 
 pub returns-in_default-number_then-clause-none : goal.returns-in_default-number_then-clause-none
-returns-in_default-number_then-clause-none c = λ node time values is e.
+returns-in_default-number_then-clause-none c = λ node time sender transactional values is e.
     let found = c.in-Some.ensures.found in
     let first = same_field (codes "append ") c.args.line.now c.in-Some.node node c.in-Some.rest.now _ (omega arith) (omega (arith, is.range.0)) found.0 e in
-    c.in_default-number_then.ensures.none time (codes "-1 -1 -1 d " ++ values_text values) is.range.1 first.1
+    c.in_default-number_then.ensures.none time _ is.range.1 first.1
 
-pub returns-in_default-after-clause-none : goal.returns-in_default-after-clause-none
-returns-in_default-after-clause-none c = λ node time values is e.
+pub returns-in_default-sender_then-clause-none : goal.returns-in_default-sender_then-clause-none
+returns-in_default-sender_then-clause-none c = λ node time sender transactional values is e.
     let found = c.in-Some.ensures.found in
-    let first = same_field (codes "append ") c.args.line.now c.in-Some.node node c.in-Some.rest.now _ (omega arith) (omega (arith, is.range.0)) found.0 e in
     let next = c.in-Some-number_then.ensures.found in
-    let second = same_field [] c.in-Some.rest.now c.in-Some-number_then.time time c.in-Some-number_then.rest.now _ (omega arith) (omega (arith, is.range.1)) next.0 first.1 in
-    c.in_default-after.ensures.none (values_text values) second.1
+    let rest = same_rest c.args.line.now c.in-Some.rest.now c.in-Some-number_then.rest.now c.in-Some.node node c.in-Some-number_then.time time _
+    (omega arith) (omega (arith, is.range.0)) (omega arith) (omega (arith, is.range.1)) found.0 next.0 e in
+    c.in_default-sender_then.ensures.none sender _ is.range.2 rest
+
+pub returns-in_default-kind_then-clause-none : goal.returns-in_default-kind_then-clause-none
+returns-in_default-kind_then-clause-none c = λ node time sender transactional values is e.
+    let found = c.in-Some.ensures.found in
+    let next = c.in-Some-number_then.ensures.found in
+    let rest = same_rest c.args.line.now c.in-Some.rest.now c.in-Some-number_then.rest.now c.in-Some.node node c.in-Some-number_then.time time _
+    (omega arith) (omega (arith, is.range.0)) (omega arith) (omega (arith, is.range.1)) found.0 next.0 e in
+    let third = c.in-Some-sender_then.ensures.found in
+    let behind = same_sender c.in-Some-number_then.rest.now (seen_sender c.in-Some-sender_then.sender) sender c.in-Some-sender_then.rest.now _ third.1 is.range.2 third.0 rest in
+    c.in_default-kind_then.ensures.none transactional (values_text values) behind.1
 
 pub returns-then-not-are_values-clause-none : goal.returns-then-not-are_values-clause-none
-returns-then-not-are_values-clause-none c = λ node time values is e.
+returns-then-not-are_values-clause-none c = λ node time sender transactional values is e.
     let found = c.in-Some.ensures.found in
-    let first = same_field (codes "append ") c.args.line.now c.in-Some.node node c.in-Some.rest.now _ (omega arith) (omega (arith, is.range.0)) found.0 e in
     let next = c.in-Some-number_then.ensures.found in
-    let second = same_field [] c.in-Some.rest.now c.in-Some-number_then.time time c.in-Some-number_then.rest.now _ (omega arith) (omega (arith, is.range.1)) next.0 first.1 in
-    let same : c.in-Some-after.values.now ≡ values_text values =
-    append_cancel_left (codes "-1 -1 -1 d ") c.in-Some-after.values.now (values_text values) (sym c.in-Some-after.ensures.found ∙ second.1) in
-    let back : pieces c.in-Some-after.values.now ≡ values = ap pieces same ∙ values_back values is.range.2 is.range.3 in
-    false≢true (c.if-not-are_values.ensures ∙ ap (list_all is_value) back ∙ is.range.3)
+    let rest = same_rest c.args.line.now c.in-Some.rest.now c.in-Some-number_then.rest.now c.in-Some.node node c.in-Some-number_then.time time _
+    (omega arith) (omega (arith, is.range.0)) (omega arith) (omega (arith, is.range.1)) found.0 next.0 e in
+    let third = c.in-Some-sender_then.ensures.found in
+    let behind = same_sender c.in-Some-number_then.rest.now (seen_sender c.in-Some-sender_then.sender) sender c.in-Some-sender_then.rest.now _ third.1 is.range.2 third.0 rest in
+    let text = c.in-Some-kind_then.values.now in
+    let same = same_kind c.in-Some-sender_then.rest.now c.in-Some-kind_then.transactional transactional text (values_text values) c.in-Some-kind_then.ensures.found behind.1 in
+    let back : pieces text ≡ values = ap pieces same.1 ∙ values_back values is.range.3 is.range.4 in
+    false≢true (c.if-not-are_values.ensures ∙ ap (list_all is_value) back ∙ is.range.4)
 
 pub returns-clause-found : goal.returns-clause-found
 returns-clause-found c =
     let found = c.in-Some.ensures.found in
     let next = c.in-Some-number_then.ensures.found in
-    let values = c.in-Some-after.values.now in
+    let third = c.in-Some-sender_then.ensures.found in
+    let sender = seen_sender c.in-Some-sender_then.sender in
+    let values = c.in-Some-kind_then.values.now in
     let lawful : list_all is_value (pieces values) ≡ true = sym c.if-not-are_values.ensures in
-    is_text c.args.count c.args.line.now (Append c.in-Some.node c.in-Some-number_then.time (pieces values))
-    (omega (arith, found), omega (arith, next), some_piece values, lawful)
-    (append_spelled c.args.line.now c.in-Some.rest.now c.in-Some-number_then.rest.now values c.in-Some.node c.in-Some-number_then.time found.0 next.0 c.in-Some-after.ensures.found)
+    is_text c.args.count c.args.line.now (Append c.in-Some.node c.in-Some-number_then.time sender c.in-Some-kind_then.transactional (pieces values))
+    (omega (arith, found), omega (arith, next), third.1, some_piece values, lawful)
+    (append_spelled c.args.line.now c.in-Some.rest.now c.in-Some-number_then.rest.now c.in-Some-sender_then.rest.now values c.in-Some.node c.in-Some-number_then.time sender c.in-Some-kind_then.transactional
+    found.0 next.0 third.0 c.in-Some-kind_then.ensures.found)
     c.requires.short
