@@ -31,11 +31,10 @@ pub each_at : (offset epoch : ℕ) (log : List Batch) → Follow offset epoch lo
 each_at offset epoch [] h = tt
 each_at offset epoch (b ∷ bs) h =
     let some : 0 < width b = h.2.some in
-    let base : b.base ≡ offset = h.0 in
-    (
+    let base : b.base ≡ offset = h.0 in (
       (omega arith, here b bs some),
       all_weaker (IsAt (offset + width b) bs) (IsAt offset (b ∷ bs))
-      (λ c at. let behind : offset + width b ≤ c.base = at.0 in (omega arith, later b c bs (omega arith) ∙ at.1)) bs (each_at (offset + width b) b.epoch bs h.3),
+          (λ c at. let behind : offset + width b ≤ c.base = at.0 in (omega arith, later b c bs (omega arith) ∙ at.1)) bs (each_at (offset + width b) b.epoch bs h.3),
     )
 
 -- and lies below the log's end
@@ -43,11 +42,10 @@ each_below : (offset epoch : ℕ) (log : List Batch) → Follow offset epoch log
 each_below offset epoch [] h = tt
 each_below offset epoch (b ∷ bs) h =
     let base : b.base ≡ offset = h.0 in
-    let longer : end_of (b ∷ bs) ≡ width b + end_of bs = sum_by-cons width b bs in
-    (
+    let longer : end_of (b ∷ bs) ≡ width b + end_of bs = sum_by-cons width b bs in (
       omega (arith, longer),
       all_weaker (λ c. next_offset c ≤ (offset + width b) + end_of bs) (λ c. next_offset c ≤ offset + end_of (b ∷ bs)) (λ c at. omega (arith, at, longer)) bs
-      (each_below (offset + width b) b.epoch bs h.3),
+          (each_below (offset + width b) b.epoch bs h.3),
     )
 
 -- an offset at which a batch is found lies below the log's end
@@ -114,10 +112,9 @@ claim_is b producer epoch k own in_epoch kept = by_content b.body.content refl
         let x : Kept = record { first = s; last = sequence_after s (length records - 1); base = b.base } in
         let is : Some x ≡ Some k = rw e at kept in
         let k_is : x ≡ k = cc in
-        let said : claim_of b.body ≡ Some (claim_at p q x) = rw e refl in
-        (
+        let said : claim_of b.body ≡ Some (claim_at p q x) = rw e refl in (
           said ∙ ap (λ (n : ℕ). Some (claim_at n q x)) same_producer ∙ ap (λ (n : ℕ). Some (claim_at producer n x)) same_epoch
-          ∙ ap (λ (y : Kept). Some (claim_at producer epoch y)) k_is,
+              ∙ ap (λ (y : Kept). Some (claim_at producer epoch y)) k_is,
           ap (λ (y : Kept). y.base) k_is,
         )
     by_content (Marker p q c t) e =
