@@ -1,0 +1,10 @@
+pub mod Lists
+pub mod Places
+pub mod Since
+pub mod Entries
+pub mod Rising
+pub mod Cutting
+pub mod Hiding
+pub mod Stability
+pub mod Showing
+pub mod Consumers

@@ -1,0 +1,47 @@
+-- What a read-committed consumer can rely on (KIP-98).
+use Rattle.std.specs.Prelude.{◌≡◌, ◌⊎◌, ℕ, ◌+◌, ◌<◌, ◌≤◌, IsTrue, IsFalse, List, ◌++◌, Contains, Option, Some}
+use Rattle.std.specs.List.{AllByRecursion, AllPairs, find, slice_get}
+use Rattle.std.specs.Option.{IsSomeAnd, option_and_then}
+use Rattle.kp_batch.specs.Batch.{records_of}
+use Rattle.kp_record.specs.Record.{Record}
+use Rattle.kp_model.specs.Log.{Batch, IsLog, next_offset, from_offset}
+use Rattle.kp_model.specs.Producers.{content_of, producer_of}
+use Rattle.kp_model.specs.Transactions.{is_abort, is_transactional, is_marker_of, stable}
+use Rattle.kp_model.specs.Visible.{is_commit, is_data, visible}
+
+-- the next marker of the batch's producer behind it
+abbrev pub ending_of : List Batch → Batch → Option Batch
+ending_of log b = option_and_then (λ p. find (is_marker_of p.0) (from_offset (next_offset b) log)) (producer_of (content_of b))
+
+-- transactional data of the log, whose transaction an abort marker of the log ends
+pub record IsAbortedIn (log : List Batch) (b : Batch) : Type 0 where
+  pub stands : Contains log b
+  pub transactional : IsTrue (is_transactional (content_of b))
+  pub aborted : IsSomeAnd (ending_of log b) (λ m. IsTrue (is_abort (content_of m)))
+
+-- the offset is of one of the batch's records
+abbrev pub Spans : Batch → ℕ → Type 0
+Spans b offset = (b.base ≤ offset) × (offset < next_offset b)
+
+-- No record of an aborted transaction is visible, at any high watermark, now or once the log has grown.
+abbrev pub AbortedRecordsAreHidden : Type 0
+AbortedRecordsAreHidden =
+    (log more : List Batch) (b : Batch) → IsLog (log ++ more) → IsAbortedIn log b
+    → (high_watermark : ℕ) → AllByRecursion (λ r. ¬ Spans b r.0) (visible (log ++ more) high_watermark)
+
+-- data of the log that isn't transactional, or whose transaction a commit marker of the log ends
+pub record IsCommittedIn (log : List Batch) (b : Batch) : Type 0 where
+  pub stands : Contains log b
+  pub data_batch : IsTrue (is_data b)
+  pub committed : IsFalse (is_transactional (content_of b)) ⊎ IsSomeAnd (ending_of log b) (λ m. IsTrue (is_commit (content_of m)))
+
+-- Each record of such a batch below the last stable offset is visible, at the batch's base offset and its place there.
+abbrev pub CommittedRecordsAreVisible : Type 0
+CommittedRecordsAreVisible =
+    (log : List Batch) (high_watermark : ℕ) (b : Batch) → IsCommittedIn log b → next_offset b ≤ stable log high_watermark
+    → (place : ℕ) (r : Record) → slice_get (records_of b.body) place ≡ Some r → Contains (visible log high_watermark) (b.base + place, r)
+
+-- The visible records come in offset order, each once.
+abbrev pub VisibleOffsetsRise : Type 0
+VisibleOffsetsRise =
+    (log : List Batch) (high_watermark : ℕ) → IsLog log → AllPairs (λ one later. one.0 < later.0) (visible log high_watermark)

@@ -1,0 +1,3 @@
+pub mod Filter
+pub mod Lent
+pub mod Laws

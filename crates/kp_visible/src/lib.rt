@@ -1,0 +1,64 @@
+//! What a read-committed consumer sees of the batches that it was handed, by the list of aborted transactions (KIP-98).
+//! It stands on kp_batch's records, on kp_txns' aborted transactions, and on kp_model's definition of what is visible.
+//! The layer above gets, of batches below the last stable offset, the visible records of the log, each with its offset.
+#![tactic(auto)]
+
+mod committed;
+mod filter;
+mod placed;
+
+ghost use Rattle.std.specs.Prelude.{◌≡◌, ◌≤◌, ◌^◌, ℕ, List, Contains, map};
+ghost use Rattle.std.specs.List.{AllByRecursion, filter};
+ghost use Rattle.std.specs.List.Sorted.{IsNonDecreasingBy};
+ghost use Rattle.kp_model.specs.Log.{Batch as LogBatch, IsLog, below, logged, next_offset};
+ghost use Rattle.kp_model.specs.Transactions.{aborted_in, stable};
+ghost use Rattle.kp_model.specs.Visible.{is_visible, records_in, visible};
+ghost use Rattle.kp_visible.specs.Filter.{shows};
+ghost use Rattle.kp_visible.specs.Lent.{committed_left};
+ghost use Rattle.kp_visible.specs.Laws.{AbortedRecordsAreHidden, CommittedRecordsAreVisible, VisibleOffsetsRise};
+
+use crate::filter::{ending_above, lowest};
+pub use committed::CommittedRecords;
+use kp_batch::Batch;
+use kp_txns::AbortedTransaction;
+
+/// What a read-committed consumer sees of these batches, by a list of aborted transactions (KIP-98). Control batches are
+/// passed over. Data that isn't transactional is shown, and transactional data is too, unless the first of its producer's
+/// aborted transactions that end above its base offset began at or below it.
+/// Each batch lies below offset 2^62. The list rises by marker, as a log's does: so of batches below the last stable
+/// offset, the log's list shows those that are visible.
+/// O(b + log n) in the b batches and the n aborted transactions; then one pass over the batches, and for each
+/// transactional one a pass over the transactions that end above the lowest batch. No memory, and no copy of a batch's
+/// bytes.
+pub fn committed_records<'a>(
+    batches: &'a [Batch],
+    aborted: &'a [AbortedTransaction],
+) -> CommittedRecords<'a>
+    requires { AllByRecursion (λ w. next_offset (logged w) ≤ 2 ^ 62) batches.now }
+    ensures by_list { IsNonDecreasingBy (λ a. a.marker) aborted.now
+        → committed_left result ≡ records_in (filter (shows aborted.now) (map logged batches.now)) }
+    ensures committed { (log : List LogBatch) → (high_watermark : ℕ) → IsLog log → aborted.now ≡ aborted_in log
+        → AllByRecursion (λ b. Contains log b × (next_offset b ≤ stable log high_watermark)) (map logged batches.now)
+        → committed_left result ≡ records_in (filter (is_visible log) (map logged batches.now)) }
+    ensures whole { (log : List LogBatch) → (high_watermark : ℕ) → IsLog log → aborted.now ≡ aborted_in log
+        → map logged batches.now ≡ below (stable log high_watermark) log
+        → committed_left result ≡ visible log high_watermark }
+{
+    let near = ending_above(aborted, lowest(batches));
+    CommittedRecords::of(batches, near)
+}
+
+/// No record of an aborted transaction is visible, at any high watermark, now or once the log has grown. It costs nothing.
+pub fn aborted_records_are_hidden()
+    ensures { AbortedRecordsAreHidden }
+{}
+
+/// Each record below the last stable offset that no open or aborted transaction holds back is visible at its offset, and
+/// the visible records come in offset order, each once. It costs nothing.
+pub fn committed_records_are_visible()
+    ensures visible { CommittedRecordsAreVisible }
+    ensures rising { VisibleOffsetsRise }
+{}
+
+#[cfg(test)]
+mod tests;
