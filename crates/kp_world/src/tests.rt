@@ -249,13 +249,16 @@ fn seven_nodes(rt: HostRuntime) -> Result<(), Fail> {
 }
 
 #[test]
-fn a_batch_of_a_producer_changes_nothing(rt: HostRuntime) -> Result<(), Fail> {
+fn a_batch_that_comes_twice_is_stored_once(rt: HostRuntime) -> Result<(), Fail> {
+    let bytes = Bytes::copy_from_slice(rt.alloc(), &OF_A_PRODUCER)?;
+    let again = Bytes::copy_from_slice(rt.alloc(), &OF_A_PRODUCER)?;
     let events = [
         Event::Elect { node: 0 },
         Event::Adopt { node: 0 },
+        Event::Produce { node: 0, bytes },
         Event::Produce {
             node: 0,
-            bytes: Bytes::copy_from_slice(rt.alloc(), &OF_A_PRODUCER)?,
+            bytes: again,
         },
         Event::Raise { node: 0 },
         Event::Show { node: 0 },
@@ -263,10 +266,11 @@ fn a_batch_of_a_producer_changes_nothing(rt: HostRuntime) -> Result<(), Fail> {
     ];
     let want = "leader 0 epoch 0 version 1\n\
         leads epoch 0 start 0\n\
-        F10 BadProducerFields\n\
-        mark 0\n\
-        life 0 end 0 watermark 0 stable 0\n\
-        0 lines\n";
+        at 0 to 0 epoch 0 duplicate false\n\
+        at 0 to 0 epoch 0 duplicate true\n\
+        mark 1\n\
+        life 0 end 1 watermark 1 stable 1\n\
+        1 lines 0 Some([97])\n";
     assert_eq!(rt; played(rt.alloc(), 1, &events)?.as_str(), want);
     Ok(())
 }
