@@ -13,8 +13,8 @@ use Rattle.kp_model.specs.Producers.{content_of, is_of, producer_of}
 use Rattle.kp_model.specs.Transactions.{is_abort, is_marker, is_marker_of, is_transactional, stable}
 use Rattle.kp_model.specs.Visible.{is_commit, is_visible, records_in, visible}
 use Rattle.kp_visible.specs.Laws.{IsAbortedIn, IsCommittedIn, Spans, ending_of}
-use Rattle.kp_visible.proofs.Lists.{Splits, splits, all_weaker, all_append, all_filter, all_find, all_flat_map, filter_split, find-append}
-use Rattle.kp_visible.proofs.Places.{Apart, all_from, apart_filter, around, log_apart}
+use Rattle.kp_visible.proofs.Lists.{splits, all_weaker, all_filter, all_find, all_flat_map, filter_split, find-append}
+use Rattle.kp_visible.proofs.Places.{IsApart, apart_filter, each_apart, log_apart}
 use Rattle.kp_visible.proofs.Rising.{offsets_within, record_at, records_rise}
 use Rattle.kp_visible.proofs.Showing.{commit_or_abort, visible_at}
 
@@ -54,17 +54,6 @@ aborted_is log more b transactional aborted = by_content (content_of b) refl
     by_content (Marker producer epoch coordinator commit) is = let none : false ≡ true = rw is at transactional in absurd cc
 
 -- ---- where the records of other batches lie
-
--- the batch is this one, or lies in front of it or behind it
-abbrev IsApart : Batch → Batch → Type 0
-IsApart b x = (x ≡ b) ⊎ ((next_offset x ≤ b.base) ⊎ (next_offset b ≤ x.base))
-
-each_apart : (log : List Batch) (b : Batch) → Apart 0 log → Splits log b → AllByRecursion (IsApart b) log
-each_apart log b apart s =
-    let at = around 0 s.front s.back b (subst (Apart 0) s.is apart) in
-    subst (AllByRecursion (IsApart b)) (sym s.is)
-    (all_append (IsApart b) s.front (b ∷ s.back) (all_weaker _ (IsApart b) (λ x h. inr (inl h.1)) s.front at.ends)
-    (inl refl, all_weaker _ (IsApart b) (λ x h. inr (inr h)) s.back (all_from (next_offset b) s.back at.behind)))
 
 outside : (b x : Batch) → (next_offset x ≤ b.base) ⊎ (next_offset b ≤ x.base) → AllByRecursion (λ r. ¬ Spans b r.0) (enumerate_from x.base (records_of x.body))
 outside b x apart =

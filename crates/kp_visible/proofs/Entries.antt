@@ -15,6 +15,7 @@ pub record IsEntry (log : List Batch) (x : Batch) (a : Aborted) : Type 0 where
   pub own : is_of a.producer x ≡ true
   pub marker : a.marker ≡ x.base
   pub opened : open_of (below x.base log) a.producer ≡ Some a.first
+  pub stable_is : a.stable ≡ stable log (next_offset x)
 
 entry_at : (log : List Batch) (x : Batch) (a : Aborted) (p : ℕ × ℕ) (first : Option ℕ) → is_abort (content_of x) ≡ true → producer_of (content_of x) ≡ Some p → open_of (below x.base log) p.0 ≡ first
     → option_map (λ first. let y : Aborted = record { producer = p.0; first = first; marker = x.base; stable = stable log (next_offset x) } in y) first ≡ Some a → IsEntry log x a
@@ -24,7 +25,7 @@ entry_at log x a p (Some first) aborts own opened e =
     let found : Some y ≡ Some a = e in
     let same : y ≡ a = cc in
     let of : is_of p.0 x ≡ true = rw own (eq-eqb p.0 p.0 refl) in
-    let entry : IsEntry log x y = record { aborts = aborts; own = of; marker = refl; opened = opened } in
+    let entry : IsEntry log x y = record { aborts = aborts; own = of; marker = refl; opened = opened; stable_is = refl } in
     subst (IsEntry log x) same entry
 
 pub entry_is : (log : List Batch) (x : Batch) (a : Aborted) → aborted_by log x ≡ Some a → IsEntry log x a

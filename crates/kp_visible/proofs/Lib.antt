@@ -1,10 +1,12 @@
 pub mod Lists
 pub mod Places
 pub mod Since
+pub mod Opening
 pub mod Entries
 pub mod Rising
 pub mod Cutting
-pub mod Hiding
+pub mod Holding
 pub mod Stability
+pub mod Stopping
 pub mod Showing
 pub mod Consumers

@@ -24,6 +24,10 @@ pub all_front : {X : Type 0} (P : X → Type 0) (xs ys : List X) → AllByRecurs
 all_front P [] ys h = tt
 all_front P (x ∷ xs) ys h = (h.0, all_front P xs ys h.1)
 
+pub all_behind : {X : Type 0} (P : X → Type 0) (xs ys : List X) → AllByRecursion P (xs ++ ys) → AllByRecursion P ys
+all_behind P [] ys h = h
+all_behind P (x ∷ xs) ys h = all_behind P xs ys h.1
+
 pub all_here : {X : Type 0} (P : X → Type 0) (front back : List X) (x : X) → AllByRecursion P (front ++ x ∷ back) → P x
 all_here P [] back x h = h.0
 all_here P (y ∷ ys) back x h = all_here P ys back x h.1

@@ -1,10 +1,10 @@
 -- Where the batches of a log stand.
-use Rattle.std.proofs.Common.{◌≡◌, ℕ, ◌+◌, ◌<◌, ◌≤◌, Bool, true, false, List, [], ◌∷◌, ◌++◌, refl, sym, ◌∙◌, subst, arith, inl, inr, leb, append-nil}
+use Rattle.std.proofs.Common.{◌≡◌, ◌⊎◌, ℕ, ◌+◌, ◌<◌, ◌≤◌, Bool, true, false, List, [], ◌∷◌, ◌++◌, refl, sym, ◌∙◌, subst, arith, inl, inr, leb, append-nil}
 use Rattle.std.specs.List.{AllByRecursion, filter}
 use Rattle.std.proofs.lemmas.Bool.{cases_Bool, le-leb, lt-leb}
 use Rattle.kp_model.specs.Log.{Batch, width, next_offset, Follow, IsLog, below, from_offset}
 use Rattle.std.proofs.lemmas.List.Elements.{filter-append}
-use Rattle.kp_visible.proofs.Lists.{all_weaker, all_both, filter_all, filter_none}
+use Rattle.kp_visible.proofs.Lists.{Splits, all_append, all_weaker, all_both, filter_all, filter_none}
 
 -- the batches stand apart from this offset on, each behind the one in front of it, and each takes some offset
 abbrev pub Apart : ℕ → List Batch → Type 0
@@ -94,3 +94,28 @@ from_split front back b at =
     let back_is = filter_all test back (all_weaker _ (λ x. test x ≡ true) (λ x h. le-leb (next_offset b) x.base h) back (all_from (next_offset b) back at.behind)) in
     let here : test b ≡ false = lt-leb (next_offset b) b.base some in
     filter-append test front (b ∷ back) ∙ rw (here, front_is, back_is) refl
+
+-- up to the end of a batch
+pub upto_split : (front back : List Batch) (m : Batch) → Around front back m → below (next_offset m) (front ++ m ∷ back) ≡ front ++ m ∷ []
+upto_split front back m at =
+    let test : Batch → Bool = λ x. leb (next_offset x) (next_offset m) in
+    let some = at.some in
+    let front_is = filter_all test front (all_weaker _ (λ x. test x ≡ true) (λ x h. let ends = h.1 in le-leb (next_offset x) (next_offset m) (omega (arith, some, ends))) front at.ends) in
+    let later : (x : Batch) → (next_offset m ≤ x.base) × (x.base < next_offset x) → test x ≡ false = λ x h. let from = h.0 in let takes = h.1 in lt-leb (next_offset x) (next_offset m) (omega arith) in
+    let back_is = filter_none test back (all_weaker _ (λ x. test x ≡ false) later back
+    (all_both (λ x. next_offset m ≤ x.base) (λ x. x.base < next_offset x) back (all_from (next_offset m) back at.behind) (all_take (next_offset m) back at.behind))) in
+    let here : test m ≡ true = le-leb (next_offset m) (next_offset m) (omega arith) in
+    filter-append test front (m ∷ back) ∙ rw (here, front_is, back_is) refl
+
+-- ---- where the other batches lie
+
+-- the batch is this one, or lies in front of it or behind it
+abbrev pub IsApart : Batch → Batch → Type 0
+IsApart b x = (x ≡ b) ⊎ ((next_offset x ≤ b.base) ⊎ (next_offset b ≤ x.base))
+
+pub each_apart : (log : List Batch) (b : Batch) → Apart 0 log → Splits log b → AllByRecursion (IsApart b) log
+each_apart log b apart s =
+    let at = around 0 s.front s.back b (subst (Apart 0) s.is apart) in
+    subst (AllByRecursion (IsApart b)) (sym s.is)
+    (all_append (IsApart b) s.front (b ∷ s.back) (all_weaker _ (IsApart b) (λ x h. inr (inl h.1)) s.front at.ends)
+    (inl refl, all_weaker _ (IsApart b) (λ x h. inr (inr h)) s.back (all_from (next_offset b) s.back at.behind)))

@@ -13,8 +13,9 @@ use Rattle.kp_visible.specs.Filter.{hides, shows, shows_at}
 use Rattle.kp_visible.proofs.Lists.{Splits, splits, found_first, none_passes, all_here, all_filter, all_itself, all_weaker, all_append, filter_agree_on}
 use Rattle.kp_visible.proofs.Places.{Apart, around, from_split, log_apart}
 use Rattle.kp_visible.proofs.Since.{opens_at}
-use Rattle.kp_visible.proofs.Hiding.{IsPassed, abort_hides, commit_hides_nothing}
+use Rattle.kp_visible.proofs.Holding.{IsPassed, abort_holds, commit_holds_nothing, held}
 use Rattle.kp_visible.proofs.Stability.{stable_within, stable_before}
+use Rattle.kp_visible.proofs.Stopping.{aborted_stable, hides_held}
 
 -- a marker is a commit or an abort
 pub commit_or_abort : (content : Content) → is_marker content ≡ true → is_commit content ≡ not (is_abort content)
@@ -23,11 +24,11 @@ commit_or_abort (Produced producer epoch sequence transactional records) e = abs
 commit_or_abort (Marker producer epoch coordinator true) e = refl
 commit_or_abort (Marker producer epoch coordinator false) e = refl
 
--- the batch's next marker says whether the list hides it
-hides_at_marker : (front back behind : List Batch) (b m : Batch) (producer : ℕ) → Apart 0 (front ++ b ∷ (back ++ m ∷ behind)) → is_transactional_of producer b ≡ true → is_marker_of producer b ≡ false
+-- the batch's next marker says whether the list holds it
+held_at_marker : (front back behind : List Batch) (b m : Batch) (producer : ℕ) → Apart 0 (front ++ b ∷ (back ++ m ∷ behind)) → is_transactional_of producer b ≡ true → is_marker_of producer b ≡ false
     → is_marker_of producer m ≡ true → AllByRecursion (λ x. is_marker_of producer x ≡ false) back
-    → hides (aborted_in (front ++ b ∷ (back ++ m ∷ behind))) producer b.base ≡ is_abort (content_of m)
-hides_at_marker front back behind b m producer apart own unmarked marks none =
+    → held (aborted_in (front ++ b ∷ (back ++ m ∷ behind))) producer b.base ≡ is_abort (content_of m)
+held_at_marker front back behind b m producer apart own unmarked marks none =
     let known = front ++ b ∷ back in
     let regrouped : front ++ b ∷ (back ++ m ∷ behind) ≡ known ++ m ∷ behind = sym (append_assoc front (b ∷ back) (m ∷ behind)) in
     let whole : Apart 0 (known ++ m ∷ behind) = subst (Apart 0) regrouped apart in
@@ -40,10 +41,10 @@ hides_at_marker front back behind b m producer apart own unmarked marks none =
     let some = at.some in
     let ends = b_ends at_marker.ends in
     let late : b.base < m.base = omega (arith, some, ends) in
-    ap (λ (l : List Batch). hides (aborted_in l) producer b.base) regrouped
+    ap (λ (l : List Batch). held (aborted_in l) producer b.base) regrouped
     ∙ elim (cases_Bool (is_abort (content_of m))) [
-      | inl aborts ↦ abort_hides known behind m producer b.base o.batch.base whole passed marks aborts o.opened o.from late ∙ sym aborts
-      | inr commits ↦ commit_hides_nothing known behind m producer b.base whole passed marks commits late ∙ sym commits
+      | inl aborts ↦ abort_holds known behind m producer b.base o.batch.base whole passed marks aborts o.opened o.from late ∙ sym aborts
+      | inr commits ↦ commit_holds_nothing known behind m producer b.base whole passed marks commits late ∙ sym commits
     ]
   where
     nothing : (xs : List Batch) → AllByRecursion (λ x. Unit {0}) xs
@@ -76,8 +77,9 @@ hidden_is log high_watermark b producer lawful s within own unmarked = by_next (
     by_next (Some m) e =
         let f = found_first (is_marker_of producer) s.back m e in
         let parts : log ≡ s.front ++ b ∷ (f.front ++ m ∷ f.back) = s.is ∙ ap (λ (l : List Batch). s.front ++ b ∷ l) f.is in
-        let hidden = hides_at_marker s.front f.front f.back b m producer (subst (Apart 0) parts (log_apart log lawful)) own unmarked f.passes f.before in
-        let said : hides (aborted_in log) producer b.base ≡ is_abort (content_of m) = ap (λ (l : List Batch). hides (aborted_in l) producer b.base) parts ∙ hidden in
+        let holds = held_at_marker s.front f.front f.back b m producer (subst (Apart 0) parts (log_apart log lawful)) own unmarked f.passes f.before in
+        let said : hides (aborted_in log) producer b.base ≡ is_abort (content_of m) =
+        hides_held (aborted_in log) producer b.base (aborted_stable log lawful) ∙ ap (λ (l : List Batch). held (aborted_in l) producer b.base) parts ∙ holds in
         let next : find (is_marker_of producer) (from_offset (next_offset b) log) ≡ Some m = ap (find (is_marker_of producer)) behind_is ∙ e in
         let marks = (and_parts (is_marker (content_of m)) (is_of producer m) f.passes).0 in
         ap not said ∙ sym (commit_or_abort (content_of m) marks) ∙ sym (ap (λ (o : Option Batch). option_map_or (λ m. is_commit (content_of m)) o false) next)

@@ -12,7 +12,7 @@ use Rattle.kp_visible.proofs.Lists.{all_append, all_front, all_here, all_find, f
 -- ---- the batches since the last marker
 
 -- with one batch more: none, where it is a marker of the producer's, else one more
-since_push : (producer : ℕ) (log : List Batch) (b : Batch) → since_marker producer (log ++ b ∷ []) ≡ cond (is_marker_of producer b) [] (since_marker producer log ++ b ∷ [])
+pub since_push : (producer : ℕ) (log : List Batch) (b : Batch) → since_marker producer (log ++ b ∷ []) ≡ cond (is_marker_of producer b) [] (since_marker producer log ++ b ∷ [])
 since_push producer log b =
     let test : Batch → Bool = λ x. not (is_marker_of producer x) in
     let turned : take_while test (reverse (log ++ b ∷ [])) ≡ cond (test b) (b ∷ take_while test (reverse log)) [] =

@@ -1,3 +1,4 @@
 pub mod Filter
+pub mod Near
 pub mod Lent
 pub mod Laws

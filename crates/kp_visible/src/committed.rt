@@ -1,21 +1,21 @@
 //! The records that a read-committed consumer sees.
 
 ghost use Rattle.std.specs.Prelude.{◌≡◌, ◌≤◌, ◌^◌, map};
-ghost use Rattle.std.specs.List.{All, AllByRecursion, filter};
+ghost use Rattle.std.specs.List.{All, AllByRecursion};
 ghost use Rattle.kp_model.specs.Log.{logged, next_offset};
 ghost use Rattle.kp_model.specs.Visible.{records_in};
 
 use crate::filter::is_shown;
+use crate::near::Nearby;
 use crate::placed::PlacedRecords;
 use kp_batch::{Batch, Record};
-use kp_txns::AbortedTransaction;
 use kp_types::Offset;
 
 /// The records of batches that a read-committed consumer sees, in their order, each with its offset and lent from its
 /// batch's bytes.
 #[derive(Clone, Copy)]
 pub struct CommittedRecords<'a> {
-    aborted: &'a [AbortedTransaction],
+    near: Nearby<'a>,
     batches: &'a [Batch],
     current: PlacedRecords<'a>,
     ghost placed: { All (λ w. next_offset (logged w) ≤ 2 ^ 62) batches.now },
@@ -40,7 +40,8 @@ impl<'a> Iterator for CommittedRecords<'a> {
                 return None;
             };
             self.batches = rest;
-            if is_shown(self.aborted, batch) {
+            self.near = self.near.moved_to(batch.base_offset());
+            if is_shown(self.near.rest(), batch) {
                 self.current = PlacedRecords::of(batch);
             }
         }
@@ -48,19 +49,16 @@ impl<'a> Iterator for CommittedRecords<'a> {
 }
 
 impl<'a> CommittedRecords<'a> {
-    ghost use Rattle.kp_visible.specs.Filter.{shows};
+    ghost use Rattle.kp_visible.specs.Near.{shown_from};
     ghost use Rattle.kp_visible.specs.Lent.{committed_left};
 
-    // Those of these batches, by these aborted transactions.
-    pub(crate) fn of(
-        batches: &'a [Batch],
-        aborted: &'a [AbortedTransaction],
-    ) -> CommittedRecords<'a>
+    // Those of these batches, by the aborted transactions near this place.
+    pub(crate) fn of(batches: &'a [Batch], near: Nearby<'a>) -> CommittedRecords<'a>
         requires { AllByRecursion (λ w. next_offset (logged w) ≤ 2 ^ 62) batches.now }
-        ensures { committed_left result ≡ records_in (filter (shows aborted.now) (map logged batches.now)) }
+        ensures { committed_left result ≡ records_in (shown_from near.entry.aborted.now near.entry.place (map logged batches.now)) }
     {
         CommittedRecords {
-            aborted,
+            near,
             batches,
             current: PlacedRecords::none(),
         }

@@ -5,6 +5,7 @@
 
 mod committed;
 mod filter;
+mod near;
 mod placed;
 
 ghost use Rattle.std.specs.Prelude.{◌≡◌, ◌≤◌, ◌^◌, ℕ, List, Contains, map};
@@ -17,19 +18,20 @@ ghost use Rattle.kp_visible.specs.Filter.{shows};
 ghost use Rattle.kp_visible.specs.Lent.{committed_left};
 ghost use Rattle.kp_visible.specs.Laws.{AbortedRecordsAreHidden, CommittedRecordsAreVisible, VisibleOffsetsRise};
 
-use crate::filter::{ending_above, lowest};
+use crate::near::Nearby;
 pub use committed::CommittedRecords;
 use kp_batch::Batch;
 use kp_txns::AbortedTransaction;
 
 /// What a read-committed consumer sees of these batches, by a list of aborted transactions (KIP-98). Control batches are
-/// passed over. Data that isn't transactional is shown, and transactional data is too, unless the first of its producer's
-/// aborted transactions that end above its base offset began at or below it.
+/// passed over. Data that isn't transactional is shown. For a transactional batch, of the transactions that end above its
+/// base offset the first decides that is its producer's, or at whose marker nothing that began at or below the offset was
+/// open any more: it hides the batch, where it is the producer's and began at or below the offset.
 /// Each batch lies below offset 2^62. The list rises by marker, as a log's does: so of batches below the last stable
 /// offset, the log's list shows those that are visible.
-/// O(b + log n) in the b batches and the n aborted transactions; then one pass over the batches, and for each
-/// transactional one a pass over the transactions that end above the lowest batch. No memory, and no copy of a batch's
-/// bytes.
+/// O(log n) in the n aborted transactions. Then a batch costs O(1), and the transactions that end between it and the batch
+/// in front of it. A transactional one costs those too that end behind it, up to the one that decides: each of them ended
+/// while a transaction that began at or below the batch's base offset was open. No memory, and no copy of a batch's bytes.
 pub fn committed_records<'a>(
     batches: &'a [Batch],
     aborted: &'a [AbortedTransaction],
@@ -44,8 +46,8 @@ pub fn committed_records<'a>(
         → map logged batches.now ≡ below (stable log high_watermark) log
         → committed_left result ≡ visible log high_watermark }
 {
-    let near = ending_above(aborted, lowest(batches));
-    CommittedRecords::of(batches, near)
+    let offset = batches.first().map_or(0, |batch| batch.base_offset());
+    CommittedRecords::of(batches, Nearby::search(aborted, offset))
 }
 
 /// No record of an aborted transaction is visible, at any high watermark, now or once the log has grown. It costs nothing.

@@ -187,10 +187,66 @@ fn batches_may_be_of_the_middle(rt: HostRuntime) -> Result<(), Fail> {
     ];
     let list = [
         aborted(5, 0, 1, 2),
-        aborted(7, 4, 8, 9),
+        aborted(7, 4, 8, 6),
         aborted(5, 6, 9, 10),
     ];
     shows(&rt, committed_records(&batches, &list), &[(2, b"c")]);
+    Ok(())
+}
+
+// For the batch of producer 9 those that end at 3 and 5 decide nothing: its transaction is open there.
+#[test]
+fn transactions_of_three_producers_are_told_apart(rt: HostRuntime) -> Result<(), Fail> {
+    let batches = [
+        data(rt.alloc(), 9, 2, &[letter(b"c")])?,
+        data(rt.alloc(), 5, 4, &[letter(b"d")])?,
+        data(rt.alloc(), 7, 6, &[letter(b"e")])?,
+    ];
+    let list = [
+        aborted(5, 0, 3, 1),
+        aborted(7, 1, 5, 2),
+        aborted(9, 2, 7, 4),
+        aborted(7, 6, 9, 10),
+    ];
+    shows(&rt, committed_records(&batches, &list), &[(4, b"d")]);
+    Ok(())
+}
+
+// For the batch at 4 the transaction that ends at 6 decides, and the one behind it still hides the batch at 7.
+#[test]
+fn committed_data_between_aborted_is_shown(rt: HostRuntime) -> Result<(), Fail> {
+    let batches = [
+        data(rt.alloc(), 5, 1, &[letter(b"b")])?,
+        data(rt.alloc(), 9, 3, &[letter(b"c")])?,
+        data(rt.alloc(), 5, 4, &[letter(b"d")])?,
+        data(rt.alloc(), 7, 7, &[letter(b"e")])?,
+    ];
+    let list = [
+        aborted(7, 0, 2, 1),
+        aborted(9, 3, 6, 7),
+        aborted(7, 7, 8, 9),
+    ];
+    shows(
+        &rt,
+        committed_records(&batches, &list),
+        &[(1, b"b"), (4, b"d")],
+    );
+    Ok(())
+}
+
+#[test]
+fn batches_may_come_in_any_order(rt: HostRuntime) -> Result<(), Fail> {
+    let batches = [
+        data(rt.alloc(), 5, 6, &[letter(b"d")])?,
+        data(rt.alloc(), 5, 3, &[letter(b"b")])?,
+        data(rt.alloc(), 5, 0, &[letter(b"a")])?,
+    ];
+    let list = [aborted(5, 0, 2, 3), aborted(5, 4, 5, 6)];
+    shows(
+        &rt,
+        committed_records(&batches, &list),
+        &[(6, b"d"), (3, b"b")],
+    );
     Ok(())
 }
 
