@@ -326,10 +326,6 @@ fn raw_bytes_name_their_first_fault(rt: HostRuntime) -> Result<(), Fail> {
             "F8 BadRecord 61",
         ),
         (
-            "000000000000000000000039ffffffff02addfa96c00100000000000000000000003e800000000000003e80000000000000005000000000000000000010e00000001026100",
-            "F10 BadProducerFields",
-        ),
-        (
             "000000000000000000000039ffffffff02f761627d00000000000000000000000003e800000000000003e800000000000000050000ffffffff000000010e00000001026100",
             "F10 BadProducerFields",
         ),
@@ -348,6 +344,30 @@ fn raw_bytes_name_their_first_fault(rt: HostRuntime) -> Result<(), Fail> {
         assert_eq!(rt; left.out.as_slice(), trace.as_bytes());
         assert_eq!(rt; left.status, 1);
     }
+    Ok(())
+}
+
+// The raw bytes are data of producer 5's transaction, in its epoch 0.
+#[test]
+fn a_transaction_from_raw_bytes(rt: HostRuntime) -> Result<(), Fail> {
+    let events = "elect 0
+adopt 0
+raw 0 000000000000000000000039ffffffff02addfa96c00100000000000000000000003e800000000000003e80000000000000005000000000000000000010e00000001026100
+mark 0 1000 5 0 0 commit
+raise 0
+committed 0 0
+";
+    let trace = "2 record leader 0 epoch 0 isr 0 version 1
+3 leads epoch 0 from 0
+4 at 0
+5 at 1
+6 mark 2
+7 read 1 0=61
+";
+    let script = format!(in rt.alloc(); "{HEADER}{events}")?;
+    let left = run(rt.alloc(), script.as_bytes())?;
+    assert_eq!(rt; left.out.as_slice(), trace.as_bytes());
+    assert_eq!(rt; left.status, 0);
     Ok(())
 }
 

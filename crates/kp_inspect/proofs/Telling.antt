@@ -1,5 +1,5 @@
 -- A text of a log's batches that grows line by line.
-use Rattle.std.proofs.Common.{◌≡◌, ℕ, ◌+◌, ◌≤◌, ◌^◌, List, [], ◌∷◌, ◌++◌, map, refl, sym, ap, ◌∙◌, arith, append_assoc, append-nil, add-zero, subst, codes}
+use Rattle.std.proofs.Common.{◌≡◌, ℕ, ◌+◌, ◌≤◌, ◌^◌, List, [], ◌∷◌, ◌++◌, map, sym, ap, ◌∙◌, arith, append_assoc, append-nil, add-zero, subst, codes}
 use Rattle.std.specs.List.{AllByRecursion, flat_map}
 use Rattle.std.specs.Fmt.{decimal}
 use Rattle.std.proofs.lemmas.List.Sums.{sum_by-cons}
@@ -9,8 +9,10 @@ use Rattle.kp_model.specs.Log.{logged, size, bytes, next_offset, end_of}
 use Rattle.kp_segment.specs.Segmented.{Segmented}
 use Rattle.kp_segment.specs.Shown.{Shown, AreRunsOf, run_shows, segment_shows}
 use Rattle.kp_segment.specs.declared.run.Run.{Run}
-use Rattle.kp_inspect.specs.Dump.{line, batch_line, batch_lines, segment_lines, producer_line}
+use Rattle.kp_inspect.specs.Dump.{line, batch_line, batch_lines, segment_lines, producer_line, open_line, aborted_line}
 use Rattle.kp_model.specs.Producers.{Producer}
+use Rattle.kp_model.specs.Transactions.{Open, Aborted, open_in, aborted_in}
+use Rattle.kp_log.specs.Partition.{Partition, segmented}
 use Rattle.kp_producers.specs.Table.{Table, AreProducersOf}
 use Rattle.kp_inspect.specs.Texts.{shown_lines, TellsTables}
 
@@ -47,26 +49,36 @@ Told-all before now all position rest told is =
 
 -- ---- the tables
 
-pub tables_told : (s t : Segmented) (runs : List Run) (table : Table) (before segments producers after : List ℕ) (end : ℕ) → t ≡ s → AreRunsOf t.limits t.log runs
-    → AreProducersOf s.log table → segments ≡ before ++ flat_map shown_lines (map run_shows runs) → producers ≡ segments ++ flat_map producer_line table
-    → after ≡ producers ++ line (codes "end" ∷ decimal end ∷ []) → end ≡ end_of s.log → TellsTables s before after
-tables_told s t runs table before segments producers after end same are kept grown told more ends =
+-- five pieces behind a text, one after another
+five_joined : (before first second third fourth after a b c d e : List ℕ) → first ≡ before ++ a → second ≡ first ++ b → third ≡ second ++ c → fourth ≡ third ++ d
+    → after ≡ fourth ++ e → after ≡ before ++ (a ++ b ++ (c ++ d) ++ e)
+five_joined before first second third fourth after a b c d e one two three four five =
+    five ∙ ap (λ (t : List ℕ). t ++ e) (four ∙ ap (λ (t : List ℕ). t ++ d) three ∙ append_assoc second c d)
+    ∙ ap (λ (t : List ℕ). t ++ (c ++ d) ++ e) (two ∙ ap (λ (t : List ℕ). t ++ b) one ∙ append_assoc before a b)
+    ∙ ap (λ (t : List ℕ). t ++ e) (append_assoc before (a ++ b) (c ++ d))
+    ∙ append_assoc before (a ++ b ++ (c ++ d)) e
+
+pub tables_told : (s : Partition) (t : Segmented) (runs : List Run) (table : Table) (opening : List Open) (aborted : List Aborted)
+    (before segments producers opened done after : List ℕ) (end : ℕ) → t ≡ segmented s → AreRunsOf t.limits t.log runs → AreProducersOf s.log table
+    → opening ≡ open_in s.log → aborted ≡ aborted_in s.log → segments ≡ before ++ flat_map shown_lines (map run_shows runs)
+    → producers ≡ segments ++ flat_map producer_line table → opened ≡ producers ++ flat_map open_line opening → done ≡ opened ++ flat_map aborted_line aborted
+    → after ≡ done ++ line (codes "end" ∷ decimal end ∷ []) → end ≡ end_of s.log → TellsTables s before after
+tables_told s t runs table opening aborted before segments producers opened done after end same are kept opens aborts grown told more ended last ends =
     let are : AreRunsOf s.limits s.log runs = subst (λ (x : Segmented). AreRunsOf x.limits x.log runs) same are in
     let shown : flat_map shown_lines (map run_shows runs) ≡ flat_map segment_lines are.segments =
     ap (λ (l : List Shown). flat_map shown_lines l) are.shown ∙ flat_map-map shown_lines segment_shows are.segments in
-    let all : List ℕ = flat_map segment_lines are.segments in
-    let kept_lines : List ℕ = flat_map producer_line table in
-    let last : ℕ → List ℕ = λ n. line (codes "end" ∷ decimal n ∷ []) in
+    let tables : segments ≡ before ++ flat_map segment_lines are.segments = grown ∙ ap (λ (t : List ℕ). before ++ t) shown in
+    let begun : opened ≡ producers ++ flat_map open_line (open_in s.log) = more ∙ ap (λ (l : List Open). producers ++ flat_map open_line l) opens in
+    let ended : done ≡ opened ++ flat_map aborted_line (aborted_in s.log) = ended ∙ ap (λ (l : List Aborted). opened ++ flat_map aborted_line l) aborts in
+    let closed : after ≡ done ++ line (codes "end" ∷ decimal (end_of s.log) ∷ []) = last ∙ ap (λ (n : ℕ). done ++ line (codes "end" ∷ decimal n ∷ [])) ends in
     record {
       segments = are.segments;
       tables = are.lawful;
       producers = table;
       kept = kept;
-      grown =
-          more ∙ ap (λ (t : List ℕ). t ++ last end) (told ∙ ap (λ (t : List ℕ). t ++ kept_lines) (grown ∙ ap (λ (t : List ℕ). before ++ t) shown))
-          ∙ ap (λ (n : ℕ). ((before ++ all) ++ kept_lines) ++ last n) ends
-          ∙ ap (λ (t : List ℕ). t ++ last (end_of s.log)) (append_assoc before all kept_lines)
-          ∙ append_assoc before (all ++ kept_lines) (last (end_of s.log));
+      grown = five_joined before segments producers opened done after (flat_map segment_lines are.segments) (flat_map producer_line table)
+          (flat_map open_line (open_in s.log)) (flat_map aborted_line (aborted_in s.log)) (line (codes "end" ∷ decimal (end_of s.log) ∷ []))
+          tables told begun ended closed;
     }
 
 -- one producer more

@@ -10,6 +10,7 @@ use Rattle.kp_model.specs.Log.{Batch, size, bytes, last_offset, end_of}
 use Rattle.kp_model.specs.Indexes.{run_base}
 use Rattle.kp_model.specs.Tables.{Segment}
 use Rattle.kp_model.specs.Producers.{Kept, Producer}
+use Rattle.kp_model.specs.Transactions.{Open, Aborted, open_in, aborted_in}
 use Rattle.kp_producers.specs.Table.{Table}
 use Rattle.kp_segment.specs.Name.{segment_name}
 
@@ -83,10 +84,25 @@ producer_line entry =
     join_with_byte 32 (codes "producer" ∷ decimal entry.0 ∷ decimal entry.1.epoch ∷ coordinator_text entry.1.coordinator ∷ [])
     ++ flat_map (λ kept. 32 ∷ kept_text kept) entry.1.recent ++ 10 ∷ []
 
+-- an open transaction: its producer and its first offset
+abbrev pub open_line : Open → List ℕ
+open_line t = line (codes "open" ∷ decimal t.producer ∷ decimal t.first ∷ [])
+
+-- An aborted transaction: its producer, its first offset, that of its abort marker, and the last stable offset where
+-- the high watermark is the offset after the marker (KIP-98).
+abbrev pub aborted_line : Aborted → List ℕ
+aborted_line t =
+    line (codes "aborted" ∷ decimal t.producer ∷ decimal t.first ∷ decimal t.marker ∷ decimal t.stable ∷ [])
+
+-- the log's transactions: the open ones by rising first offset, then the aborted ones by rising marker offset
+abbrev pub transaction_lines : List Batch → List ℕ
+transaction_lines log = flat_map open_line (open_in log) ++ flat_map aborted_line (aborted_in log)
+
 -- the tables that the log builds, and its end
 abbrev pub table_lines : List Segment → Table → List Batch → List ℕ
 table_lines segments producers log =
-    flat_map segment_lines segments ++ flat_map producer_line producers ++ line (codes "end" ∷ decimal (end_of log) ∷ [])
+    flat_map segment_lines segments ++ flat_map producer_line producers ++ transaction_lines log
+    ++ line (codes "end" ∷ decimal (end_of log) ∷ [])
 
 -- the first fault, and the byte at which the faulty batch begins
 abbrev pub fault_line : Refusal → ℕ → List ℕ

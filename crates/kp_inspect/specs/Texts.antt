@@ -4,8 +4,8 @@ use Rattle.std.specs.Fmt.{decimal}
 use Rattle.kp_marker.specs.Marker.{commits}
 use Rattle.kp_model.specs.Tables.{Segment, AreSegmentsOf}
 use Rattle.kp_producers.specs.Table.{Table, AreProducersOf}
-use Rattle.kp_segment.specs.Segmented.{Segmented}
 use Rattle.kp_segment.specs.Shown.{Shown}
+use Rattle.kp_log.specs.Partition.{Partition}
 use Rattle.kp_inspect.specs.Dump.{table_lines, segment_text, ending_text}
 use Rattle.kp_inspect.specs.declared.text.Contents.{Contents}
 use Rattle.kp_inspect.specs.declared.text.Contents.TheVariants.{Data, Transactional, Ending}
@@ -20,7 +20,7 @@ contents_text Transactional = codes "txn"
 contents_text (Ending marker) = ending_text (commits marker.kind) ++ decimal marker.coordinator_epoch
 
 -- the text grew by the lines of the log's tables
-pub record TellsTables (s : Segmented) (before after : List ℕ) : Type 0 where
+pub record TellsTables (s : Partition) (before after : List ℕ) : Type 0 where
   pub segments : List Segment
   pub tables : AreSegmentsOf s.limits s.log segments
   pub producers : Table

@@ -40,7 +40,8 @@ fn dump_of(alloc: Global, input: Vec<u8>, limits: &Limits) -> Result<Dump, Refus
 
 /// Looks into the bytes that the reader has left, which are a row of batches, read as one log from offset 0
 /// and cut by `limits`. It writes a line for each batch; at the first fault a line that names it and the
-/// place of the faulty batch, and nothing more; else the log's segments with their indexes, and its end.
+/// place of the faulty batch, and nothing more; else the log's segments with their indexes, its producers, its
+/// open and its aborted transactions, and its end.
 /// Answers the refusal of the fault line (F1 to F10, and F25 to F27 where the log doesn't take the batch), or
 /// none. F32 where a device failed and F33, and then a beginning of the text is written. It takes time
 /// and memory proportional to the bytes and the text.

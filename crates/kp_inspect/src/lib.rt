@@ -24,6 +24,10 @@ pub fn dumps_are_one()
 }
 
 #[cfg(test)]
+mod dump_tables;
+#[cfg(test)]
 mod dump_tests;
+#[cfg(test)]
+mod dump_texts;
 #[cfg(test)]
 mod tests;

@@ -28,6 +28,17 @@ fn plain(timestamp: u64) -> Fields {
     }
 }
 
+// Transactional data of this producer, from sequence 0 on.
+fn transactional(producer: u64) -> Fields {
+    Fields {
+        producer_id: Some(producer),
+        producer_epoch: Some(0),
+        base_sequence: Some(0),
+        transactional: true,
+        ..plain(10)
+    }
+}
+
 // A batch of one record, of null key and no headers.
 fn batch(alloc: Global, fields: &Fields, value: &[u8]) -> Result<Batch, Refusal> {
     let part = Parts {
@@ -232,20 +243,18 @@ fault F9 TooLarge at 69
 #[test]
 fn markers_and_producers_are_told(rt: HostRuntime) -> Result<(), Fail> {
     let mut bytes = Vec::new(rt.alloc());
-    let transactional = Fields {
-        producer_id: Some(5),
-        producer_epoch: Some(0),
-        base_sequence: Some(0),
-        transactional: true,
-        ..plain(10)
-    };
     let idempotent = Fields {
         transactional: false,
         producer_epoch: Some(2),
         base_sequence: Some(7),
-        ..transactional
+        ..transactional(5)
     };
-    put(&mut bytes, batch(rt.alloc(), &transactional, b"a")?, 0, 0)?;
+    put(
+        &mut bytes,
+        batch(rt.alloc(), &transactional(5), b"a")?,
+        0,
+        0,
+    )?;
     put(&mut bytes, batch(rt.alloc(), &plain(30), b"b")?, 1, 0)?;
     put(
         &mut bytes,
@@ -270,8 +279,78 @@ offset 2 138
 offset 4 294
 time 30 1
 producer 5 2 8 7-7@4
+aborted 5 0 2 3
 end 5
 ";
+    dumps(&rt, rt.alloc(), &limits(100), bytes, text, None)
+}
+
+// A transaction that begins, another producer's batch, and the transaction's end.
+fn aborted_log(alloc: Global) -> Result<Vec<u8>, Refusal> {
+    let mut bytes = Vec::new(alloc);
+    put(&mut bytes, batch(alloc, &transactional(5), b"a")?, 0, 0)?;
+    put(&mut bytes, batch(alloc, &plain(30), b"b")?, 1, 0)?;
+    put(&mut bytes, marker(alloc, 5, 0, 7, Kind::Abort, 20)?, 2, 0)?;
+    Ok(bytes)
+}
+
+// Two transactions, of which the later one is aborted first.
+fn crossing_log(alloc: Global) -> Result<Vec<u8>, Refusal> {
+    let mut bytes = Vec::new(alloc);
+    put(&mut bytes, batch(alloc, &transactional(5), b"a")?, 0, 0)?;
+    put(&mut bytes, batch(alloc, &transactional(6), b"a")?, 1, 0)?;
+    put(&mut bytes, marker(alloc, 6, 0, 1, Kind::Abort, 20)?, 2, 0)?;
+    put(&mut bytes, marker(alloc, 5, 0, 1, Kind::Commit, 20)?, 3, 0)?;
+    Ok(bytes)
+}
+
+#[test]
+fn an_aborted_transaction_is_told(rt: HostRuntime) -> Result<(), Fail> {
+    let text = "batch 0 size 69 base 0 last 0 epoch 0 time 10 producer 5 0 0 txn
+batch 69 size 69 base 1 last 1 epoch 0 time 30 producer -1 -1 -1 data
+batch 138 size 78 base 2 last 2 epoch 0 time 20 producer 5 0 -1 abort 7
+segment 00000000000000000000.log 216
+offset 2 138
+time 30 1
+producer 5 0 7 0-0@0
+aborted 5 0 2 3
+end 3
+";
+    let bytes = aborted_log(rt.alloc())?;
+    dumps(&rt, rt.alloc(), &limits(100), bytes, text, None)
+}
+
+// Before its marker it is open.
+#[test]
+fn an_open_transaction_is_told(rt: HostRuntime) -> Result<(), Fail> {
+    let text = "batch 0 size 69 base 0 last 0 epoch 0 time 10 producer 5 0 0 txn
+batch 69 size 69 base 1 last 1 epoch 0 time 30 producer -1 -1 -1 data
+segment 00000000000000000000.log 138
+producer 5 0 - 0-0@0
+open 5 0
+end 2
+";
+    let mut bytes = aborted_log(rt.alloc())?;
+    bytes.truncate(138);
+    dumps(&rt, rt.alloc(), &limits(100), bytes, text, None)
+}
+
+// Where it is aborted, the last stable offset is where the other one begins.
+#[test]
+fn a_transaction_is_aborted_within_another(rt: HostRuntime) -> Result<(), Fail> {
+    let text = "batch 0 size 69 base 0 last 0 epoch 0 time 10 producer 5 0 0 txn
+batch 69 size 69 base 1 last 1 epoch 0 time 10 producer 6 0 0 txn
+batch 138 size 78 base 2 last 2 epoch 0 time 20 producer 6 0 -1 abort 1
+batch 216 size 78 base 3 last 3 epoch 0 time 20 producer 5 0 -1 commit 1
+segment 00000000000000000000.log 294
+offset 2 138
+time 20 2
+producer 5 0 1 0-0@0
+producer 6 0 1 0-0@1
+aborted 6 1 2 0
+end 4
+";
+    let bytes = crossing_log(rt.alloc())?;
     dumps(&rt, rt.alloc(), &limits(100), bytes, text, None)
 }
 

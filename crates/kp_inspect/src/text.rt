@@ -5,7 +5,8 @@ ghost use Rattle.std.specs.List.{AllByRecursion, flat_map};
 ghost use Rattle.kp_model.specs.Log.{logged, bytes, end_of, next_offset};
 ghost use Rattle.kp_segment.specs.Shown.{run_shows, offset_pair, time_pair};
 ghost use Rattle.kp_inspect.specs.Dump.{batch_line, batch_lines, fault_line, field_text, kind_text, offset_line, time_line};
-ghost use Rattle.kp_inspect.specs.Dump.{kept_text, coordinator_text, producer_line};
+ghost use Rattle.kp_inspect.specs.Dump.{kept_text, coordinator_text, producer_line, open_line, aborted_line};
+ghost use Rattle.kp_txns.specs.Open.{open_left};
 ghost use Rattle.kp_inspect.specs.Texts.{shown_lines, contents_text, TellsTables};
 
 use kp_batch::Batch;
@@ -15,6 +16,7 @@ use kp_offset_index::OffsetEntry;
 use kp_producers::{KeptBatch, ProducerState, Producers};
 use kp_segment::Run;
 use kp_time_index::TimeEntry;
+use kp_txns::{AbortedTransaction, OpenTransactions};
 use kp_types::{Offset, Refusal};
 use std::alloc::AllocError;
 use std::fmt;
@@ -229,12 +231,47 @@ fn push_producers(text: &mut String, producers: &Producers) -> Result<(), AllocE
     Ok(())
 }
 
+/// Appends the lines of the open transactions.
+fn push_open(text: &mut String, transactions: OpenTransactions<'_>) -> Result<(), AllocError>
+    ensures { OnOk result (string_bytes text.new ≡ string_bytes text.old ++ flat_map open_line (open_left transactions.entry)) }
+{
+    for transaction in transactions {
+        writeln!(text, "open {} {}", transaction.producer, transaction.first)?;
+    }
+    Ok(())
+}
+
+/// Appends the line of an aborted transaction.
+fn push_abort(text: &mut String, transaction: &AbortedTransaction) -> Result<(), AllocError>
+    ensures { OnOk result (string_bytes text.new ≡ string_bytes text.old ++ aborted_line transaction.now) }
+{
+    let AbortedTransaction {
+        producer,
+        first,
+        marker,
+        stable,
+    } = *transaction;
+    writeln!(text, "aborted {producer} {first} {marker} {stable}")
+}
+
+/// Appends the lines of the aborted transactions.
+fn push_aborted(text: &mut String, aborted: &[AbortedTransaction]) -> Result<(), AllocError>
+    ensures { OnOk result (string_bytes text.new ≡ string_bytes text.old ++ flat_map aborted_line aborted.now) }
+{
+    for transaction in aborted {
+        push_abort(text, transaction)?;
+    }
+    Ok(())
+}
+
 /// Appends the tables that the log builds, and its end.
 pub(crate) fn push_tables(text: &mut String, log: &PartitionLog) -> Result<(), AllocError>
     ensures { OnOk result (TellsTables log.now (string_bytes text.old) (string_bytes text.new)) }
 {
     push_runs(text, log.tables().runs())?;
     push_producers(text, log.producers())?;
+    push_open(text, log.transactions().open())?;
+    push_aborted(text, log.transactions().aborted())?;
     writeln!(text, "end {}", log.end_offset())
 }
 

@@ -2,7 +2,8 @@ pub mod Numbers
 pub mod Calls
 pub mod Ups
 pub mod Elements
-pub mod Untransacted
+pub mod Boundaries
+pub mod Marked
 pub mod Standing
 pub mod Produced
 pub mod Reports

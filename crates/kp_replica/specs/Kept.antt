@@ -1,6 +1,9 @@
 -- What a replica keeps of its fields.
+use Rattle.std.specs.Prelude.{◌<◌, ◌≤◌}
+use Rattle.std.specs.List.{AllByRecursion}
+use Rattle.kp_model.specs.Log.{IsBoundary}
 use Rattle.kp_log.specs.Entries.{AreEntriesOf}
-use Rattle.kp_replica.specs.Member.{Member, AreOfNoTransaction, HasEpochs}
+use Rattle.kp_replica.specs.Member.{Member, HasEpochs}
 use Rattle.kp_replica.specs.Modes.{mode_of}
 use Rattle.kp_replica.specs.declared.replica.Replica.TheInside.{Inside}
 
@@ -19,8 +22,11 @@ member_of r =
           };
     }
 
--- the undo entries are those of the log's last batches
+-- The undo entries are those of the log's last batches, each of them above the watermark; the watermark is a boundary of
+-- the log, and no batch above it is settled.
 pub record IsKept (r : Inside) : Type 0 where
   pub entries : AreEntriesOf r.log r.entries
+  pub unsettled : AllByRecursion (λ entry. r.watermark < entry.end) r.entries
   pub epochs : HasEpochs r.log.log (mode_of r.mode)
-  pub untransacted : AreOfNoTransaction r.log.log
+  pub boundary : IsBoundary r.log.log r.watermark
+  pub settled : r.log.settled ≤ r.watermark

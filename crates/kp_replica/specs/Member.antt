@@ -1,9 +1,6 @@
 -- A node of the model with its number, and what it is that a call does.
-use Rattle.std.specs.Prelude.{◌≡◌, ℕ, ◌+◌, ◌<◌, ◌≤◌, ◌^◌, false, List, [], unwrap_or}
-use Rattle.std.specs.List.{AllByRecursion}
+use Rattle.std.specs.Prelude.{◌≡◌, ℕ, ◌+◌, ◌<◌, ◌≤◌, ◌^◌, List, [], unwrap_or}
 use Rattle.kp_model.specs.Log.{Batch}
-use Rattle.kp_model.specs.Producers.{content_of}
-use Rattle.kp_model.specs.Transactions.{is_transactional}
 use Rattle.kp_model.specs.World.{LeaderAndIsr, Mode, Down, Idle, Leads, Follows, Node}
 use Rattle.kp_model.specs.Event.{Act, Reply}
 use Rattle.kp_model.specs.Local.{Local, becomes, last_epoch}
@@ -26,10 +23,6 @@ DoesUnder controller old new act reply =
 -- The node did this, whatever the controller's record was.
 abbrev pub Does : Member → Member → Act → Reply → Type 0
 Does old new act reply = (controller : LeaderAndIsr) → DoesUnder controller old new act reply
-
--- no batch of the log is of a transaction (KIP-98)
-abbrev pub AreOfNoTransaction : List Batch → Type 0
-AreOfNoTransaction log = AllByRecursion (λ b. is_transactional (content_of b) ≡ false) log
 
 -- The node's log has no epoch above the node's own; an idle node has had none.
 abbrev pub HasEpochs : List Batch → Mode → Type 0

@@ -1,14 +1,15 @@
 -- The replies of the definitions that the calls' results are.
-use Rattle.std.specs.Prelude.{◌≡◌, ◌⊎◌, ℕ, ◌-◌, true, false, Bool, List, Option, Some, None, Result, Ok, Err, if◌then◌else◌, Contains}
+use Rattle.std.specs.Prelude.{◌≡◌, ℕ, ◌-◌, true, false, Bool, List, Option, Some, None, Result, Ok, Err, if◌then◌else◌, Contains}
 use Rattle.kp_types.specs.declared.refusal.Refusal.{Refusal}
-use Rattle.kp_types.specs.declared.refusal.Refusal.TheVariants.{BadProducerFields}
 use Rattle.kp_batch.specs.Batch.{Body, Written, Content, Plain, Produced, Marker, count_of}
 use Rattle.kp_batch.specs.Laws.{IsBatch}
 use Rattle.kp_batch.specs.Reading.{IsFirstFault}
 use Rattle.kp_model.specs.Log.{Batch, last_offset}
-use Rattle.kp_model.specs.Event.{Reply, Refused, NowLeads, NowFollows, At, DuplicateOf, MarkAt}
+use Rattle.kp_marker.specs.Marker.{commits}
+use Rattle.kp_marker.specs.declared.parts.Marker.{Marker as HandedMarker}
+use Rattle.kp_model.specs.Event.{Act, Mark, Reply, Refused, NowLeads, NowFollows, At, DuplicateOf, MarkAt}
+use Rattle.kp_model.specs.Local.{marker_body}
 use Rattle.kp_model.specs.Producers.{sequence_after}
-use Rattle.kp_model.specs.Transactions.{is_transactional}
 use Rattle.kp_replica.specs.declared.replica.Role.{Role}
 use Rattle.kp_replica.specs.declared.replica.Role.TheVariants as roles
 use Rattle.kp_replica.specs.declared.replica.Receipt.{Receipt}
@@ -26,16 +27,17 @@ abbrev pub mark_reply : Result ℕ Refusal → Reply
 mark_reply (Ok watermark) = MarkAt watermark
 mark_reply (Err refusal) = Refused refusal
 
--- the bytes are a batch of a transaction
-abbrev pub IsOfTransaction : ℕ → List ℕ → Type 0
-IsOfTransaction max bytes = (w : Written) × IsBatch max bytes w × (is_transactional w.body.content ≡ true)
-
--- What the bytes hand in: the batch that they are, or their first fault. A batch of a transaction is refused
--- behind all of them (of this stage; the next one admits transactions).
+-- What the bytes hand in: the batch that they are, or their first fault.
 abbrev pub IsOffer : ℕ → List ℕ → Result Body Refusal → Type 0
-IsOffer max bytes (Ok body) =
-    (w : Written) × IsBatch max bytes w × (is_transactional w.body.content ≡ false) × (w.body ≡ body)
-IsOffer max bytes (Err fault) = IsFirstFault max bytes fault ⊎ (IsOfTransaction max bytes × (fault ≡ BadProducerFields))
+IsOffer max bytes (Ok body) = (w : Written) × IsBatch max bytes w × (w.body ≡ body)
+IsOffer max bytes (Err fault) = IsFirstFault max bytes fault
+
+-- What a transaction coordinator asks for that hands in this marker, and the body that stands in the log then (KIP-98).
+abbrev pub mark_of : HandedMarker → Act
+mark_of m = Mark m.timestamp m.producer_id m.producer_epoch m.coordinator_epoch (commits m.kind)
+
+abbrev pub body_of : HandedMarker → Body
+body_of m = marker_body m.timestamp m.producer_id m.producer_epoch m.coordinator_epoch (commits m.kind)
 
 -- the receipt names this batch
 pub record IsNamedBy (receipt : Receipt) (b : Batch) : Type 0 where
@@ -73,3 +75,10 @@ pub record IsReceiptOf (max : ℕ) (bytes : List ℕ) (log : List Batch) (receip
   pub stands : Contains log batch
   pub named : IsNamedBy receipt batch
   pub stands_for : StandsFor receipt.duplicate batch body
+
+-- The batch that the receipt names stands in the log, and has this body.
+pub record IsReceiptOfBody (body : Body) (log : List Batch) (receipt : Receipt) : Type 0 where
+  pub batch : Batch
+  pub stands : Contains log batch
+  pub named : IsNamedBy receipt batch
+  pub is : batch.body ≡ body

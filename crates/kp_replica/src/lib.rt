@@ -12,8 +12,7 @@ mod replica;
 pub use record::{Leader, NodeSet, Record};
 pub use replica::{Receipt, Replica, Role};
 
-/// All bytes hand in one thing, and only one: a batch of no transaction, or the refusal of what they are. It costs
-/// nothing.
+/// All bytes hand in one thing, and only one: a batch, or the refusal of what they are. It costs nothing.
 pub fn bytes_are_an_offer()
     ensures some { BytesAreAnOffer }
     ensures one { OffersAreOne }

@@ -3,8 +3,9 @@ ghost use Rattle.std.specs.Prelude.{◌≤◌};
 use super::*;
 use bytes::Bytes;
 use kp_batch::{Batch, Fields, Parts};
-use kp_marker::{Kind, marker};
-use kp_types::{Limits, NodeId, Refusal};
+use kp_marker::{Kind, Marker, marker, read_marker};
+use kp_txns::AbortedTransaction;
+use kp_types::{Limits, NodeId, Offset, Refusal};
 use std::alloc::Global;
 use std::test::Fail;
 
@@ -137,35 +138,34 @@ fn cuts_its_log_by_its_limits(rt: HostRuntime) -> Result<(), Fail> {
     Ok(())
 }
 
+// A leader of epoch 0 whose log has one batch, of the record `a`.
+fn leader_of_one(alloc: Global) -> Result<Replica, Refusal> {
+    let mut node = Replica::new(alloc, 0, &LIMITS);
+    let record = elected(1)?;
+    let _ = node.adopt(&record)?;
+    let _ = node.produce(batch(alloc)?)?;
+    Ok(node)
+}
+
 #[test]
-fn appends_and_raises(rt: HostRuntime) -> Result<(), Fail> {
-    let mut node = Replica::new(rt.alloc(), 0, &LIMITS);
-    assert_eq!(rt;
-        node.adopt(&elected(1)?),
-        Ok(Role::Leads { epoch: 0, start: 0 })
-    );
-    let receipt = node.produce(batch(rt.alloc())?)?;
-    let want = Receipt {
-        base: 0,
-        last: 0,
-        epoch: 0,
-        duplicate: false,
-    };
-    assert_eq!(rt; receipt, want);
+fn stores_the_batch_that_it_stamps(rt: HostRuntime) -> Result<(), Fail> {
+    let mut node = leader_of_one(rt.alloc())?;
     let short = Bytes::copy_from_slice(rt.alloc(), &[0; 5])?;
     assert_eq!(rt; node.produce(short), Err(Refusal::Truncated));
-    assert_eq!(rt; node.log().end_offset(), 1);
     assert_eq!(rt; node.log().batches().len(), 1);
     for stored in node.log().batches() {
-        assert_eq!(rt; stored.base_offset(), 0);
-        assert_eq!(rt; stored.leader_epoch(), Some(0));
-        assert_eq!(rt; stored.crc(), 0xebf1_884b);
+        let found = (stored.base_offset(), stored.leader_epoch(), stored.crc());
+        assert_eq!(rt; found, (0, Some(0), 0xebf1_884b));
     }
-    assert_eq!(rt; node.watermark(), 0);
-    assert_eq!(rt; node.stable_offset(), 0);
+    Ok(())
+}
+
+#[test]
+fn raises_to_its_end(rt: HostRuntime) -> Result<(), Fail> {
+    let mut node = leader_of_one(rt.alloc())?;
+    assert_eq!(rt; (node.watermark(), node.stable_offset()), (0, 0));
     assert_eq!(rt; node.raise(), Ok(1));
-    assert_eq!(rt; node.watermark(), 1);
-    assert_eq!(rt; node.stable_offset(), 1);
+    assert_eq!(rt; (node.watermark(), node.stable_offset()), (1, 1));
     assert_eq!(rt; node.life(), 0);
     Ok(())
 }
@@ -197,20 +197,123 @@ fn waits_for_the_others_in_sync(rt: HostRuntime) -> Result<(), Fail> {
     Ok(())
 }
 
+// What a node is asked to do; a marker has a producer, its epoch and a coordinator epoch.
+#[derive(Clone, Copy)]
+enum Step {
+    Transactional,
+    Plain,
+    Raise,
+    Mark(u8, u8, u8, Kind),
+}
+
+// The base offset of what stands in the log, or the high watermark.
+fn did(node: &mut Replica, alloc: Global, step: Step) -> Result<Offset, Refusal> {
+    match step {
+        Step::Transactional => {
+            let bytes = Bytes::copy_from_slice(alloc, &OF_A_TRANSACTION)?;
+            Ok(node.produce(bytes)?.base)
+        }
+        Step::Plain => Ok(node.produce(batch(alloc)?)?.base),
+        Step::Raise => node.raise(),
+        Step::Mark(producer, epoch, coordinator, kind) => {
+            let marker = Marker {
+                producer_id: u64::from(producer),
+                producer_epoch: u16::from(epoch),
+                coordinator_epoch: u32::from(coordinator),
+                kind,
+                timestamp: 20,
+            };
+            Ok(node.mark(alloc, &marker)?.base)
+        }
+    }
+}
+
 #[test]
-fn refuses_data_of_a_transaction(rt: HostRuntime) -> Result<(), Fail> {
+fn a_transaction_holds_the_stable_offset_back(rt: HostRuntime) -> Result<(), Fail> {
     let mut node = Replica::new(rt.alloc(), 0, &LIMITS);
-    let bytes = Bytes::copy_from_slice(rt.alloc(), &OF_A_TRANSACTION)?;
-    assert_eq!(rt; node.produce(bytes.clone()?), Err(Refusal::NotLeader));
-    assert_eq!(rt;
-        node.adopt(&elected(1)?),
-        Ok(Role::Leads { epoch: 0, start: 0 })
-    );
-    let short = Bytes::copy_from_slice(rt.alloc(), &OF_A_TRANSACTION[..68])?;
-    assert_eq!(rt; node.produce(short), Err(Refusal::Truncated));
-    assert_eq!(rt; node.produce(bytes), Err(Refusal::BadProducerFields));
-    assert!(rt; node.log().is_empty());
-    assert_eq!(rt; node.raise(), Ok(0));
+    let record = elected(1)?;
+    let _ = node.adopt(&record)?;
+    for (step, want, stable) in [
+        (Step::Transactional, Ok(0), 0),
+        (Step::Plain, Ok(1), 0),
+        (Step::Raise, Ok(2), 0),
+        (Step::Mark(5, 0, 7, Kind::Abort), Ok(2), 0),
+        (Step::Raise, Ok(3), 3),
+        (
+            Step::Mark(5, 0, 6, Kind::Commit),
+            Err(Refusal::CoordinatorFenced),
+            3,
+        ),
+        (Step::Transactional, Ok(0), 3),
+    ] {
+        assert_eq!(rt; did(&mut node, rt.alloc(), step), want);
+        assert_eq!(rt; node.stable_offset(), stable);
+    }
+    let want = AbortedTransaction {
+        producer: 5,
+        first: 0,
+        marker: 2,
+        stable: 3,
+    };
+    assert_eq!(rt; node.log().transactions().aborted().first(), Some(&want));
+    Ok(())
+}
+
+#[test]
+fn each_row_of_markers_is_answered(rt: HostRuntime) -> Result<(), Fail> {
+    let mut node = Replica::new(rt.alloc(), 0, &LIMITS);
+    let before = did(&mut node, rt.alloc(), Step::Mark(5, 0, 7, Kind::Abort));
+    assert_eq!(rt; before, Err(Refusal::NotLeader));
+    let record = elected(1)?;
+    let _ = node.adopt(&record)?;
+    for (step, want) in [
+        (Step::Mark(5, 0, 7, Kind::Abort), Ok(0)),
+        (Step::Mark(5, 2, 7, Kind::Commit), Ok(1)),
+        (
+            Step::Mark(5, 1, 9, Kind::Commit),
+            Err(Refusal::InvalidProducerEpoch),
+        ),
+        (
+            Step::Mark(5, 1, 6, Kind::Commit),
+            Err(Refusal::InvalidProducerEpoch),
+        ),
+        (
+            Step::Mark(5, 3, 6, Kind::Commit),
+            Err(Refusal::CoordinatorFenced),
+        ),
+        (Step::Transactional, Err(Refusal::InvalidProducerEpoch)),
+        (Step::Mark(6, 0, 0, Kind::Abort), Ok(2)),
+        (Step::Raise, Ok(3)),
+    ] {
+        assert_eq!(rt; did(&mut node, rt.alloc(), step), want);
+    }
+    assert_eq!(rt; node.log().transactions().aborted().len(), 0);
+    Ok(())
+}
+
+#[test]
+fn a_marker_stands_as_it_was_made(rt: HostRuntime) -> Result<(), Fail> {
+    let mut node = Replica::new(rt.alloc(), 0, &LIMITS);
+    let record = elected(1)?;
+    let _ = node.adopt(&record)?;
+    let handed = Marker {
+        producer_id: 5,
+        producer_epoch: 1,
+        coordinator_epoch: 7,
+        kind: Kind::Commit,
+        timestamp: 20,
+    };
+    let want = Receipt {
+        base: 0,
+        last: 0,
+        epoch: 0,
+        duplicate: false,
+    };
+    assert_eq!(rt; node.mark(rt.alloc(), &handed), Ok(want));
+    for stored in node.log().batches() {
+        assert_eq!(rt; read_marker(stored), Some(handed));
+    }
+    assert_eq!(rt; node.log().batches().len(), 1);
     Ok(())
 }
 

@@ -1,6 +1,6 @@
 -- No cause speaks against a batch of a line's values, and a batch that is asked for has the content that its fields say.
 use Rattle.std.proofs.Common.{◌≡◌, ℕ, suc, ◌+◌, ◌<◌, ◌≤◌, ◌^◌, Bool, true, false, List, [], ◌∷◌, length, Some, None, map, refl, sym, ap, ◌∙◌, arith}
-use Rattle.std.specs.Prelude.{nat_lt}
+use Rattle.std.specs.Prelude.{nat_lt, if◌then◌else◌}
 use Rattle.std.specs.List.{list_all}
 use Rattle.std.specs.Str.{is_utf8}
 use Rattle.std.proofs.lemmas.Bool.{ne_eqb, lt-ltb, le-ltb}
@@ -14,7 +14,6 @@ use Rattle.kp_batch.specs.Producer.{producer_of, producer_epoch_of, sequence_of}
 use Rattle.kp_batch.specs.Building.{asked_size, has_text_keys, head_cause, key_cause, marker_cause}
 use Rattle.kp_batch.specs.Spelling.{spell_cause}
 use Rattle.kp_batch.specs.declared.build.Fields.{Fields}
-use Rattle.kp_model.specs.Transactions.{is_transactional}
 use Rattle.kp_script.specs.Call.{Sender}
 use Rattle.kp_script.specs.Told.{plain_record, body_at}
 
@@ -90,18 +89,14 @@ plain_is time (Produced producer epoch sequence transactional records) a p = abs
 plain_is time (Marker producer epoch coordinator commit) a p = absurd (omega (arith, a))
 
 -- the content of an asked batch of a producer
-pub produced_is : (time : ℕ) (c : Content) (p e s : ℕ) → attributes c ≡ 0 → producer_of c ≡ Some p → producer_epoch_of c ≡ Some e → sequence_of c ≡ Some s → c ≡ Produced p e s false (contents time c)
-produced_is time (Plain records) p e s a x y z = absurd cc
-produced_is time (Produced producer epoch sequence true records) p e s a x y z = absurd (omega (arith, a))
-produced_is time (Produced producer epoch sequence false records) p e s a x y z = cc
-produced_is time (Marker producer epoch coordinator commit) p e s a x y z = absurd (omega (arith, a))
-
--- an asked batch of a transaction
-pub transactional_is : (c : Content) → attributes c ≡ 16 → is_transactional c ≡ true
-transactional_is (Plain records) a = absurd (omega (arith, a))
-transactional_is (Produced producer epoch sequence true records) a = refl
-transactional_is (Produced producer epoch sequence false records) a = absurd (omega (arith, a))
-transactional_is (Marker producer epoch coordinator commit) a = absurd (omega (arith, a))
+pub produced_is : (time : ℕ) (c : Content) (p e s : ℕ) (t : Bool) → attributes c ≡ (if t then 16 else 0) → producer_of c ≡ Some p → producer_epoch_of c ≡ Some e → sequence_of c ≡ Some s → c ≡ Produced p e s t (contents time c)
+produced_is time (Plain records) p e s t a x y z = absurd cc
+produced_is time (Produced producer epoch sequence true records) p e s true a x y z = cc
+produced_is time (Produced producer epoch sequence true records) p e s false a x y z = absurd (omega (arith, a))
+produced_is time (Produced producer epoch sequence false records) p e s true a x y z = absurd (omega (arith, a))
+produced_is time (Produced producer epoch sequence false records) p e s false a x y z = cc
+produced_is time (Marker producer epoch coordinator commit) p e s true a x y z = absurd (omega (arith, a))
+produced_is time (Marker producer epoch coordinator commit) p e s false a x y z = absurd (omega (arith, a))
 
 -- a body is its time and its content
 pub body_is : (b : Body) (time : ℕ) (content : Content) → b.base_time ≡ time → b.content ≡ content → b ≡ body_at time content

@@ -17,9 +17,11 @@ pub data Call : Type 0 where
   Adopt : (node : ℕ) → Call
   Append : (node time : ℕ) → (sender : Sender) → (transactional : Bool) → (values : List (List ℕ)) → Call
   Raw : (node : ℕ) → (bytes : List ℕ) → Call
+  Mark : (node time producer epoch coordinator : ℕ) → (commit : Bool) → Call
   Raise : (node : ℕ) → Call
   Show : (node : ℕ) → Call
   Read : (node from : ℕ) → Call
+  Committed : (node from : ℕ) → Call
 
 -- the node that a call names
 abbrev pub node_of : Call → ℕ
@@ -27,9 +29,11 @@ node_of (Elect node) = node
 node_of (Adopt node) = node
 node_of (Append node time sender transactional values) = node
 node_of (Raw node bytes) = node
+node_of (Mark node time producer epoch coordinator commit) = node
 node_of (Raise node) = node
 node_of (Show node) = node
 node_of (Read node from) = node
+node_of (Committed node from) = node
 
 -- what the first line that counts says: how many nodes there are, and the limits of their segments and indexes
 pub record Header : Type 0 where
@@ -59,6 +63,11 @@ abbrev pub kind_text : (transactional : Bool) → List ℕ
 kind_text true = codes "t"
 kind_text false = codes "d"
 
+-- how a transaction ends
+abbrev pub ending_text : (commit : Bool) → List ℕ
+ending_text true = codes "commit"
+ending_text false = codes "abort"
+
 abbrev pub header_text : Header → List ℕ
 header_text header =
     spaced (codes "nodes" ∷ decimal header.count ∷ codes "segment" ∷ decimal header.segment ∷ codes "interval" ∷ decimal header.interval ∷ [])
@@ -69,9 +78,12 @@ call_text (Adopt node) = spaced (codes "adopt" ∷ decimal node ∷ [])
 call_text (Append node time sender transactional values) =
     spaced (codes "append" ∷ decimal node ∷ decimal time ∷ signed_text sender.producer ∷ signed_text sender.epoch ∷ signed_text sender.sequence ∷ kind_text transactional ∷ values_text values ∷ [])
 call_text (Raw node bytes) = spaced (codes "raw" ∷ decimal node ∷ hex_text bytes ∷ [])
+call_text (Mark node time producer epoch coordinator commit) =
+    spaced (codes "mark" ∷ decimal node ∷ decimal time ∷ decimal producer ∷ decimal epoch ∷ decimal coordinator ∷ ending_text commit ∷ [])
 call_text (Raise node) = spaced (codes "raise" ∷ decimal node ∷ [])
 call_text (Show node) = spaced (codes "show" ∷ decimal node ∷ [])
 call_text (Read node from) = spaced (codes "read" ∷ decimal node ∷ decimal from ∷ [])
+call_text (Committed node from) = spaced (codes "committed" ∷ decimal node ∷ decimal from ∷ [])
 
 -- A byte of a value is a visible ASCII character other than the comma.
 abbrev pub is_value_byte : ℕ → Bool
@@ -102,9 +114,12 @@ IsCallInRange count (Adopt node) = node < count
 IsCallInRange count (Append node time sender transactional values) =
     (node < count) × (time < 2 ^ 62) × IsSender sender × (0 < length values) × IsTrue (list_all is_value values)
 IsCallInRange count (Raw node bytes) = (node < count) × (0 < length bytes) × AreBytes bytes
+IsCallInRange count (Mark node time producer epoch coordinator commit) =
+    (node < count) × (time < 2 ^ 62) × (producer < 2 ^ 63) × (epoch < 2 ^ 15) × (coordinator < 2 ^ 31)
 IsCallInRange count (Raise node) = node < count
 IsCallInRange count (Show node) = node < count
 IsCallInRange count (Read node from) = (node < count) × (from < 2 ^ 62)
+IsCallInRange count (Committed node from) = (node < count) × (from < 2 ^ 62)
 
 -- A call is in range, and its line has at most 2,100,000 bytes.
 pub record IsCall (count : ℕ) (call : Call) : Type 0 where

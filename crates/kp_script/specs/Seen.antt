@@ -1,6 +1,7 @@
 -- What the parser's values say, apart from where they lie in memory.
 use Rattle.std.specs.Prelude.{ℕ, map}
-use Rattle.kp_script.specs.Call.{Call, Header, Sender, Elect, Adopt, Append, Raw, Raise, Show, Read, pieces}
+use Rattle.kp_script.specs.Call.{Call, Header, Sender, Elect, Adopt, Append, Raw, Mark, Raise, Show, Read, Committed, pieces}
+use Rattle.kp_marker.specs.Marker.{commits}
 use Rattle.kp_script.specs.Hex.{bytes_of}
 use Rattle.kp_script.specs.declared.call.Call.{Call as ParsedCall}
 use Rattle.kp_script.specs.declared.call.Call.TheVariants as parsed
@@ -21,9 +22,12 @@ seen_call (parsed.Elect node) = Elect node
 seen_call (parsed.Adopt node) = Adopt node
 seen_call (parsed.Append node time sender transactional values) = Append node time (seen_sender sender) transactional (pieces values.now)
 seen_call (parsed.Raw node digits) = Raw node (bytes_of digits.now)
+seen_call (parsed.Mark node marker) =
+    Mark node marker.timestamp marker.producer_id marker.producer_epoch marker.coordinator_epoch (commits marker.kind)
 seen_call (parsed.Raise node) = Raise node
 seen_call (parsed.Show node) = Show node
 seen_call (parsed.Read node from) = Read node from
+seen_call (parsed.Committed node from) = Committed node from
 
 abbrev pub seen_line : ParsedLine → ℕ × Call
 seen_line line = (line.number, seen_call line.call)

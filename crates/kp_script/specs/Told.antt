@@ -5,21 +5,22 @@ use Rattle.kp_types.specs.declared.refusal.Refusal.{Refusal}
 use Rattle.kp_types.specs.declared.refusal.Refusal.TheVariants.{TooLarge, BadProducerFields}
 use Rattle.kp_record.specs.Record.{Record, records_spelling}
 use Rattle.kp_batch.specs.Batch.{Content, Plain, Produced, Body}
-use Rattle.kp_model.specs.Event.{Event, Elect as ElectNode, Acts, Adopt as AdoptRecord, Produce, Raise as RaiseMark, Show as ShowState, Read as ReadFrom}
+use Rattle.kp_model.specs.Event.{Event, Elect as ElectNode, Acts, Adopt as AdoptRecord, Produce, Mark as HandMarker, Raise as RaiseMark, Show as ShowState, Read as ReadFrom, Committed as ReadCommitted}
 use Rattle.kp_replica.specs.Replies.{IsOffer}
 use Rattle.kp_world.specs.Events.{IsEvent, AreEvents}
 use Rattle.kp_world.specs.declared.event.Event.{Event as CodeEvent}
-use Rattle.kp_script.specs.Call.{Call, Sender, Elect, Adopt, Append, Raw, Raise, Show, Read}
+use Rattle.kp_script.specs.Call.{Call, Sender, Elect, Adopt, Append, Raw, Mark, Raise, Show, Read, Committed}
 
 -- a record that has a value alone
 abbrev pub plain_record : (time : ℕ) → List ℕ → Record
 plain_record time value = record { time = time; key = None; value = Some value; headers = [] }
 
--- The content that a producer's fields and the kind of a batch say, where they agree (KIP-98). A transaction's batch
--- is none of this stage: a replica refuses it as fields that don't agree.
+-- The content that a producer's fields and the kind of a batch say, where they agree: a transaction's batch has a
+-- producer (KIP-98).
 abbrev pub said_of : (producer epoch sequence : Option ℕ) → (transactional : Bool) → List Record → Option Content
 said_of None None None false records = Some (Plain records)
-said_of (Some producer) (Some epoch) (Some sequence) false records = Some (Produced producer epoch sequence false records)
+said_of (Some producer) (Some epoch) (Some sequence) transactional records =
+    Some (Produced producer epoch sequence transactional records)
 said_of _ _ _ _ records = None
 
 abbrev pub said : Sender → (transactional : Bool) → List Record → Option Content
@@ -45,9 +46,12 @@ IsTold max (Append node time sender transactional values) e =
     e ≡ Acts node (Produce (offer_of max time sender transactional values))
 IsTold max (Raw node bytes) e =
     (offer : Result Body Refusal) × IsOffer max bytes offer × (e ≡ Acts node (Produce offer))
+IsTold max (Mark node time producer epoch coordinator commit) e =
+    e ≡ Acts node (HandMarker time producer epoch coordinator commit)
 IsTold max (Raise node) e = e ≡ Acts node RaiseMark
 IsTold max (Show node) e = e ≡ Acts node ShowState
 IsTold max (Read node from) e = e ≡ Acts node (ReadFrom from)
+IsTold max (Committed node from) e = e ≡ Acts node (ReadCommitted from)
 
 -- The calls tell these events, each call one of them, in their order.
 abbrev pub AreTold : (max : ℕ) → List Call → List Event → Type 0

@@ -1,14 +1,18 @@
 //! The header and the calls, and the readers of their lines.
 
 ghost use Rattle.std.specs.Prelude.{◌≡◌, ◌≢◌, ℕ, Bool, List, ◌∷◌, ◌++◌, ◌≤◌, length, IfSome, IfNone};
-ghost use Rattle.kp_script.specs.Call.{is_value, is_value_byte, kind_text, pieces, Sender as SpelledSender, IsSender, IsHeaderText, IsCallText, SpellsNoHeader, SpellsNoCall, HasOneCall};
+ghost use Rattle.kp_script.specs.Call.{is_value, is_value_byte, kind_text, ending_text, pieces, Sender as SpelledSender, IsSender, IsHeaderText, IsCallText, SpellsNoHeader, SpellsNoCall, HasOneCall};
 ghost use Rattle.std.specs.List.{list_all};
-ghost use Rattle.kp_script.specs.Read.{sender_front, SpellsNoAppend, SpellsNoRaw, SpellsNoRead};
+ghost use Rattle.kp_marker.specs.Marker.{commits};
+ghost use Rattle.kp_marker.specs.declared.parts.Marker.{Marker as SpelledMarker};
+ghost use Rattle.kp_world.specs.Events.{IsInRange};
+ghost use Rattle.kp_script.specs.Read.{sender_front, marker_text, SpellsNoAppend, SpellsNoRaw, SpellsNoMark, SpellsNoHanded, SpellsNoRead, SpellsNoCommitted};
 ghost use Rattle.kp_script.specs.Seen.{seen_header, seen_sender, seen_call};
 
 use crate::hex::is_hex;
 use crate::lines::LONGEST_LINE;
 use crate::words::{after, field_then, last_field, number_below, number_then, signed_then};
+use kp_marker::{Kind, Marker};
 use kp_types::{
     GREATEST_OFFSET, GREATEST_SEGMENT_BYTES, LEAST_SEGMENT_BYTES, MAX_INDEX_INTERVAL, NodeId,
     Offset,
@@ -24,6 +28,8 @@ const GREATEST_PRODUCER: u64 = 9_223_372_036_854_775_807;
 const GREATEST_PRODUCER_EPOCH: u64 = 32_767;
 /// The greatest sequence number of a producer, 2^31 - 1.
 const GREATEST_SEQUENCE: u64 = 2_147_483_647;
+/// The greatest epoch of a transaction coordinator, 2^31 - 1.
+const GREATEST_COORDINATOR_EPOCH: u64 = 2_147_483_647;
 
 /// How many nodes there are, and the limits of their segments and indexes.
 #[derive(Clone, Copy, Debug, PartialEq, Eq)]
@@ -74,6 +80,11 @@ pub enum Call<'a> {
         node: NodeId,
         digits: &'a [u8],
     },
+    /// A transaction coordinator hands the node this marker, which ends a producer's transaction (KIP-98).
+    Mark {
+        node: NodeId,
+        marker: Marker,
+    },
     /// The node raises its high watermark.
     Raise {
         node: NodeId,
@@ -82,8 +93,14 @@ pub enum Call<'a> {
     Show {
         node: NodeId,
     },
-    /// A consumer reads at the node, the committed records from this offset on.
+    /// A consumer reads at the node, the records from this offset on that lie below the high watermark.
     Read {
+        node: NodeId,
+        from: Offset,
+    },
+    /// A consumer reads at the node, of the records from this offset on that lie below the last stable offset, those
+    /// that no aborted transaction has (KIP-98, `read_committed`).
+    Committed {
         node: NodeId,
         from: Offset,
     },
@@ -103,9 +120,11 @@ impl Call<'_> {
             | Call::Adopt { node }
             | Call::Append { node, .. }
             | Call::Raw { node, .. }
+            | Call::Mark { node, .. }
             | Call::Raise { node }
             | Call::Show { node }
-            | Call::Read { node, .. } => *node,
+            | Call::Read { node, .. }
+            | Call::Committed { node, .. } => *node,
         }
     }
 }
@@ -247,6 +266,80 @@ fn raw_of(line: &[u8], count: NodeId) -> Option<Call<'_>>
     })
 }
 
+/// How a transaction ends, as the whole of these bytes say it.
+fn ending_of(bytes: &[u8]) -> Option<Kind>
+    ensures found { IfSome result (λ kind. bytes.now ≡ ending_text (commits kind)) }
+    ensures none { IfNone result ((commit : Bool) → bytes.now ≢ ending_text commit) }
+{
+    match bytes {
+        b"commit" => Some(Kind::Commit),
+        b"abort" => Some(Kind::Abort),
+        _ => None,
+    }
+}
+
+/// The marker whose fields the whole of these bytes spell.
+fn marker_of(bytes: &[u8]) -> Option<Marker>
+    ensures found { IfSome result (λ marker. (bytes.now ≡ marker_text marker) × IsInRange marker) }
+    ensures none { IfNone result ((marker : SpelledMarker) → IsInRange marker → bytes.now ≢ marker_text marker) }
+{
+    let Some((timestamp, rest)) = number_then(bytes, GREATEST_TIME + 1) else {
+        return None;
+    };
+    let Some((producer_id, rest)) = number_then(rest, GREATEST_PRODUCER + 1) else {
+        return None;
+    };
+    let Some((producer_epoch, rest)) = number_then(rest, GREATEST_PRODUCER_EPOCH + 1) else {
+        return None;
+    };
+    let Some((coordinator_epoch, rest)) = number_then(rest, GREATEST_COORDINATOR_EPOCH + 1) else {
+        return None;
+    };
+    let Some(kind) = ending_of(rest) else {
+        return None;
+    };
+    Some(Marker {
+        producer_id,
+        producer_epoch: producer_epoch as u16,
+        coordinator_epoch: coordinator_epoch as u32,
+        kind,
+        timestamp,
+    })
+}
+
+/// The call that the whole line spells where it hands in a marker.
+fn mark_of(line: &[u8], count: NodeId) -> Option<Call<'_>>
+    requires short { length line.now ≤ 2100000 }
+    ensures found { IfSome result (λ call. IsCallText count line.now (seen_call call)) }
+    ensures none { IfNone result (SpellsNoMark count line.now) }
+{
+    let Some((node, rest)) = field_then(b"mark ", line, u64::from(count)) else {
+        return None;
+    };
+    let Some(marker) = marker_of(rest) else {
+        return None;
+    };
+    Some(Call::Mark {
+        node: node as NodeId,
+        marker,
+    })
+}
+
+/// The call that the whole line spells where it hands something in: an append, raw bytes or a marker.
+fn handed_of(line: &[u8], count: NodeId) -> Option<Call<'_>>
+    requires short { length line.now ≤ 2100000 }
+    ensures found { IfSome result (λ call. IsCallText count line.now (seen_call call)) }
+    ensures none { IfNone result (SpellsNoHanded count line.now) }
+{
+    if let Some(call) = append_of(line, count) {
+        return Some(call);
+    }
+    if let Some(call) = raw_of(line, count) {
+        return Some(call);
+    }
+    mark_of(line, count)
+}
+
 /// The read that the whole line spells.
 fn read_of(line: &[u8], count: NodeId) -> Option<Call<'_>>
     requires short { length line.now ≤ 2100000 }
@@ -265,6 +358,24 @@ fn read_of(line: &[u8], count: NodeId) -> Option<Call<'_>>
     })
 }
 
+/// The read of committed records that the whole line spells.
+fn committed_of(line: &[u8], count: NodeId) -> Option<Call<'_>>
+    requires short { length line.now ≤ 2100000 }
+    ensures found { IfSome result (λ call. IsCallText count line.now (seen_call call)) }
+    ensures none { IfNone result (SpellsNoCommitted count line.now) }
+{
+    let Some((node, rest)) = field_then(b"committed ", line, u64::from(count)) else {
+        return None;
+    };
+    let Some(from) = number_below(rest, GREATEST_OFFSET + 1) else {
+        return None;
+    };
+    Some(Call::Committed {
+        node: node as NodeId,
+        from,
+    })
+}
+
 /// The call that the whole line spells, where there are so many nodes. Takes time proportional to the line, and no
 /// memory.
 pub fn call_of(line: &[u8], count: NodeId) -> Option<Call<'_>>
@@ -274,13 +385,13 @@ pub fn call_of(line: &[u8], count: NodeId) -> Option<Call<'_>>
     if line.len() > LONGEST_LINE {
         return None;
     }
-    if let Some(call) = append_of(line, count) {
-        return Some(call);
-    }
-    if let Some(call) = raw_of(line, count) {
+    if let Some(call) = handed_of(line, count) {
         return Some(call);
     }
     if let Some(call) = read_of(line, count) {
+        return Some(call);
+    }
+    if let Some(call) = committed_of(line, count) {
         return Some(call);
     }
     let limit = u64::from(count);

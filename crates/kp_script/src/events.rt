@@ -4,7 +4,7 @@ ghost use Rattle.std.specs.Prelude.{◌≡◌, ℕ, ◌<◌, ◌≤◌, ◌^◌,
 ghost use Rattle.std.specs.List.{AllByRecursion};
 ghost use Rattle.kp_types.specs.declared.refusal.Refusal.TheVariants.{Memory};
 ghost use Rattle.kp_record.specs.Made.{record_made};
-ghost use Rattle.kp_world.specs.Events.{node_of};
+ghost use Rattle.kp_world.specs.Events.{node_of, HasMarker};
 ghost use Rattle.kp_script.specs.Call.{Append, Raw, IsCall, IsSender, pieces};
 ghost use Rattle.kp_script.specs.Hex.{bytes_of};
 ghost use Rattle.kp_script.specs.Told.{plain_record, Tells, TellsAll};
@@ -53,6 +53,7 @@ fn append_event(
     ensures told { IfOk result
         (λ event. (max : ℕ) → Tells max (Append node time (seen_sender sender) transactional (pieces values.now)) event) }
     ensures node { IfOk result (λ event. node_of event ≡ node) }
+    ensures marker { IfOk result HasMarker }
     ensures only { IfErr result (λ refusal. refusal ≡ Memory) }
 {
     let fields = Fields {
@@ -73,6 +74,7 @@ fn append_event(
 fn raw_event(alloc: Global, node: NodeId, digits: &[u8]) -> Result<Event, Refusal>
     ensures told { IfOk result (λ event. (max : ℕ) → Tells max (Raw node (bytes_of digits.now)) event) }
     ensures node { IfOk result (λ event. node_of event ≡ node) }
+    ensures marker { IfOk result HasMarker }
     ensures only { IfErr result (λ refusal. refusal ≡ Memory) }
 {
     kp_replica::bytes_are_an_offer();
@@ -85,6 +87,7 @@ fn event_of(alloc: Global, call: &Call<'_>, count: NodeId) -> Result<Event, Refu
     requires { IsCall count (seen_call call.now) }
     ensures told { IfOk result (λ event. (max : ℕ) → Tells max (seen_call call.now) event) }
     ensures node { IfOk result (λ event. node_of event < count) }
+    ensures marker { IfOk result HasMarker }
     ensures only { IfErr result (λ refusal. refusal ≡ Memory) }
 {
     let _ = count;
@@ -99,9 +102,11 @@ fn event_of(alloc: Global, call: &Call<'_>, count: NodeId) -> Result<Event, Refu
             values,
         } => append_event(alloc, node, time, sender, transactional, values),
         Call::Raw { node, digits } => raw_event(alloc, node, digits),
+        Call::Mark { node, marker } => Ok(Event::Mark { node, marker }),
         Call::Raise { node } => Ok(Event::Raise { node }),
         Call::Show { node } => Ok(Event::Show { node }),
         Call::Read { node, from } => Ok(Event::Read { node, from }),
+        Call::Committed { node, from } => Ok(Event::Committed { node, from }),
     }
 }
 
@@ -115,6 +120,7 @@ pub(crate) fn events_of(
     ensures told { IfOk result
         (λ events. (max : ℕ) → TellsAll max (map (λ call. call.1) (map seen_line lines.now)) events.items) }
     ensures nodes { IfOk result (λ events. AllByRecursion (λ event. node_of event < count) events.items) }
+    ensures markers { IfOk result (λ events. AllByRecursion HasMarker events.items) }
     ensures only { IfErr result (λ refusal. refusal ≡ Memory) }
 {
     let mut events = Vec::new(alloc);

@@ -1,5 +1,6 @@
 use super::*;
 use crate::hex::bytes_of;
+use kp_marker::{Kind, Marker};
 use kp_types::{Counted, Refusal};
 use std::alloc::{AllocError, Global};
 use std::process::Abort;
@@ -170,6 +171,27 @@ fn faulty_lines(rt: HostRuntime) -> Result<(), Fail> {
         "raw 0  00",
         "raw 00 00",
         "raw 1 00",
+        "mark 0 10 5 0 7",
+        "mark 0 10 5 0 7 ",
+        "mark 0 10 -1 0 7 abort",
+        "mark 0 10 5 -1 7 abort",
+        "mark 0 10 5 0 -1 abort",
+        "mark 0 10 5 0 7 aborted",
+        "mark 0 10 5 0 7 Abort",
+        "mark 0 10 5 0 7 commit ",
+        "mark 0 10 5 0 07 commit",
+        "mark 0 10 5 0 commit",
+        "mark 1 10 5 0 7 abort",
+        "mark 0 4611686018427387904 5 0 7 abort",
+        "mark 0 10 9223372036854775808 0 7 abort",
+        "mark 0 10 5 32768 7 abort",
+        "mark 0 10 5 0 2147483648 abort",
+        "committed 0",
+        "committed 0 ",
+        "committed 0 -1",
+        "committed 0 4611686018427387904",
+        "committed 1 0",
+        "committed 0 0 0",
     ] {
         let text = format!(in rt.alloc(); "{LAWFUL}\n{bad}\nshow 0\n")?;
         assert_eq!(rt; fault_line(rt.alloc(), text.as_str()), 9, "in {bad:?}");
@@ -182,6 +204,8 @@ fn faulty_lines(rt: HostRuntime) -> Result<(), Fail> {
         "append 0 0 -1 -1 -1 d a,a,!+-~,b",
         "raw 0 00",
         "raw 0 0123456789abcdef",
+        "mark 0 4611686018427387903 9223372036854775807 32767 2147483647 commit",
+        "committed 0 4611686018427387903",
     ] {
         let text = format!(in rt.alloc(); "{LAWFUL}\n{good}\nshow 0\n")?;
         assert_eq!(rt;
@@ -332,6 +356,50 @@ fn digits_spell_bytes(rt: HostRuntime) -> Result<(), Fail> {
     Ok(())
 }
 
+#[test]
+fn marks_and_committed_reads_are_read(rt: HostRuntime) -> Result<(), Fail> {
+    let text = "nodes 1 segment 1024 interval 0
+mark 0 20 5 3 7 abort
+mark 0 0 0 0 0 commit
+committed 0 9
+";
+    let script = parse(rt.alloc(), text.as_bytes())?;
+    let want = [
+        Line {
+            number: 2,
+            call: Call::Mark {
+                node: 0,
+                marker: Marker {
+                    producer_id: 5,
+                    producer_epoch: 3,
+                    coordinator_epoch: 7,
+                    kind: Kind::Abort,
+                    timestamp: 20,
+                },
+            },
+        },
+        Line {
+            number: 3,
+            call: Call::Mark {
+                node: 0,
+                marker: Marker {
+                    producer_id: 0,
+                    producer_epoch: 0,
+                    coordinator_epoch: 0,
+                    kind: Kind::Commit,
+                    timestamp: 0,
+                },
+            },
+        },
+        Line {
+            number: 4,
+            call: Call::Committed { node: 0, from: 9 },
+        },
+    ];
+    assert_eq!(rt; script.lines.as_slice(), want.as_slice());
+    Ok(())
+}
+
 /// Runs the script: what it writes is this trace, and so many of its events are refused.
 fn traces(
     rt: &impl Abort,
@@ -429,8 +497,9 @@ elect 0
 append 0 10 9 -1 0 d a
 adopt 0
 append 0 10 9 -1 0 d a
-append 0 10 9 0 0 t a
+append 0 10 9 0 -1 t a
 append 0 10 -1 -1 -1 t a
+show 0
 ";
     let trace = "2 record leader 0 epoch 0 isr 0 version 1
 3 F15 NotLeader
@@ -438,6 +507,108 @@ append 0 10 -1 -1 -1 t a
 5 F10 BadProducerFields
 6 F10 BadProducerFields
 7 F10 BadProducerFields
+8 node 0 life 0 end 0 mark 0 stable 0
 ";
     traces(&rt, rt.alloc(), script, trace, 4)
+}
+
+#[test]
+fn an_aborted_transaction(rt: HostRuntime) -> Result<(), Fail> {
+    let script = "nodes 1 segment 1024 interval 100
+elect 0
+adopt 0
+append 0 10 5 0 0 t a
+append 0 30 -1 -1 -1 d b
+raise 0
+committed 0 0
+mark 0 20 5 0 7 abort
+show 0
+raise 0
+committed 0 0
+read 0 0
+append 0 40 5 0 1 d c
+mark 0 50 5 0 6 commit
+";
+    let trace = "2 record leader 0 epoch 0 isr 0 version 1
+3 leads epoch 0 from 0
+4 at 0
+5 at 1
+6 mark 2
+7 read 0
+8 at 2
+9 node 0 life 0 end 3 mark 2 stable 0
+10 mark 3
+11 read 1 1=62
+12 read 2 0=61 1=62
+13 at 3
+14 F14 CoordinatorFenced
+";
+    traces(&rt, rt.alloc(), script, trace, 1)
+}
+
+#[test]
+fn two_transactions(rt: HostRuntime) -> Result<(), Fail> {
+    let script = "nodes 1 segment 1024 interval 100
+elect 0
+adopt 0
+append 0 10 5 0 0 t a
+append 0 10 6 0 0 t b
+append 0 10 5 0 1 d c
+append 0 10 5 1 0 t c
+mark 0 10 6 0 1 abort
+raise 0
+committed 0 0
+show 0
+mark 0 10 5 0 1 commit
+raise 0
+committed 0 0
+mark 0 10 5 0 0 commit
+";
+    let trace = "2 record leader 0 epoch 0 isr 0 version 1
+3 leads epoch 0 from 0
+4 at 0
+5 at 1
+6 F13 InvalidTxnState
+7 F13 InvalidTxnState
+8 at 2
+9 mark 3
+10 read 0
+11 node 0 life 0 end 3 mark 3 stable 0
+12 at 3
+13 mark 4
+14 read 1 0=61
+15 F14 CoordinatorFenced
+";
+    traces(&rt, rt.alloc(), script, trace, 3)
+}
+
+// The raw bytes are a marker of producer 5, which only a coordinator may hand in.
+#[test]
+fn marks_beside_a_transaction(rt: HostRuntime) -> Result<(), Fail> {
+    let script = "nodes 1 segment 1024 interval 100
+elect 0
+mark 0 10 5 0 7 commit
+adopt 0
+append 0 10 -1 -1 -1 t a
+mark 0 10 5 0 7 commit
+mark 0 10 5 2 7 abort
+append 0 10 5 0 0 d a
+mark 0 10 5 1 7 commit
+committed 0 9
+raw 0 000000000000000000000042ffffffff022454dce30030000000000000000000000014000000000000001400000000000000050000ffffffff000000012000000008000000010c00000000000700
+show 0
+";
+    let trace = "2 record leader 0 epoch 0 isr 0 version 1
+3 F15 NotLeader
+4 leads epoch 0 from 0
+5 F10 BadProducerFields
+6 at 0
+7 at 1
+8 F11 InvalidProducerEpoch
+9 F11 InvalidProducerEpoch
+10 F16 OffsetOutOfRange
+11 F30 ControlFromClient
+12 node 0 life 0 end 2 mark 0 stable 0
+";
+    traces(&rt, rt.alloc(), script, trace, 6)
 }

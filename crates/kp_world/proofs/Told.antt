@@ -2,10 +2,11 @@
 use Rattle.std.proofs.Common.{◌≡◌, ℕ, [], ◌∷◌, Result, refl, sym, ap, ◌∙◌}
 use Rattle.kp_types.specs.declared.refusal.Refusal.{Refusal}
 use Rattle.kp_batch.specs.Batch.{Body}
-use Rattle.kp_model.specs.Event.{Event as ModelEvent, Elect as ElectNode, Acts, Adopt as AdoptRecord, Produce as ProduceBatch, Raise as RaiseMark, Show as ShowState, Read as ReadFrom}
+use Rattle.kp_model.specs.Event.{Event as ModelEvent, Elect as ElectNode, Acts, Adopt as AdoptRecord, Produce as ProduceBatch, Raise as RaiseMark, Show as ShowState, Read as ReadFrom, Committed as ReadCommitted}
 use Rattle.kp_replica.specs.Offers.{BytesAreAnOffer, OffersAreOne}
+use Rattle.kp_replica.specs.Replies.{mark_of}
 use Rattle.kp_world.specs.declared.event.Event.{Event}
-use Rattle.kp_world.specs.declared.event.Event.TheVariants.{Elect, Adopt, Produce, Raise, Show, Read}
+use Rattle.kp_world.specs.declared.event.Event.TheVariants.{Elect, Adopt, Produce, Mark, Raise, Show, Read, Committed}
 use Rattle.kp_world.specs.Events.{IsEvent, HasBytes}
 use Rattle.kp_world.specs.Laws.{EventsAreTold, EventsAreToldOnce}
 
@@ -15,9 +16,11 @@ event_told some max (Adopt node) h = (Acts node AdoptRecord, refl)
 event_told some max (Produce node bytes) h =
     let offered = some max bytes h in
     (Acts node (ProduceBatch offered.0), (offered.0, offered.1, refl))
+event_told some max (Mark node marker) h = (Acts node (mark_of marker), refl)
 event_told some max (Raise node) h = (Acts node RaiseMark, refl)
 event_told some max (Show node) h = (Acts node ShowState, refl)
 event_told some max (Read node from) h = (Acts node (ReadFrom from), refl)
+event_told some max (Committed node from) h = (Acts node (ReadCommitted from), refl)
 
 pub events_told : BytesAreAnOffer → EventsAreTold
 events_told some max [] h = ([], tt)
@@ -31,9 +34,11 @@ event_told_once one max (Elect node) e d h a b = a ∙ sym b
 event_told_once one max (Adopt node) e d h a b = a ∙ sym b
 event_told_once one max (Produce node bytes) e d h (offer, is, a) (other, was, b) =
     a ∙ ap (λ (o : Result Body Refusal). Acts node (ProduceBatch o)) (one max bytes offer other h is was) ∙ sym b
+event_told_once one max (Mark node marker) e d h a b = a ∙ sym b
 event_told_once one max (Raise node) e d h a b = a ∙ sym b
 event_told_once one max (Show node) e d h a b = a ∙ sym b
 event_told_once one max (Read node from) e d h a b = a ∙ sym b
+event_told_once one max (Committed node from) e d h a b = a ∙ sym b
 
 pub events_told_once : OffersAreOne → EventsAreToldOnce
 events_told_once one max [] [] [] h a b = refl

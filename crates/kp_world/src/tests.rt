@@ -1,10 +1,11 @@
 ghost use Rattle.std.specs.Prelude.{◌<◌, ◌≤◌};
 ghost use Rattle.std.specs.List.{AllByRecursion};
-ghost use Rattle.kp_world.specs.Events.{node_of};
+ghost use Rattle.kp_world.specs.Events.{node_of, HasMarker};
 
 use super::*;
 use bytes::Bytes;
 use kp_batch::{Batch, Fields, Parts};
+use kp_marker::{Kind, Marker};
 use kp_replica::{Leader, Receipt, Record, Role};
 use kp_types::{Limits, NodeId, Refusal};
 use std::alloc::Global;
@@ -30,6 +31,15 @@ const FIELDS: Fields = Fields {
 const OF_A_PRODUCER: [u8; 69] = [
     0x00, 0x00, 0x00, 0x00, 0x00, 0x00, 0x00, 0x00, 0x00, 0x00, 0x00, 0x39, 0xff, 0xff, 0xff, 0xff,
     0x02, 0x4a, 0xee, 0x07, 0x68, 0x00, 0x00, 0x00, 0x00, 0x00, 0x00, 0x00, 0x00, 0x00, 0x00, 0x00,
+    0x00, 0x03, 0xe8, 0x00, 0x00, 0x00, 0x00, 0x00, 0x00, 0x03, 0xe8, 0x00, 0x00, 0x00, 0x00, 0x00,
+    0x00, 0x00, 0x05, 0x00, 0x00, 0x00, 0x00, 0x00, 0x00, 0x00, 0x00, 0x00, 0x01, 0x0e, 0x00, 0x00,
+    0x00, 0x01, 0x02, 0x61, 0x00,
+];
+
+// The same as data of a transaction.
+const OF_A_TRANSACTION: [u8; 69] = [
+    0x00, 0x00, 0x00, 0x00, 0x00, 0x00, 0x00, 0x00, 0x00, 0x00, 0x00, 0x39, 0xff, 0xff, 0xff, 0xff,
+    0x02, 0xad, 0xdf, 0xa9, 0x6c, 0x00, 0x10, 0x00, 0x00, 0x00, 0x00, 0x00, 0x00, 0x00, 0x00, 0x00,
     0x00, 0x03, 0xe8, 0x00, 0x00, 0x00, 0x00, 0x00, 0x00, 0x03, 0xe8, 0x00, 0x00, 0x00, 0x00, 0x00,
     0x00, 0x00, 0x05, 0x00, 0x00, 0x00, 0x00, 0x00, 0x00, 0x00, 0x00, 0x00, 0x01, 0x0e, 0x00, 0x00,
     0x00, 0x01, 0x02, 0x61, 0x00,
@@ -130,6 +140,7 @@ fn played(alloc: Global, count: NodeId, events: &[Event]) -> Result<String, Fail
     requires some { 0 < count }
     requires most { count ≤ 7 }
     requires nodes { AllByRecursion (λ event. node_of event < count) events.now }
+    requires markers { AllByRecursion HasMarker events.now }
 {
     match run(alloc, count, &LIMITS, events) {
         Ok(trace) => told(alloc, &trace),
@@ -296,6 +307,74 @@ fn two_records_are_one_batch_and_two_lines(rt: HostRuntime) -> Result<(), Fail> 
         2 lines 0 Some([97]) 1 Some([98])\n\
         1 lines 1 Some([98])\n\
         life 0 end 2 watermark 2 stable 2\n";
+    assert_eq!(rt; played(rt.alloc(), 1, &events)?.as_str(), want);
+    Ok(())
+}
+
+// A marker of producer 5 in its epoch 0.
+const ABORT: Marker = Marker {
+    producer_id: 5,
+    producer_epoch: 0,
+    coordinator_epoch: 7,
+    kind: Kind::Abort,
+    timestamp: 20,
+};
+
+#[test]
+fn an_aborted_record_is_never_shown(rt: HostRuntime) -> Result<(), Fail> {
+    let fenced = Marker {
+        coordinator_epoch: 6,
+        ..ABORT
+    };
+    let events = [
+        Event::Mark {
+            node: 0,
+            marker: ABORT,
+        },
+        Event::Elect { node: 0 },
+        Event::Adopt { node: 0 },
+        Event::Produce {
+            node: 0,
+            bytes: Bytes::copy_from_slice(rt.alloc(), &OF_A_TRANSACTION)?,
+        },
+        Event::Produce {
+            node: 0,
+            bytes: Bytes::copy_from_slice(rt.alloc(), &OF_TWO_RECORDS)?,
+        },
+        Event::Raise { node: 0 },
+        Event::Committed { node: 0, from: 0 },
+        Event::Mark {
+            node: 0,
+            marker: ABORT,
+        },
+        Event::Show { node: 0 },
+        Event::Raise { node: 0 },
+        Event::Show { node: 0 },
+        Event::Read { node: 0, from: 0 },
+        Event::Committed { node: 0, from: 0 },
+        Event::Committed { node: 0, from: 2 },
+        Event::Committed { node: 0, from: 5 },
+        Event::Mark {
+            node: 0,
+            marker: fenced,
+        },
+    ];
+    let want = "F15 NotLeader\n\
+        leader 0 epoch 0 version 1\n\
+        leads epoch 0 start 0\n\
+        at 0 to 0 epoch 0 duplicate false\n\
+        at 1 to 2 epoch 0 duplicate false\n\
+        mark 3\n\
+        0 lines\n\
+        at 3 to 3 epoch 0 duplicate false\n\
+        life 0 end 4 watermark 3 stable 0\n\
+        mark 4\n\
+        life 0 end 4 watermark 4 stable 4\n\
+        3 lines 0 Some([97]) 1 Some([97]) 2 Some([98])\n\
+        2 lines 1 Some([97]) 2 Some([98])\n\
+        1 lines 2 Some([98])\n\
+        F16 OffsetOutOfRange\n\
+        F14 CoordinatorFenced\n";
     assert_eq!(rt; played(rt.alloc(), 1, &events)?.as_str(), want);
     Ok(())
 }

@@ -7,18 +7,19 @@ ghost use Rattle.kp_world.specs.declared.event.Answer.{Answer};
 ghost use Rattle.kp_types.specs.declared.refusal.Refusal.{Refusal};
 ghost use Rattle.kp_batch.specs.Batch.{Body};
 ghost use Rattle.kp_model.specs.World.{start};
-ghost use Rattle.kp_model.specs.Event.{Event as ModelEvent, Elect, Acts, Adopt, Produce as ProduceBatch, Raise, Show, Read};
+ghost use Rattle.kp_model.specs.Event.{Event as ModelEvent, Elect, Acts, Adopt, Produce as ProduceBatch, Raise, Show, Read, Committed};
 ghost use Rattle.kp_model.specs.Step.{told};
 ghost use Rattle.kp_replica.specs.Set.{record_of};
-ghost use Rattle.kp_replica.specs.Replies.{role_reply, receipt_reply, mark_reply, IsOffer};
+ghost use Rattle.kp_replica.specs.Replies.{role_reply, receipt_reply, mark_reply, IsOffer, mark_of};
 ghost use Rattle.kp_world.specs.Answers.{outcome_of, record_reply, lines_reply};
-ghost use Rattle.kp_world.specs.Events.{IsEvent, AreEvents, node_of};
+ghost use Rattle.kp_world.specs.Events.{IsEvent, AreEvents, node_of, IsInRange, HasMarker};
 ghost use Rattle.kp_world.specs.Plays.{IsPlayed};
 ghost use Rattle.kp_world.specs.Shown.{IsShown, LeadsOn};
 
 use crate::event::{Answer, Event, Line, Stopped, Trace};
-use crate::read::read_lines;
+use crate::read::{committed_lines, read_lines};
 use bytes::Bytes;
+use kp_marker::Marker;
 use kp_replica::{Receipt, Record, Replica, Role};
 use kp_types::{Limits, NodeId, Offset, Refusal};
 use std::alloc::{AllocError, Global};
@@ -80,6 +81,18 @@ impl World {
         replica.produce(bytes)
     }
 
+    /// A transaction coordinator hands a node a marker.
+    fn mark(&mut self, alloc: Global, node: NodeId, marker: &Marker) -> Result<Receipt, Refusal>
+        requires node { node < length self.old.replicas.items }
+        requires marker { IsInRange marker.now }
+        ensures step { (max : ℕ) → LeadsOn max (record_of self.old.controller) self.old.replicas.items
+            (Acts node (mark_of marker.now)) (told (receipt_reply result)) (record_of self.new.controller) self.new.replicas.items }
+        ensures count { length self.new.replicas.items ≡ length self.old.replicas.items }
+    {
+        let replica = &mut self.replicas[usize::from(node)];
+        replica.mark(alloc, marker)
+    }
+
     /// A node raises its high watermark.
     fn raise(&mut self, node: NodeId) -> Result<Offset, Refusal>
         requires { node < length self.old.replicas.items }
@@ -118,9 +131,20 @@ impl World {
         read_lines(alloc, replica, from)
     }
 
+    /// A node reads records as a read-committed consumer gets them.
+    fn committed(&self, alloc: Global, node: NodeId, from: Offset) -> Result<Vec<Line>, Refusal>
+        requires { node < length self.now.replicas.items }
+        ensures { (max : ℕ) → LeadsOn max (record_of self.now.controller) self.now.replicas.items
+            (Acts node (Committed from)) (told (lines_reply result)) (record_of self.now.controller) self.now.replicas.items }
+    {
+        let replica = &self.replicas[usize::from(node)];
+        committed_lines(alloc, replica, from)
+    }
+
     /// Makes the event happen. An `Err` says that its bytes couldn't be shared, and nothing has happened.
     fn step(&mut self, alloc: Global, event: &Event) -> Result<Result<Answer, Refusal>, AllocError>
-        requires { node_of event.now < length self.old.replicas.items }
+        requires node { node_of event.now < length self.old.replicas.items }
+        requires marker { HasMarker event.now }
         ensures step { IfOk result (λ outcome. (max : ℕ) (e : ModelEvent) → IsEvent max event.now e
             → LeadsOn max (record_of self.old.controller) self.old.replicas.items e (outcome_of outcome)
             (record_of self.new.controller) self.new.replicas.items) }
@@ -134,9 +158,13 @@ impl World {
                 let shared = bytes.clone()?;
                 self.produce(*node, shared).map(Answer::Appended)
             }
+            Event::Mark { node, marker } => self.mark(alloc, *node, marker).map(Answer::Appended),
             Event::Raise { node } => self.raise(*node).map(Answer::Mark),
             Event::Show { node } => Ok(self.show(*node)),
             Event::Read { node, from } => self.read(alloc, *node, *from).map(Answer::Lines),
+            Event::Committed { node, from } => {
+                self.committed(alloc, *node, *from).map(Answer::Lines)
+            }
         };
         Ok(outcome)
     }
@@ -151,7 +179,8 @@ impl World {
         event: &Event,
         outcomes: &mut Vec<Result<Answer, Refusal>>,
     ) -> Result<(), AllocError>
-        requires { node_of event.now < length self.old.replicas.items }
+        requires node { node_of event.now < length self.old.replicas.items }
+        requires marker { HasMarker event.now }
         ensures ok { OnOk result ((max : ℕ) (e : ModelEvent) → IsEvent max event.now e
             → (outcome : Result Answer Refusal) × (outcomes.new.items ≡ outcomes.old.items ++ outcome ∷ [])
             × LeadsOn max (record_of self.old.controller) self.old.replicas.items e (outcome_of outcome)
@@ -170,7 +199,8 @@ impl World {
 /// Runs the events from the start of `count` nodes on, and answers each of them. A refused event stands in
 /// the trace, and the run goes on. [`Stopped`] comes only where the run's own lists, or its share of an event's
 /// bytes, couldn't be had, and holds the answers so far. Nodes have the numbers from 0 on. The cost of an
-/// event doesn't grow with the events before it, but for a read, which costs what it reads.
+/// event doesn't grow with the events before it, but for what the calls of `Replica` say of their cost, and for a
+/// read, which costs what it reads.
 pub fn run(
     alloc: Global,
     count: NodeId,
@@ -180,6 +210,7 @@ pub fn run(
     requires some { 0 < count }
     requires most { count ≤ 7 }
     requires nodes { AllByRecursion (λ event. node_of event < count) events.now }
+    requires markers { AllByRecursion HasMarker events.now }
     ensures played { IfOk result (λ trace. (es : List ModelEvent) → AreEvents limits.now.max_batch events.now es
         → IsPlayed count es (map outcome_of trace.outcomes.items)) }
     ensures answered { IfOk result (λ trace. length trace.outcomes.items ≡ length events.now) }

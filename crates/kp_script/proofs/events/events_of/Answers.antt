@@ -7,7 +7,7 @@ use Rattle.kp_script.specs.Seen.{seen_call, seen_line}
 use Rattle.kp_script.specs.Told.{TellsAll}
 use Rattle.kp_script.specs.declared.script.Line.{Line}
 use Rattle.kp_script.specs.declared.call.Call.TheVariants as parsed
-use Rattle.kp_world.specs.Events.{node_of}
+use Rattle.kp_world.specs.Events.{node_of, HasMarker}
 use Rattle.kp_world.specs.declared.event.Event.{Event as CodeEvent}
 use Rattle.kp_script.proofs.Telling.{tells_more, each_push, each_at_line}
 use Rattle.kp_script.proofs.events.events_of.Goals as goal
@@ -41,6 +41,9 @@ loop-line-preserved c =
       nodes =
           subst (λ (xs : List CodeEvent). AllByRecursion (λ event. node_of event < c.args.count) xs) (sym grown)
           (each_push (λ (event : CodeEvent). node_of event < c.args.count) c.loop-line.events.items c.in_ok-event_of.field-0 c.loop-line.invariant.nodes c.in_ok-event_of.ensures.node);
+      markers =
+          subst (AllByRecursion HasMarker) (sym grown)
+          (each_push HasMarker c.loop-line.events.items c.in_ok-event_of.field-0 c.loop-line.invariant.markers c.in_ok-event_of.ensures.marker);
     }
 
 pub returns-clause-told : goal.returns-clause-told

@@ -1,9 +1,9 @@
 use Rattle.std.proofs.Common.{◌≡◌, ℕ, List, Result, Ok, refl, sym, ap, ◌∙◌, subst}
 use Rattle.kp_types.specs.declared.refusal.Refusal.{Refusal}
-use Rattle.kp_model.specs.Event.{Event, Elect, Acts, Adopt, Raise, Show, Read, Produce, Reply}
+use Rattle.kp_model.specs.Event.{Event, Elect, Acts, Adopt, Raise, Show, Read, Committed, Produce, Reply}
 use Rattle.kp_model.specs.Step.{told}
 use Rattle.kp_replica.specs.Set.{record_of}
-use Rattle.kp_replica.specs.Replies.{role_reply, receipt_reply, mark_reply, IsOffer}
+use Rattle.kp_replica.specs.Replies.{role_reply, receipt_reply, mark_reply, IsOffer, mark_of}
 use Rattle.kp_replica.specs.declared.record.Record.{Record}
 use Rattle.kp_replica.specs.declared.replica.Role.{Role}
 use Rattle.kp_replica.specs.declared.replica.Receipt.{Receipt}
@@ -18,7 +18,7 @@ use Rattle.kp_world.specs.Events.{IsEvent}
 use Rattle.kp_world.specs.Shown.{LeadsOn}
 use Rattle.kp_world.proofs.Mapped.{mapped}
 use Rattle.kp_world.proofs.world.World.step.Goals as goal
-use Rattle.kp_world.proofs.world.World.step.Goals.{in-Elect, in-Adopt, in-Produce+in_ok-shared-in-Produce, in-Raise, in-Show, in-Read}
+use Rattle.kp_world.proofs.world.World.step.Goals.{in-Elect, in-Adopt, in-Produce+in_ok-shared-in-Produce, in-Mark, in-Raise, in-Show, in-Read, in-Committed}
 
 -- the world after, by its parts
 abbrev Leading : ℕ → World → Event → World → Result Answer Refusal → Type 0
@@ -52,6 +52,11 @@ returns-clause-step c = λ max e is. elim c.match-event.branch [
       made.2 w.self-is w.outcome-is
       (mapped Receipt answers.Appended receipt_reply _ w.produce.result w.map-outcome-in-Produce.result (λ x a h. h) (λ x. refl) (λ f. refl) w.map-outcome-in-Produce.ensures.cases)
       (w.produce.ensures.step max made.0 offered))
+  | in-Mark w ↦
+      in_other_words max c.args.self.now e (Acts w.in-Mark.node (mark_of w.in-Mark.marker)) c.match-event.self w.mark.new.self c.match-event.outcome w.map-outcome-in-Mark.result (receipt_reply w.mark.result)
+      (subst (λ (x : CodeEvent). IsEvent max x e) w.in-Mark.is is) w.self-is w.outcome-is
+      (mapped Receipt answers.Appended receipt_reply _ w.mark.result w.map-outcome-in-Mark.result (λ x a h. h) (λ x. refl) (λ f. refl) w.map-outcome-in-Mark.ensures.cases)
+      (w.mark.ensures.step max)
   | in-Raise w ↦
       in_other_words max c.args.self.now e (Acts w.in-Raise.node Raise) c.match-event.self w.raise.new.self c.match-event.outcome w.map-outcome-in-Raise.result (mark_reply w.raise.result)
       (subst (λ (x : CodeEvent). IsEvent max x e) w.in-Raise.is is) w.self-is w.outcome-is
@@ -65,4 +70,9 @@ returns-clause-step c = λ max e is. elim c.match-event.branch [
       (subst (λ (x : CodeEvent). IsEvent max x e) w.in-Read.is is) w.self-is w.outcome-is
       (mapped (Vec Line) answers.Lines lines_reply _ w.read.result w.map-outcome-in-Read.result (λ x a h. h) (λ x. refl) (λ f. refl) w.map-outcome-in-Read.ensures.cases)
       (w.read.ensures max)
+  | in-Committed w ↦
+      in_other_words max c.args.self.now e (Acts w.in-Committed.node (Committed w.in-Committed.from)) c.match-event.self c.args.self.now c.match-event.outcome w.map-outcome-in-Committed.result (lines_reply w.committed.result)
+      (subst (λ (x : CodeEvent). IsEvent max x e) w.in-Committed.is is) w.self-is w.outcome-is
+      (mapped (Vec Line) answers.Lines lines_reply _ w.committed.result w.map-outcome-in-Committed.result (λ x a h. h) (λ x. refl) (λ f. refl) w.map-outcome-in-Committed.ensures.cases)
+      (w.committed.ensures max)
 ]
