@@ -1,5 +1,5 @@
 -- A refused inspection has written a beginning of the dump.
-use Rattle.std.proofs.Common.{ℕ, List, Option, Err, Result}
+use Rattle.std.proofs.Common.{ℕ, List, Option, Err}
 use Rattle.kp_types.specs.declared.refusal.Refusal.{Refusal}
 use Rattle.kp_types.specs.declared.refusal.Refusal.TheVariants as refusals
 use Rattle.kp_types.specs.declared.limits.Limits.{Limits}

@@ -21,9 +21,6 @@ use kp_types::{Offset, Refusal};
 use std::alloc::AllocError;
 use std::fmt;
 
-// The attribute bit that says transactional.
-const TRANSACTIONAL: u16 = 0x10;
-
 /// A field of a batch; as text -1 where it is absent.
 #[derive(Clone, Copy)]
 struct Field {
@@ -76,7 +73,7 @@ impl Contents {
     {
         match read_marker(batch) {
             Some(marker) => Contents::Ending(marker),
-            None if batch.attributes() == TRANSACTIONAL => Contents::Transactional,
+            None if batch.is_transactional_data() => Contents::Transactional,
             None => Contents::Data,
         }
     }

@@ -1,5 +1,5 @@
 -- What it takes that a leader took a coordinator's marker, or refused it.
-use Rattle.std.proofs.Common.{◌≡◌, ℕ, ◌≤◌, Bool, true, false, ltb, List, [], ◌∷◌, ◌++◌, Option, Some, None, Result, Ok, Err, refl, sym, ap, ◌∙◌, subst, inl, inr}
+use Rattle.std.proofs.Common.{◌≡◌, ℕ, ◌≤◌, true, false, ltb, List, [], ◌∷◌, ◌++◌, Option, Some, None, Result, Ok, Err, refl, sym, ap, ◌∙◌, subst, inl, inr}
 use Rattle.std.specs.Prelude.{unwrap_or, Contains, IfOk, OnOk, OnErr}
 use Rattle.std.specs.Option.{option_map_or}
 use Rattle.std.proofs.lemmas.Bool.{cases_Bool}
@@ -8,7 +8,6 @@ use Rattle.kp_types.specs.Causes.{IsRefusedBy}
 use Rattle.kp_types.specs.declared.refusal.Refusal.{Refusal}
 use Rattle.kp_types.specs.declared.refusal.Refusal.TheVariants.{OffsetsExhausted, Memory}
 use Rattle.kp_batch.specs.Batch.{Body, IsBody}
-use Rattle.kp_marker.specs.Marker.{commits}
 use Rattle.kp_marker.specs.declared.parts.Marker.{Marker}
 use Rattle.kp_model.specs.Log.{Batch, written, end_of}
 use Rattle.kp_model.specs.Producers.{Producer, producer_in}

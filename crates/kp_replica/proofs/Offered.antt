@@ -1,12 +1,9 @@
 -- What bytes hand in, by what reading them answered.
-use Rattle.std.proofs.Common.{◌≡◌, ℕ, true, false, List, [], ◌++◌, Result, Ok, Err, refl, sym, ap, ◌∙◌, inl, inr}
-use Rattle.std.proofs.lemmas.Bool.{cases_Bool, false≢true}
+use Rattle.std.proofs.Common.{◌≡◌, ℕ, List, [], ◌++◌, Result, Ok, Err, refl, sym, ap, ◌∙◌, inl, inr}
 use Rattle.kp_types.specs.declared.refusal.Refusal.{Refusal}
-use Rattle.kp_types.specs.declared.refusal.Refusal.TheVariants.{BadProducerFields}
 use Rattle.kp_batch.specs.Batch.{Body, Written}
 use Rattle.kp_batch.specs.Laws.{IsBatch, BatchesStandApart, BytesAreJudged, JudgedOnce}
 use Rattle.kp_batch.specs.Reading.{IsFirstFault}
-use Rattle.kp_model.specs.Transactions.{is_transactional}
 use Rattle.kp_replica.specs.Offers.{BytesAreAnOffer, OffersAreOne}
 use Rattle.kp_replica.specs.Replies.{IsOffer}
 

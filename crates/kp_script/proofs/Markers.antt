@@ -4,7 +4,7 @@ use Rattle.std.specs.Fmt.{decimal}
 use Rattle.kp_marker.specs.Marker.{commits, kind_of}
 use Rattle.kp_marker.specs.declared.parts.Marker.{Marker}
 use Rattle.kp_world.specs.Events.{IsInRange}
-use Rattle.kp_script.specs.Call.{Call, Mark, IsCallInRange, call_text, ending_text}
+use Rattle.kp_script.specs.Call.{Mark, IsCallInRange, call_text, ending_text}
 use Rattle.kp_script.specs.Read.{marker_text}
 use Rattle.kp_script.proofs.Numbers.{same_field}
 

@@ -7,10 +7,10 @@ use Rattle.std.proofs.lemmas.Bool.{and_parts, le-leb}
 use Rattle.std.proofs.lemmas.List.Concat.{flat_map-append}
 use Rattle.std.proofs.lemmas.List.Elements.{filter-append, Contains-append_left, Contains-append_right}
 use Rattle.kp_record.specs.Record.{Record}
-use Rattle.kp_batch.specs.Batch.{Content, Plain, Produced, Marker, records_of}
+use Rattle.kp_batch.specs.Batch.{Content, Plain, Produced, Marker, records_of, is_marker, is_transactional}
 use Rattle.kp_model.specs.Log.{Batch, IsLog, below, from_offset, next_offset}
 use Rattle.kp_model.specs.Producers.{content_of, is_of, producer_of}
-use Rattle.kp_model.specs.Transactions.{is_abort, is_marker, is_marker_of, is_transactional, stable}
+use Rattle.kp_model.specs.Transactions.{is_abort, is_marker_of, stable}
 use Rattle.kp_model.specs.Visible.{is_commit, is_visible, records_in, visible}
 use Rattle.kp_visible.specs.Laws.{IsAbortedIn, IsCommittedIn, Spans, ending_of}
 use Rattle.kp_visible.proofs.Lists.{splits, all_weaker, all_filter, all_find, all_flat_map, filter_split, find-append}

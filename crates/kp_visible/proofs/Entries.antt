@@ -2,10 +2,10 @@
 use Rattle.std.proofs.Common.{◌≡◌, ℕ, true, false, List, Option, Some, None, refl, subst, inl, inr}
 use Rattle.std.specs.Option.{option_map, option_and_then}
 use Rattle.std.proofs.lemmas.Bool.{cases_Bool, eqb-true, eq-eqb, and_parts}
-use Rattle.kp_batch.specs.Batch.{Content, Plain, Produced, Marker}
+use Rattle.kp_batch.specs.Batch.{Content, Plain, Produced, Marker, is_marker}
 use Rattle.kp_model.specs.Log.{Batch, below, next_offset}
 use Rattle.kp_model.specs.Producers.{content_of, producer_of, is_of}
-use Rattle.kp_model.specs.Transactions.{Aborted, aborted_by, is_abort, is_marker, is_marker_of, open_of, stable}
+use Rattle.kp_model.specs.Transactions.{Aborted, aborted_by, is_abort, is_marker_of, open_of, stable}
 
 -- ---- one entry
 

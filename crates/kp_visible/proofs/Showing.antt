@@ -4,10 +4,10 @@ use Rattle.std.specs.Prelude.{Contains, not}
 use Rattle.std.specs.List.{AllByRecursion, filter, find}
 use Rattle.std.specs.Option.{option_map_or}
 use Rattle.std.proofs.lemmas.Bool.{cases_Bool, eq-eqb, leb-true, and_parts}
-use Rattle.kp_batch.specs.Batch.{Content, Plain, Produced, Marker}
+use Rattle.kp_batch.specs.Batch.{Content, Plain, Produced, Marker, is_marker, is_transactional}
 use Rattle.kp_model.specs.Log.{Batch, IsLog, below, from_offset, next_offset}
 use Rattle.kp_model.specs.Producers.{content_of, producer_of, is_of}
-use Rattle.kp_model.specs.Transactions.{aborted_in, is_abort, is_marker, is_marker_of, is_transactional, is_transactional_of, stable}
+use Rattle.kp_model.specs.Transactions.{aborted_in, is_abort, is_marker_of, is_transactional_of, stable}
 use Rattle.kp_model.specs.Visible.{is_commit, is_visible, records_in, visible}
 use Rattle.kp_visible.specs.Filter.{hides, shows, shows_at}
 use Rattle.kp_visible.proofs.Lists.{Splits, splits, found_first, none_passes, all_here, all_filter, all_itself, all_weaker, all_append, filter_agree_on}

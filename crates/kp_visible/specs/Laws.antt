@@ -2,11 +2,11 @@
 use Rattle.std.specs.Prelude.{◌≡◌, ◌⊎◌, ℕ, ◌+◌, ◌<◌, ◌≤◌, IsTrue, IsFalse, List, ◌++◌, Contains, Option, Some}
 use Rattle.std.specs.List.{AllByRecursion, AllPairs, find, slice_get}
 use Rattle.std.specs.Option.{IsSomeAnd, option_and_then}
-use Rattle.kp_batch.specs.Batch.{records_of}
+use Rattle.kp_batch.specs.Batch.{records_of, is_transactional}
 use Rattle.kp_record.specs.Record.{Record}
 use Rattle.kp_model.specs.Log.{Batch, IsLog, next_offset, from_offset}
 use Rattle.kp_model.specs.Producers.{content_of, producer_of}
-use Rattle.kp_model.specs.Transactions.{is_abort, is_transactional, is_marker_of, stable}
+use Rattle.kp_model.specs.Transactions.{is_abort, is_marker_of, stable}
 use Rattle.kp_model.specs.Visible.{is_commit, is_data, visible}
 
 -- the next marker of the batch's producer behind it

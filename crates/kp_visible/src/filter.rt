@@ -8,12 +8,6 @@ use kp_batch::Batch;
 use kp_txns::AbortedTransaction;
 use kp_types::Offset;
 
-// The attributes of a control batch: bits 4 and 5.
-const CONTROL: u16 = 0x30;
-
-// The attributes of transactional data: bit 4 without bit 5.
-const TRANSACTIONAL: u16 = 0x10;
-
 // Whether the list says that this producer's transactional batch at this offset was aborted. Of the transactions that
 // end above the offset the first decides that is the producer's, or at whose marker nothing that began at or below the
 // offset was open any more. O(1), and the transactions in front of that one.
@@ -32,9 +26,10 @@ pub(crate) fn is_aborted(aborted: &[AbortedTransaction], producer: u64, offset: 
 pub(crate) fn is_shown(aborted: &[AbortedTransaction], batch: &Batch) -> bool
     ensures { result ≡ shows aborted.now (logged batch.now) }
 {
-    match (batch.attributes(), batch.producer_id()) {
-        (CONTROL, _) => false,
-        (TRANSACTIONAL, Some(producer)) => !is_aborted(aborted, producer, batch.base_offset()),
-        _ => true,
+    match batch.producer_id() {
+        Some(producer) if batch.is_transactional_data() => {
+            !is_aborted(aborted, producer, batch.base_offset())
+        }
+        _ => !batch.is_control(),
     }
 }
