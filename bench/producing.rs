@@ -3,7 +3,7 @@
 //!     producing BATCHES RUNS           the table, for logs of a tenth of so many batches and of so many
 //!     producing one PRODUCERS BATCHES  nanoseconds of one call of each kind over one log
 
-use std::process::Command;
+mod alone;
 
 const CALLS: u32 = 100_000;
 const PRODUCERS: [u32; 3] = [1, 1_000, 100_000];
@@ -27,24 +27,9 @@ fn one(producers: u32, batches: u32) {
     }
 }
 
-// Nanoseconds of each call, in a process of its own: no log finds the memory that another one left.
+// Nanoseconds of each call.
 fn timed(producers: u32, batches: u32) -> Vec<f64> {
-    let program = std::env::current_exe().expect("the program");
-    let words = [
-        "one".to_string(),
-        producers.to_string(),
-        batches.to_string(),
-    ];
-    let output = Command::new(program).args(words).output().expect("a run");
-    assert!(
-        output.status.success(),
-        "{}",
-        String::from_utf8_lossy(&output.stderr)
-    );
-    let text = String::from_utf8(output.stdout).expect("numbers");
-    text.lines()
-        .map(|it| it.parse().expect("a number"))
-        .collect()
+    alone::numbers(&[&producers, &batches])
 }
 
 fn table(batches: u32, runs: u32) {

@@ -1,17 +1,10 @@
 //! Whole inspections: logs in, dumps, complaints and exit statuses out.
 use super::*;
+use crate::left::{Left, left_failing, left_is};
 use kp_batch::{Batch, Fields, Parts};
-use kp_types::{Counted, Faulty, Limits, MAX_BATCH, Offset, Refusal};
+use kp_types::{Limits, MAX_BATCH, Offset, Refusal};
 use std::alloc::Global;
 use std::test::Fail;
-
-/// What an inspection left: its exit status, standard output and standard error.
-#[derive(Drop)]
-struct Left {
-    status: u8,
-    out: Vec<u8>,
-    err: Vec<u8>,
-}
 
 /// The bytes inspected, where reading them and writing their dump fail at these calls.
 fn inspect_failing(
@@ -25,15 +18,7 @@ fn inspect_failing(
         segment_bytes: 1_024,
         index_interval: 0,
     };
-    let mut reader = Counted::new(Faulty::new(bytes, read_fails));
-    let mut out = Counted::new(Faulty::new(Vec::new(alloc), write_fails));
-    let mut err = Counted::new(Vec::new(alloc));
-    let status = perform(alloc, &call, &mut reader, &mut out, &mut err);
-    Ok(Left {
-        status,
-        out: out.inner.bytes,
-        err: err.inner,
-    })
+    Ok(left_failing(alloc, &call, bytes, read_fails, write_fails))
 }
 
 fn inspected(alloc: Global, bytes: Vec<u8>) -> Result<Left, Fail> {
@@ -41,7 +26,7 @@ fn inspected(alloc: Global, bytes: Vec<u8>) -> Result<Left, Fail> {
 }
 
 // Of 442 bytes the batch has 512.
-const VALUE: [u8; 443] = [97; 443];
+static VALUE: [u8; 443] = [97; 443];
 
 // Appends a batch of one record, of null key and no headers, at this place of the log.
 fn put(
@@ -88,27 +73,21 @@ segment 00000000000000000001.log 513
 end 2
 ";
     let left = inspected(rt.alloc(), bytes)?;
-    assert_eq!(rt; str::from_utf8(&left.out)?, dump);
-    assert_eq!(rt; left.err.as_slice(), b"".as_slice());
-    assert_eq!(rt; left.status, 0);
+    left_is(&rt, &left, 0, dump, "");
     Ok(())
 }
 
 #[test]
 fn no_bytes_end_at_0(rt: HostRuntime) -> Result<(), Fail> {
     let left = inspected(rt.alloc(), Vec::new(rt.alloc()))?;
-    assert_eq!(rt; left.out.as_slice(), b"end 0\n".as_slice());
-    assert_eq!(rt; left.err.as_slice(), b"".as_slice());
-    assert_eq!(rt; left.status, 0);
+    left_is(&rt, &left, 0, "end 0\n", "");
     Ok(())
 }
 
 #[test]
 fn a_fault_is_a_line_and_a_status(rt: HostRuntime) -> Result<(), Fail> {
     let left = inspected(rt.alloc(), [0; 60].to_vec(rt.alloc())?)?;
-    assert_eq!(rt; str::from_utf8(&left.out)?, "fault F1 Truncated at 0\n");
-    assert_eq!(rt; left.err.as_slice(), b"".as_slice());
-    assert_eq!(rt; left.status, 1);
+    left_is(&rt, &left, 1, "fault F1 Truncated at 0\n", "");
     Ok(())
 }
 
@@ -121,8 +100,7 @@ fn bytes_behind_a_batch_are_a_fault(rt: HostRuntime) -> Result<(), Fail> {
 fault F1 Truncated at 69
 ";
     let left = inspected(rt.alloc(), bytes)?;
-    assert_eq!(rt; str::from_utf8(&left.out)?, dump);
-    assert_eq!(rt; left.status, 1);
+    left_is(&rt, &left, 1, dump, "");
     Ok(())
 }
 
@@ -132,9 +110,7 @@ fn devices_fail_in_turn(rt: HostRuntime) -> Result<(), Fail> {
         let mut bytes = Vec::new(rt.alloc());
         put(rt.alloc(), &mut bytes, 0, 1_000, b"A")?;
         let left = inspect_failing(rt.alloc(), bytes, read_fails, write_fails)?;
-        assert_eq!(rt; left.out.as_slice(), b"".as_slice(), "{read_fails}");
-        assert_eq!(rt; left.err.as_slice(), b"kpart: F32 Device\n".as_slice());
-        assert_eq!(rt; left.status, 1);
+        left_is(&rt, &left, 1, "", "kpart: F32 Device\n");
     }
     Ok(())
 }

@@ -14,6 +14,8 @@ pub use running::{perform, refuse};
 #[cfg(test)]
 mod inspect_tests;
 #[cfg(test)]
+mod left;
+#[cfg(test)]
 mod run_tests;
 #[cfg(test)]
 mod tests;

@@ -1,16 +1,9 @@
 //! Whole runs: scripts in, traces, complaints and exit statuses out.
 use super::*;
+use crate::left::{Left, left_failing, left_is};
 use kp_types::{Counted, Faulty};
 use std::alloc::Global;
 use std::test::Fail;
-
-/// What a run left: its exit status, standard output and standard error.
-#[derive(Drop)]
-struct Left {
-    status: u8,
-    out: Vec<u8>,
-    err: Vec<u8>,
-}
 
 /// The script run, where reading it and writing its trace fail at these calls.
 fn run_failing(
@@ -22,15 +15,8 @@ fn run_failing(
     let call = Call::Run {
         file: String::from_str(alloc, "x.script")?,
     };
-    let mut reader = Counted::new(Faulty::new(script.to_vec(alloc)?, read_fails));
-    let mut out = Counted::new(Faulty::new(Vec::new(alloc), write_fails));
-    let mut err = Counted::new(Vec::new(alloc));
-    let status = perform(alloc, &call, &mut reader, &mut out, &mut err);
-    Ok(Left {
-        status,
-        out: out.inner.bytes,
-        err: err.inner,
-    })
+    let script = script.to_vec(alloc)?;
+    Ok(left_failing(alloc, &call, script, read_fails, write_fails))
 }
 
 fn run(alloc: Global, script: &[u8]) -> Result<Left, Fail> {
@@ -38,6 +24,12 @@ fn run(alloc: Global, script: &[u8]) -> Result<Left, Fail> {
 }
 
 const HEADER: &str = "nodes 1 segment 1024 interval 0\n";
+
+// The script run that has these lines behind its first.
+fn run_events(alloc: Global, events: &str) -> Result<Left, Fail> {
+    let script = format!(in alloc; "{HEADER}{events}")?;
+    run(alloc, script.as_bytes())
+}
 
 const FIRST: &str = "nodes 1 segment 1024 interval 0
 elect 0
@@ -61,9 +53,7 @@ const FIRST_TRACE: &str = "2 record leader 0 epoch 0 isr 0 version 1
 #[test]
 fn the_first_run(rt: HostRuntime) -> Result<(), Fail> {
     let left = run(rt.alloc(), FIRST.as_bytes())?;
-    assert_eq!(rt; left.out.as_slice(), FIRST_TRACE.as_bytes());
-    assert_eq!(rt; left.err.as_slice(), b"".as_slice());
-    assert_eq!(rt; left.status, 0);
+    left_is(&rt, &left, 0, FIRST_TRACE, "");
     Ok(())
 }
 
@@ -91,9 +81,7 @@ show 0
 10 node 0 life 0 end 1 mark 1 stable 1
 ";
     let left = run(rt.alloc(), script.as_bytes())?;
-    assert_eq!(rt; left.out.as_slice(), trace.as_bytes());
-    assert_eq!(rt; left.err.as_slice(), b"".as_slice());
-    assert_eq!(rt; left.status, 1);
+    left_is(&rt, &left, 1, trace, "");
     Ok(())
 }
 
@@ -117,11 +105,8 @@ read 0 0
 8 mark 1
 9 read 1 0=61
 ";
-    let script = format!(in rt.alloc(); "{HEADER}{events}")?;
-    let left = run(rt.alloc(), script.as_bytes())?;
-    assert_eq!(rt; left.out.as_slice(), trace.as_bytes());
-    assert_eq!(rt; left.err.as_slice(), b"".as_slice());
-    assert_eq!(rt; left.status, 1);
+    let left = run_events(rt.alloc(), events)?;
+    left_is(&rt, &left, 1, trace, "");
     Ok(())
 }
 
@@ -158,10 +143,8 @@ append 0 10 9223372036854775807 32767 0 d z
 14 F10 BadProducerFields
 15 at 3
 ";
-    let script = format!(in rt.alloc(); "{HEADER}{events}")?;
-    let left = run(rt.alloc(), script.as_bytes())?;
-    assert_eq!(rt; left.out.as_slice(), trace.as_bytes());
-    assert_eq!(rt; left.status, 1);
+    let left = run_events(rt.alloc(), events)?;
+    left_is(&rt, &left, 1, trace, "");
     Ok(())
 }
 
@@ -181,10 +164,8 @@ fn a_second_leadership_goes_on(rt: HostRuntime) -> Result<(), Fail> {
 11 read 0
 12 F16 OffsetOutOfRange
 ";
-    let script = format!(in rt.alloc(); "{HEADER}{events}")?;
-    let left = run(rt.alloc(), script.as_bytes())?;
-    assert_eq!(rt; left.out.as_slice(), trace.as_bytes());
-    assert_eq!(rt; left.status, 1);
+    let left = run_events(rt.alloc(), events)?;
+    left_is(&rt, &left, 1, trace, "");
     Ok(())
 }
 
@@ -222,9 +203,7 @@ fn script_faults_name_their_line(rt: HostRuntime) -> Result<(), Fail> {
     for (script, line) in rows {
         let left = run(rt.alloc(), script)?;
         let want = format!(in rt.alloc(); "kpart: F31 BadScript {line}\n")?;
-        assert_eq!(rt; left.out.as_slice(), b"".as_slice(), "line {line}");
-        assert_eq!(rt; left.err.as_slice(), want.as_bytes());
-        assert_eq!(rt; left.status, 2, "line {line}");
+        left_is(&rt, &left, 2, "", want.as_str());
     }
     Ok(())
 }
@@ -235,9 +214,7 @@ fn a_script_of_no_events_prints_nothing(rt: HostRuntime) -> Result<(), Fail> {
         rt.alloc(),
         b"# a comment\n\nnodes 1 segment 1073741824 interval 1048576",
     )?;
-    assert_eq!(rt; left.out.as_slice(), b"".as_slice());
-    assert_eq!(rt; left.err.as_slice(), b"".as_slice());
-    assert_eq!(rt; left.status, 0);
+    left_is(&rt, &left, 0, "", "");
     Ok(())
 }
 
@@ -245,29 +222,19 @@ fn a_script_of_no_events_prints_nothing(rt: HostRuntime) -> Result<(), Fail> {
 fn each_read_fails_in_turn(rt: HostRuntime) -> Result<(), Fail> {
     for call in 0..2 {
         let left = run_failing(rt.alloc(), FIRST.as_bytes(), call, u64::MAX)?;
-        assert_eq!(rt; left.out.as_slice(), b"".as_slice(), "read {call}");
-        assert_eq!(rt;
-            left.err.as_slice(),
-            b"kpart: F32 Device\n".as_slice(),
-            "read {call}"
-        );
-        assert_eq!(rt; left.status, 1, "read {call}");
+        left_is(&rt, &left, 1, "", "kpart: F32 Device\n");
     }
     let left = run_failing(rt.alloc(), FIRST.as_bytes(), 2, u64::MAX)?;
-    assert_eq!(rt; left.out.as_slice(), FIRST_TRACE.as_bytes());
-    assert_eq!(rt; left.status, 0);
+    left_is(&rt, &left, 0, FIRST_TRACE, "");
     Ok(())
 }
 
 #[test]
 fn each_write_fails_in_turn(rt: HostRuntime) -> Result<(), Fail> {
     let left = run_failing(rt.alloc(), FIRST.as_bytes(), u64::MAX, 0)?;
-    assert_eq!(rt; left.out.as_slice(), b"".as_slice());
-    assert_eq!(rt; left.err.as_slice(), b"kpart: F32 Device\n".as_slice());
-    assert_eq!(rt; left.status, 1);
+    left_is(&rt, &left, 1, "", "kpart: F32 Device\n");
     let left = run_failing(rt.alloc(), FIRST.as_bytes(), u64::MAX, 1)?;
-    assert_eq!(rt; left.out.as_slice(), FIRST_TRACE.as_bytes());
-    assert_eq!(rt; left.status, 0);
+    left_is(&rt, &left, 0, FIRST_TRACE, "");
     Ok(())
 }
 
@@ -308,9 +275,7 @@ fn batches_of_several_records(rt: HostRuntime) -> Result<(), Fail> {
         "{HEADER}elect 0\n{RAW}raw 0 {TWO}\nraise 0\nread 0 0\nread 0 3\nread 0 4\nread 0 6\nshow 0\n"
     )?;
     let left = run(rt.alloc(), script.as_bytes())?;
-    assert_eq!(rt; left.out.as_slice(), trace.as_bytes());
-    assert_eq!(rt; left.err.as_slice(), b"".as_slice());
-    assert_eq!(rt; left.status, 1);
+    left_is(&rt, &left, 1, trace, "");
     Ok(())
 }
 
@@ -336,13 +301,12 @@ fn raw_bytes_name_their_first_fault(rt: HostRuntime) -> Result<(), Fail> {
         ("00", "F1 Truncated"),
     ];
     for (digits, refusal) in rows {
-        let script = format!(in rt.alloc(); "{HEADER}elect 0\nadopt 0\nraw 0 {digits}\nshow 0\n")?;
+        let events = format!(in rt.alloc(); "elect 0\nadopt 0\nraw 0 {digits}\nshow 0\n")?;
         let trace = format!(in rt.alloc();
             "2 record leader 0 epoch 0 isr 0 version 1\n3 leads epoch 0 from 0\n4 {refusal}\n5 node 0 life 0 end 0 mark 0 stable 0\n"
         )?;
-        let left = run(rt.alloc(), script.as_bytes())?;
-        assert_eq!(rt; left.out.as_slice(), trace.as_bytes());
-        assert_eq!(rt; left.status, 1);
+        let left = run_events(rt.alloc(), events.as_str())?;
+        left_is(&rt, &left, 1, trace.as_str(), "");
     }
     Ok(())
 }
@@ -364,27 +328,29 @@ committed 0 0
 6 mark 2
 7 read 1 0=61
 ";
-    let script = format!(in rt.alloc(); "{HEADER}{events}")?;
-    let left = run(rt.alloc(), script.as_bytes())?;
-    assert_eq!(rt; left.out.as_slice(), trace.as_bytes());
-    assert_eq!(rt; left.status, 0);
+    let left = run_events(rt.alloc(), events)?;
+    left_is(&rt, &left, 0, trace, "");
     Ok(())
+}
+
+// The script run that appends one value of so many bytes.
+fn run_sized(alloc: Global, size: usize) -> Result<Left, Fail> {
+    let mut events = String::from_str(alloc, "elect 0\nadopt 0\nappend 0 10 -1 -1 -1 d ")?;
+    for _ in 0..size {
+        events.push('x')?;
+    }
+    run_events(alloc, events.as_str())
 }
 
 // A batch of one value of so many bytes has 72 bytes more.
 #[test]
 fn the_largest_batch(rt: HostRuntime) -> Result<(), Fail> {
-    for (size, answer) in [(1_048_504usize, "at 0"), (1_048_505, "F9 TooLarge")] {
-        let mut script = String::from_str(rt.alloc(), HEADER)?;
-        script.push_str("elect 0\nadopt 0\nappend 0 10 -1 -1 -1 d ")?;
-        for _ in 0..size {
-            script.push('x')?;
-        }
-        let left = run(rt.alloc(), script.as_bytes())?;
+    for (size, answer, status) in [(1_048_504, "at 0", 0), (1_048_505, "F9 TooLarge", 1)] {
+        let left = run_sized(rt.alloc(), size)?;
         let trace = format!(in rt.alloc();
             "2 record leader 0 epoch 0 isr 0 version 1\n3 leads epoch 0 from 0\n4 {answer}\n"
         )?;
-        assert_eq!(rt; left.out.as_slice(), trace.as_bytes(), "{size}");
+        left_is(&rt, &left, status, trace.as_str(), "");
     }
     Ok(())
 }

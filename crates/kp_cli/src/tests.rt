@@ -12,24 +12,30 @@ fn refusal(rt: &HostRuntime, words: &[&str]) -> Option<ErrorKind> {
     }
 }
 
-#[test]
-fn reads_the_words(rt: HostRuntime) -> Result<(), Fail> {
-    let words = ["kpart", "run", "x.script"];
-    let Call::Run { file } = call_of(rt.alloc(), words.as_slice())? else {
-        panic!(rt; "another call");
-    };
-    assert_eq!(rt; file.as_str(), "x.script");
-    let words = ["/usr/bin/kpart", "run", "--", "--help"];
-    let Call::Run { file } = call_of(rt.alloc(), words.as_slice())? else {
-        panic!(rt; "another call");
-    };
-    assert_eq!(rt; file.as_str(), "--help");
-    Ok(())
-}
-
 /// The words of a command line in which one space stands between each two.
 fn words_of<'a>(alloc: Global, line: &'a str) -> Result<Vec<&'a str>, Fail> {
     Ok(line.split(' ').collect(alloc)?)
+}
+
+/// The file of a `run`.
+fn run_of(alloc: Global, line: &str) -> Result<String, Fail> {
+    let words = words_of(alloc, line)?;
+    match call_of(alloc, words.as_slice())? {
+        Call::Run { file } => Ok(file),
+        Call::Inspect { .. } => Err(Fail::from("another call")),
+    }
+}
+
+#[test]
+fn reads_the_words(rt: HostRuntime) -> Result<(), Fail> {
+    for (line, wanted) in [
+        ("kpart run x.script", "x.script"),
+        ("/usr/bin/kpart run -- --help", "--help"),
+    ] {
+        let file = run_of(rt.alloc(), line)?;
+        assert_eq!(rt; file.as_str(), wanted, "{line}");
+    }
+    Ok(())
 }
 
 /// The file, the segment's bytes and the index's interval of an `inspect`.
@@ -67,9 +73,8 @@ fn inspect_has_defaults(rt: HostRuntime) -> Result<(), Fail> {
     ];
     for (line, wanted, most, gap) in rows {
         let (file, segment_bytes, index_interval) = inspected(rt.alloc(), line)?;
-        assert_eq!(rt; file.as_str(), wanted, "{line}");
-        assert_eq!(rt; segment_bytes, most, "{line}");
-        assert_eq!(rt; index_interval, gap, "{line}");
+        let found = (file.as_str(), segment_bytes, index_interval);
+        assert_eq!(rt; found, (wanted, most, gap), "{line}");
     }
     Ok(())
 }
@@ -85,9 +90,8 @@ fn inspect_reads_its_options(rt: HostRuntime) -> Result<(), Fail> {
     ];
     for line in rows {
         let (file, segment_bytes, index_interval) = inspected(rt.alloc(), line)?;
-        assert_eq!(rt; file.as_str(), "x.log", "{line}");
-        assert_eq!(rt; segment_bytes, 2_048, "{line}");
-        assert_eq!(rt; index_interval, 0, "{line}");
+        let found = (file.as_str(), segment_bytes, index_interval);
+        assert_eq!(rt; found, ("x.log", 2_048, 0), "{line}");
     }
     Ok(())
 }
@@ -131,65 +135,61 @@ fn inspect_refuses(rt: HostRuntime) -> Result<(), Fail> {
 }
 
 #[test]
-fn refuses(rt: HostRuntime) {
+fn refuses(rt: HostRuntime) -> Result<(), Fail> {
+    for (line, kind) in [
+        ("kpart", ErrorKind::MissingSubcommand),
+        ("kpart walk x.script", ErrorKind::InvalidSubcommand),
+        ("kpart run", ErrorKind::MissingRequiredArgument),
+        ("kpart run a b", ErrorKind::UnknownArgument),
+        ("kpart --loud", ErrorKind::UnknownArgument),
+        ("kpart --help", ErrorKind::DisplayHelp),
+        ("kpart run --help", ErrorKind::DisplayHelp),
+        ("kpart help run", ErrorKind::DisplayHelp),
+        ("kpart inspect --help", ErrorKind::DisplayHelp),
+        ("kpart inspect x -h", ErrorKind::DisplayHelp),
+        ("kpart help inspect", ErrorKind::DisplayHelp),
+    ] {
+        let words = words_of(rt.alloc(), line)?;
+        assert!(rt; refusal(&rt, words.as_slice()) == Some(kind), "{line}");
+    }
     assert!(rt; refusal(&rt, &[]) == Some(ErrorKind::MissingSubcommand));
-    assert!(rt; refusal(&rt, &["kpart"]) == Some(ErrorKind::MissingSubcommand));
-    assert!(rt; refusal(&rt, &["kpart", "walk", "x.script"]) == Some(ErrorKind::InvalidSubcommand));
-    assert!(rt; refusal(&rt, &["kpart", "run"]) == Some(ErrorKind::MissingRequiredArgument));
-    assert!(rt; refusal(&rt, &["kpart", "run", "a", "b"]) == Some(ErrorKind::UnknownArgument));
-    assert!(rt; refusal(&rt, &["kpart", "--loud"]) == Some(ErrorKind::UnknownArgument));
+    Ok(())
 }
 
-#[test]
-fn shows_help(rt: HostRuntime) {
-    assert!(rt; refusal(&rt, &["kpart", "--help"]) == Some(ErrorKind::DisplayHelp));
-    assert!(rt; refusal(&rt, &["kpart", "run", "--help"]) == Some(ErrorKind::DisplayHelp));
-    assert!(rt; refusal(&rt, &["kpart", "help", "run"]) == Some(ErrorKind::DisplayHelp));
-    assert!(rt; refusal(&rt, &["kpart", "inspect", "--help"]) == Some(ErrorKind::DisplayHelp));
-    assert!(rt; refusal(&rt, &["kpart", "inspect", "x", "-h"]) == Some(ErrorKind::DisplayHelp));
-    assert!(rt; refusal(&rt, &["kpart", "help", "inspect"]) == Some(ErrorKind::DisplayHelp));
-}
-
-/// What the program exits with after this error.
-fn status(error: &clap::Error) -> u8 {
-    error.exit_code() as u8
+/// The text of the words' refusal, whether it goes to standard error, and the exit status behind it.
+fn told(alloc: Global, line: &str) -> Result<(String, bool, i32), Fail> {
+    let words = words_of(alloc, line)?;
+    match call_of(alloc, words.as_slice()) {
+        Ok(_) => Err(Fail::from("a call")),
+        Err(error) => {
+            let text = format!(in alloc; "{error}")?;
+            Ok((text, error.use_stderr(), error.exit_code()))
+        }
+    }
 }
 
 #[test]
 fn help_has_the_texts(rt: HostRuntime) -> Result<(), Fail> {
-    let alloc = rt.alloc();
-    let words = ["kpart", "--help"];
-    let Err(help) = call_of(alloc, words.as_slice()) else {
-        panic!(rt; "a call");
-    };
-    let text = format!(in alloc; "{help}")?;
-    assert!(rt;
-        text.as_str().contains("A replicated partition log with Kafka's replication rules")
-    );
-    assert!(rt; text.as_str().contains("Runs a script and prints its trace"));
-    assert!(rt; !help.use_stderr() && status(&help) == 0);
-    let words = ["kpart", "run", "--help"];
-    let Err(help) = call_of(alloc, words.as_slice()) else {
-        panic!(rt; "a call");
-    };
-    let text = format!(in alloc; "{help}")?;
-    assert!(rt; text.as_str().contains("the script to run"));
-    let words = ["kpart", "inspect", "--help"];
-    let Err(help) = call_of(alloc, words.as_slice()) else {
-        panic!(rt; "a call");
-    };
-    let text = format!(in alloc; "{help}")?;
-    assert!(rt; text.as_str().contains("the log to read"));
-    assert!(rt; text.as_str().contains("--segment <S>"));
-    assert!(rt; text.as_str().contains("[default: 1073741824]"));
-    assert!(rt; text.as_str().contains("--interval <I>"));
-    assert!(rt; text.as_str().contains("[default: 4096]"));
-    let words = ["kpart", "walk"];
-    let Err(mistake) = call_of(alloc, words.as_slice()) else {
-        panic!(rt; "a call");
-    };
-    let text = format!(in alloc; "{mistake}")?;
-    assert!(rt; text.as_str().contains("walk"));
-    assert!(rt; mistake.use_stderr() && status(&mistake) == 2);
+    let replication = "A replicated partition log with Kafka's replication rules";
+    for (line, part, to_stderr, status) in [
+        ("kpart --help", replication, false, 0),
+        (
+            "kpart --help",
+            "Runs a script and prints its trace",
+            false,
+            0,
+        ),
+        ("kpart run --help", "the script to run", false, 0),
+        ("kpart inspect --help", "the log to read", false, 0),
+        ("kpart inspect --help", "--segment <S>", false, 0),
+        ("kpart inspect --help", "[default: 1073741824]", false, 0),
+        ("kpart inspect --help", "--interval <I>", false, 0),
+        ("kpart inspect --help", "[default: 4096]", false, 0),
+        ("kpart walk", "walk", true, 2),
+    ] {
+        let (text, stderr, code) = told(rt.alloc(), line)?;
+        assert!(rt; text.as_str().contains(part), "{line}: {part}");
+        assert_eq!(rt; (stderr, code), (to_stderr, status), "{line}");
+    }
     Ok(())
 }
