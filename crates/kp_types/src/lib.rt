@@ -15,6 +15,3 @@ pub use limits::{
     LEAST_SEGMENT_BYTES, Limits, MAX_BATCH, MAX_INDEX_INTERVAL, MOST_NODES, NodeId, Offset,
 };
 pub use refusal::Refusal;
-
-#[cfg(test)]
-mod tests;

@@ -1,4 +1,4 @@
-use Rattle.std.proofs.Common.{◌≡◌, ℕ, List, ◌++◌, ap, sym, ◌∙◌, subst, take, arith, Option, length, drop, ◌+◌, ◌-◌, Some, None}
+use Rattle.std.proofs.Common.{◌≡◌, ℕ, List, ◌++◌, ap, sym, ◌∙◌, subst, take, arith, rules, Option, length, drop, ◌+◌, ◌-◌, Some, None}
 use Rattle.std.proofs.lemmas.List.{take_rest, length-take, length-drop}
 use Rattle.std.proofs.Math.Seq.{take-add}
 use Rattle.std.proofs.KnownBytes.{Appends-trans}
@@ -33,3 +33,6 @@ loop-preserved g c = elim c.match-write.branch [
     failed = c.loop.invariant.failed;
   }
 ]
+
+pub returns-clause-counted : goal.returns-clause-counted
+returns-clause-counted c = search rules
