@@ -10,12 +10,3 @@ mod running;
 pub use call::Call;
 pub use line::call_of;
 pub use running::{perform, refuse};
-
-#[cfg(test)]
-mod inspect_tests;
-#[cfg(test)]
-mod left;
-#[cfg(test)]
-mod run_tests;
-#[cfg(test)]
-mod tests;

@@ -22,12 +22,3 @@ pub fn dumps_are_one()
     kp_model::segments_are_one();
     kp_producers::tables_are_one();
 }
-
-#[cfg(test)]
-mod dump_tables;
-#[cfg(test)]
-mod dump_tests;
-#[cfg(test)]
-mod dump_texts;
-#[cfg(test)]
-mod tests;

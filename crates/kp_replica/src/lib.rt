@@ -20,6 +20,3 @@ pub fn bytes_are_an_offer()
     kp_batch::batches_stand_apart();
     kp_batch::bytes_are_judged_once();
 }
-
-#[cfg(test)]
-mod tests;

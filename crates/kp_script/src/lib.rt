@@ -17,8 +17,3 @@ pub use lines::LONGEST_LINE;
 pub use run::run_script;
 pub use script::{Line, MOST_EVENTS, Script, parse};
 pub use trace::trace_text;
-
-#[cfg(test)]
-mod tests;
-#[cfg(test)]
-mod trace_tests;

@@ -61,6 +61,3 @@ pub fn committed_records_are_visible()
     ensures visible { CommittedRecordsAreVisible }
     ensures rising { VisibleOffsetsRise }
 {}
-
-#[cfg(test)]
-mod tests;

@@ -20,6 +20,3 @@ pub fn events_are_told()
 {
     kp_replica::bytes_are_an_offer();
 }
-
-#[cfg(test)]
-mod tests;
