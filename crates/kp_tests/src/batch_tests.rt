@@ -1,0 +1,317 @@
+//! Batches and markers as bytes. The bytes are spelled out by hand from the Kafka protocol guide's 'Record Batch',
+//! 'Record' and 'Control Batch'; the checksums are of a CRC-32C written in Python.
+
+use crate::shown::{batch_text, hex, is, unhex};
+use bytes::Bytes;
+use kp_batch::{Batch, Fields, HeaderParts, Parts, spell};
+use kp_marker::{Kind, marker, read_marker};
+use kp_types::{Limits, Refusal};
+use std::alloc::Global;
+
+const LIMITS: Limits = Limits {
+    segment_bytes: 1_048_576,
+    index_interval: 4_096,
+    max_batch: 1_048_576,
+};
+
+// No producer, base time 1000.
+const PLAIN: Fields = Fields {
+    base_timestamp: 1000,
+    producer_id: None,
+    producer_epoch: None,
+    base_sequence: None,
+    transactional: false,
+    control: false,
+};
+
+const PRODUCED: Fields = Fields {
+    base_timestamp: 1000,
+    producer_id: Some(5),
+    producer_epoch: Some(1),
+    base_sequence: Some(9),
+    transactional: true,
+    control: false,
+};
+
+const CONTROL: Fields = Fields {
+    base_timestamp: 20,
+    producer_id: Some(5),
+    producer_epoch: Some(0),
+    base_sequence: None,
+    transactional: true,
+    control: true,
+};
+
+// A record of null key and no headers.
+fn part(timestamp: u64, value: &[u8]) -> Parts<'_> {
+    Parts {
+        timestamp,
+        key: None,
+        value: Some(value),
+        headers: &[],
+    }
+}
+
+static SECOND: [HeaderParts<'static>; 2] = [
+    HeaderParts {
+        key: b"h1",
+        value: None,
+    },
+    HeaderParts {
+        key: &[0xc3, 0xa9],
+        value: Some(b"xyz"),
+    },
+];
+
+static THIRD: [HeaderParts<'static>; 1] = [HeaderParts {
+    key: b"",
+    value: Some(b""),
+}];
+
+fn three() -> [Parts<'static>; 3] {
+    [
+        part(1000, b"a"),
+        Parts {
+            timestamp: 700,
+            key: Some(b"k"),
+            value: None,
+            headers: &SECOND,
+        },
+        Parts {
+            timestamp: 1300,
+            key: Some(b""),
+            value: Some(b""),
+            headers: &THIRD,
+        },
+    ]
+}
+
+// Commits for a producer, by a coordinator of epoch 7.
+fn commit() -> Parts<'static> {
+    Parts {
+        key: Some(&[0, 0, 0, 1]),
+        ..part(20, &[0, 0, 0, 0, 0, 7])
+    }
+}
+
+// One record: null key, value `a`, time 1000, no producer.
+fn one_hex() -> &'static str {
+    "000000000000000000000039ffffffff02ebf1884b00000000000000000000000003e800000000000003e8ffffffffffffffffffffffffffff000000010e00000001026100"
+}
+
+fn one_text() -> &'static str {
+    "base 0 length 57 epoch - magic 2 crc 3958474827 attributes 0 delta 0 time 1000 most 1000 producer - of - from - \
+     count 1 size 69 plain\ntime 1000 - 61\n"
+}
+
+// Three records of a producer's transaction.
+fn three_hex() -> &'static str {
+    "000000000000000000000057ffffffff02a67c021d00100000000200000000000003e800000000000005140000000000000005000100000009000000030e000000010261002600d70402026b01040468310104c3a90678797a1200d804040000020000"
+}
+
+fn three_text() -> &'static str {
+    "base 0 length 87 epoch - magic 2 crc 2793144861 attributes 16 delta 2 time 1000 most 1300 producer 5 of 1 from 9 \
+     count 3 size 99 transactional\n\
+     time 1000 - 61\ntime 700 6b - 6831=- c3a9=78797a\ntime 1300   =\n"
+}
+
+// The marker that commits for producer 5 at time 20.
+fn commit_hex() -> &'static str {
+    "000000000000000000000042ffffffff022454dce30030000000000000000000000014000000000000001400000000000000050000ffffffff000000012000000008000000010c00000000000700"
+}
+
+fn commit_text() -> &'static str {
+    "base 0 length 66 epoch - magic 2 crc 609541347 attributes 48 delta 0 time 20 most 20 producer 5 of 0 from - \
+     count 1 size 78 control\ntime 20 00000001 000000000007\n"
+}
+
+// One record of a producer that has no epoch, whose sequence is 0.
+fn epochless() -> &'static str {
+    "000000000000000000000039ffffffff02d624c40700000000000000000000000003e800000000000003e80000000000000009ffff00000000000000010e00000001026100"
+}
+
+// The marker that commits, with a sequence.
+fn numbered_marker() -> &'static str {
+    "000000000000000000000042ffffffff0279733da400300000000000000000000000140000000000000014000000000000000500007fffffff000000012000000008000000010c00000000000700"
+}
+
+// The bytes of a batch as digits.
+fn written(alloc: Global, batch: &Batch) -> Result<String, Refusal> {
+    let mut out = Vec::new(alloc);
+    batch.write(&mut out)?;
+    Ok(hex(alloc, &out)?)
+}
+
+fn built(alloc: Global, fields: &Fields, parts: &[Parts<'_>]) -> Result<String, Refusal> {
+    let batch = Batch::build(alloc, fields, parts, &LIMITS)?;
+    written(alloc, &batch)
+}
+
+// The same, spelled out whatever the producer fields are.
+fn spelled(alloc: Global, fields: &Fields, parts: &[Parts<'_>]) -> Result<String, Refusal> {
+    if fields
+        .producer_id
+        .is_some_and(|producer| producer >> 63 != 0)
+        || fields.producer_epoch.is_some_and(|epoch| epoch >> 15 != 0)
+        || fields
+            .base_sequence
+            .is_some_and(|sequence| sequence >> 31 != 0)
+    {
+        return Err(Refusal::BadProducerFields);
+    }
+    let bytes = spell(alloc, fields, parts)?;
+    Ok(hex(alloc, &bytes)?)
+}
+
+#[test]
+fn batches_have_the_known_bytes(rt: HostRuntime) {
+    for (fields, parts, known) in [
+        (PLAIN, [part(1000, b"a")].as_slice(), one_hex()),
+        (PRODUCED, &three(), three_hex()),
+        (CONTROL, &[commit()], commit_hex()),
+    ] {
+        is(&rt, built(rt.alloc(), &fields, parts), known);
+        is(&rt, spelled(rt.alloc(), &fields, parts), known);
+    }
+}
+
+// A reader refuses both.
+#[test]
+fn producer_fields_are_spelled_though_they_disagree(rt: HostRuntime) {
+    let plain = Fields {
+        producer_id: Some(9),
+        base_sequence: Some(0),
+        ..PLAIN
+    };
+    let control = Fields {
+        base_sequence: Some(0x7fff_ffff),
+        ..CONTROL
+    };
+    for (fields, part, known) in [
+        (plain, part(1000, b"a"), epochless()),
+        (control, commit(), numbered_marker()),
+    ] {
+        is(&rt, spelled(rt.alloc(), &fields, &[part]), known);
+    }
+}
+
+// What the bytes say that these digits spell.
+fn read(alloc: Global, digits: &str, max_batch: u32) -> Result<String, Refusal> {
+    let bytes = Bytes::from_vec(unhex(alloc, digits)?)?;
+    let limits = Limits {
+        max_batch,
+        ..LIMITS
+    };
+    let batch = Batch::read(bytes, &limits)?;
+    Ok(batch_text(alloc, &batch)?)
+}
+
+// The batch of one record, stamped with the base offset 7 and the greatest leader epoch; the checksum covers neither.
+fn stamped_hex() -> &'static str {
+    "00000000000000070000003900fffffe02ebf1884b00000000000000000000000003e800000000000003e8ffffffffffffffffffffffffffff000000010e00000001026100"
+}
+
+fn stamped_text() -> &'static str {
+    "base 7 length 57 epoch 16777214 magic 2 crc 3958474827 attributes 0 delta 0 time 1000 most 1000 producer - of - \
+     from - count 1 size 69 plain\ntime 1000 - 61\n"
+}
+
+#[test]
+fn batches_are_read_back(rt: HostRuntime) {
+    for (digits, text) in [
+        (one_hex(), one_text()),
+        (stamped_hex(), stamped_text()),
+        (three_hex(), three_text()),
+        (commit_hex(), commit_text()),
+    ] {
+        is(&rt, read(rt.alloc(), digits, 99), text);
+    }
+}
+
+// The batch of one record in this place, as digits.
+fn stamped(alloc: Global) -> Result<String, Refusal> {
+    let batch = Batch::build(alloc, &PLAIN, &[part(1000, b"a")], &LIMITS)?;
+    let stamped = batch.share()?.stamp(7, 16_777_214);
+    written(alloc, &stamped)
+}
+
+#[test]
+fn batches_are_stamped_and_shared(rt: HostRuntime) {
+    is(&rt, stamped(rt.alloc()), stamped_hex());
+}
+
+// The batch of one record whose value has one bit flipped.
+fn flipped() -> &'static str {
+    "000000000000000000000039ffffffff02ebf1884b00000000000000000000000003e800000000000003e8ffffffffffffffffffffffffffff000000010e00000001026000"
+}
+
+// The same with its record's length, 7, as `8e00` in place of `0e`.
+fn longer_length() -> &'static str {
+    "00000000000000000000003affffffff02290ef1ef00000000000000000000000003e800000000000003e8ffffffffffffffffffffffffffff000000018e0000000001026100"
+}
+
+// The batch's head alone.
+fn head() -> &'static str {
+    "000000000000000000000039ffffffff02ebf1884b00000000000000000000000003e800000000000003e8ffffffffffffffffffffffffffff00000001"
+}
+
+#[test]
+fn bytes_have_their_first_fault(rt: HostRuntime) {
+    for (digits, max_batch, refusal) in [
+        ("", 69, Refusal::Truncated),
+        (head(), 69, Refusal::Truncated),
+        (one_hex(), 68, Refusal::TooLarge),
+        (flipped(), 69, Refusal::BadCrc),
+        (longer_length(), 70, Refusal::BadRecord(61)),
+        (epochless(), 68, Refusal::TooLarge),
+        (epochless(), 69, Refusal::BadProducerFields),
+        (numbered_marker(), 78, Refusal::BadProducerFields),
+    ] {
+        let found = read(rt.alloc(), digits, max_batch).err();
+        assert_eq!(rt; found, Some(refusal));
+    }
+}
+
+// The marker that aborts: another type, and so another checksum.
+fn abort_hex() -> &'static str {
+    "000000000000000000000042ffffffff02d06a0aab0030000000000000000000000014000000000000001400000000000000050000ffffffff000000012000000008000000000c00000000000700"
+}
+
+// The batch of a marker of producer 5, as digits.
+fn marked(alloc: Global, kind: Kind) -> Result<String, Refusal> {
+    let batch = marker(alloc, 5, 0, 7, kind, 20)?;
+    written(alloc, &batch)
+}
+
+#[test]
+fn markers_have_the_known_bytes(rt: HostRuntime) {
+    is(&rt, marked(rt.alloc(), Kind::Commit), commit_hex());
+    is(&rt, marked(rt.alloc(), Kind::Abort), abort_hex());
+}
+
+// Data of a transaction, with the key and the value of the marker that commits.
+fn data_hex() -> &'static str {
+    "000000000000000000000042ffffffff025fb2d79f001000000000000000000000001400000000000000140000000000000005000000000000000000012000000008000000010c00000000000700"
+}
+
+// The marker that the batch is that these digits spell.
+fn marker_text(alloc: Global, digits: &str) -> Result<String, Refusal> {
+    let bytes = Bytes::from_vec(unhex(alloc, digits)?)?;
+    let batch = Batch::read(bytes, &LIMITS)?;
+    Ok(format!(in alloc; "{:?}", read_marker(&batch))?)
+}
+
+#[test]
+fn markers_are_told_from_data(rt: HostRuntime) {
+    let commits =
+        "Some(Marker { producer_id: 5, producer_epoch: 0, coordinator_epoch: 7, kind: Commit, timestamp: 20 })";
+    let aborts =
+        "Some(Marker { producer_id: 5, producer_epoch: 0, coordinator_epoch: 7, kind: Abort, timestamp: 20 })";
+    for (digits, text) in [
+        (commit_hex(), commits),
+        (abort_hex(), aborts),
+        (data_hex(), "None"),
+    ] {
+        is(&rt, marker_text(rt.alloc(), digits), text);
+    }
+}

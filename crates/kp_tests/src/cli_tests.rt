@@ -1,0 +1,70 @@
+//! What clap says where help is asked for or words are no call, and what is said where nothing is done.
+
+use kp_cli::{call_of, refuse};
+use kp_types::{Counted, Faulty, Refusal};
+use std::alloc::Global;
+
+// Whether the text of the words' refusal has this part, whether it goes to standard error, and the exit status behind it.
+fn answer(alloc: Global, line: &str, part: &str) -> Result<(bool, bool, i32), Refusal> {
+    let words: Vec<&str> = line.split(' ').collect(alloc)?;
+    match call_of(alloc, words.as_slice()) {
+        Ok(_) => Err(Refusal::BadScript(0)),
+        Err(error) => {
+            let text = format!(in alloc; "{error}")?;
+            Ok((
+                text.as_str().contains(part),
+                error.use_stderr(),
+                error.exit_code(),
+            ))
+        }
+    }
+}
+
+// No contract says clap's texts.
+#[test]
+fn help_has_the_texts(rt: HostRuntime) {
+    let replication = "A replicated partition log with Kafka's replication rules";
+    for (line, part) in [
+        ("kpart --help", replication),
+        ("kpart --help", "Runs a script and prints its trace"),
+        ("kpart run --help", "the script to run"),
+        ("kpart inspect --help", "the log to read"),
+        ("kpart inspect --help", "--segment <S>"),
+        ("kpart inspect --help", "[default: 1073741824]"),
+        ("kpart inspect --help", "--interval <I>"),
+        ("kpart inspect --help", "[default: 4096]"),
+    ] {
+        assert_eq!(rt;
+            answer(rt.alloc(), line, part),
+            Ok((true, false, 0)),
+            "{line}: {part}"
+        );
+    }
+}
+
+#[test]
+fn a_mistake_is_named(rt: HostRuntime) {
+    assert_eq!(rt;
+        answer(rt.alloc(), "kpart walk", "walk"),
+        Ok((true, true, 2))
+    );
+}
+
+// What is left on standard error, how often it failed, and the exit status, where this call of it fails.
+fn refused(alloc: Global, refusal: Refusal, fails: u64) -> (Vec<u8>, u64, u8) {
+    let mut err = Counted::new(Faulty::new(Vec::new(alloc), fails));
+    let status = refuse(&mut err, refusal);
+    (err.inner.bytes, err.failed, status)
+}
+
+#[test]
+fn a_failed_complaint_keeps_the_status(rt: HostRuntime) {
+    for (refusal, fails, told, failed, status) in [
+        (Refusal::BadScript(3), 0, b"".as_slice(), 1, 2),
+        (Refusal::Device, 0, b"", 1, 1),
+        (Refusal::BadScript(3), 9, b"kpart: F31 BadScript 3\n", 0, 2),
+    ] {
+        let left = refused(rt.alloc(), refusal, fails);
+        assert_eq!(rt; (left.0.as_slice(), left.1, left.2), (told, failed, status));
+    }
+}

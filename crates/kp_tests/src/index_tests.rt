@@ -1,0 +1,141 @@
+//! The two indexes of a run by themselves, the model's plain program, and the laws that cost nothing.
+
+use crate::shown::is;
+use kp_model::{Header, end_for};
+use kp_offset_index::{OffsetEntry, OffsetIndex};
+use kp_time_index::{TimeEntry, TimeIndex};
+use kp_types::Refusal;
+use std::alloc::Global;
+
+// Three batches of a run of ten or more.
+const NINE: OffsetEntry = OffsetEntry {
+    relative_offset: 9,
+    position: 4_200,
+    place: 3,
+};
+
+const TEN: OffsetEntry = OffsetEntry {
+    relative_offset: 10,
+    position: 8_500,
+    place: 4,
+};
+
+const LATEST: OffsetEntry = OffsetEntry {
+    relative_offset: 25,
+    position: 12_700,
+    place: 9,
+};
+
+fn offsets(alloc: Global) -> Result<OffsetIndex, Refusal> {
+    let mut index = OffsetIndex::new(alloc);
+    index.push(NINE)?;
+    index.push(TEN)?;
+    index.push(LATEST)?;
+    Ok(index)
+}
+
+// The entry below each of these.
+fn floors(alloc: Global, asked: &[u32]) -> Result<String, Refusal> {
+    let index = offsets(alloc)?;
+    let mut text = String::new(alloc);
+    for offset in asked {
+        match index.floor(*offset) {
+            Some(entry) => write!(text, "{offset}: {} {}, ", entry.position, entry.place)?,
+            None => write!(text, "{offset}: none, ")?,
+        }
+    }
+    Ok(text)
+}
+
+#[test]
+fn an_offset_is_found_at_the_entry_below(rt: HostRuntime) {
+    let want = "8: none, 9: 4200 3, 24: 8500 4, 25: 12700 9, 26: 12700 9, ";
+    is(&rt, floors(rt.alloc(), &[8, 9, 24, 25, 26]), want);
+}
+
+// Three entries of a run.
+const EARLY: TimeEntry = TimeEntry {
+    timestamp: 1_000,
+    relative_offset: 4,
+    walk_from: 0,
+};
+
+const NEXT: TimeEntry = TimeEntry {
+    timestamp: 1_001,
+    relative_offset: 9,
+    walk_from: 2,
+};
+
+const LATE: TimeEntry = TimeEntry {
+    timestamp: 5_000,
+    relative_offset: 30,
+    walk_from: 3,
+};
+
+fn times(alloc: Global) -> Result<TimeIndex, Refusal> {
+    let mut index = TimeIndex::new(alloc);
+    index.push(EARLY)?;
+    index.push(NEXT)?;
+    index.push(LATE)?;
+    Ok(index)
+}
+
+// The entries beside each of these.
+fn beside(alloc: Global, asked: &[u64]) -> Result<String, Refusal> {
+    let index = times(alloc)?;
+    let mut text = String::new(alloc);
+    for time in asked {
+        let below = index.floor(*time).map_or(0, |entry| entry.timestamp);
+        let above = index.ceiling(*time).map_or(0, |entry| entry.timestamp);
+        write!(text, "{below} {time} {above}, ")?;
+    }
+    Ok(text)
+}
+
+#[test]
+fn a_time_is_found_between_two_entries(rt: HostRuntime) {
+    let want = "0 999 1000, 1001 1001 1001, 1001 1002 5000, 5000 5000 5000, 5000 5001 0, ";
+    is(
+        &rt,
+        beside(rt.alloc(), &[999, 1_001, 1_002, 5_000, 5_001]),
+        want,
+    );
+}
+
+// A leader with the epochs 1 at 0, 2 at 3 and 4 at 5, whose log ends at 7 (KIP-101, KIP-279).
+#[test]
+fn an_epoch_ends_where_the_next_begins(rt: HostRuntime) {
+    let headers = [(0, 1, 3), (3, 2, 2), (5, 4, 2)].map(|(base, epoch, count)| Header {
+        base,
+        epoch,
+        count,
+    });
+    for (epoch, want) in [
+        (0, None),
+        (1, Some((1, 3))),
+        (3, Some((2, 5))),
+        (4, Some((4, 7))),
+        (9, Some((4, 7))),
+    ] {
+        assert_eq!(rt; end_for(&headers, epoch), want);
+    }
+}
+
+// Each is a public call: it takes nothing, and its contract is a law.
+#[test]
+fn the_laws_hold() {
+    kp_crc::remainder_is_the_rest();
+    kp_record::spellings_stand_apart();
+    kp_record::records_are_exact();
+    kp_batch::batches_stand_apart();
+    kp_batch::bytes_are_judged_once();
+    kp_batch::batches_are_framed();
+    kp_model::runs_are_safe();
+    kp_producers::tables_are_one();
+    kp_txns::tables_are_one();
+    kp_visible::aborted_records_are_hidden();
+    kp_visible::committed_records_are_visible();
+    kp_replica::bytes_are_an_offer();
+    kp_world::events_are_told();
+    kp_script::lines_say_one_call();
+}

@@ -1,0 +1,27 @@
+//! Tests of the libraries of this repository that no contract and no run of the program says already.
+//! It stands on all of them, from the refusals up to the command line, and only on what they make public.
+//! It shows that each library's calls answer what outside examples say, where memory is ample.
+#![tactic(auto)]
+
+#[cfg(test)]
+mod batch_tests;
+#[cfg(test)]
+mod cli_tests;
+#[cfg(test)]
+mod device_tests;
+#[cfg(test)]
+mod index_tests;
+#[cfg(test)]
+mod log_tests;
+#[cfg(test)]
+mod logs;
+#[cfg(test)]
+mod node_tests;
+#[cfg(test)]
+mod producer_tests;
+#[cfg(test)]
+mod record_tests;
+#[cfg(test)]
+mod script_tests;
+#[cfg(test)]
+mod shown;

@@ -1,0 +1,117 @@
+//! Logs, their segments and what is found in them.
+
+use crate::logs::{log_of, there_and_back, told_of};
+use crate::shown::is;
+use kp_log::PartitionLog;
+use kp_types::{Limits, MAX_BATCH, Refusal};
+use std::alloc::{AllocError, Global};
+
+// Segments of two batches of 512 bytes, with an entry for each batch but the first.
+const SMALL: Limits = Limits {
+    segment_bytes: 1_024,
+    index_interval: 0,
+    max_batch: MAX_BATCH,
+};
+
+// An entry where more than 100 bytes lie before.
+const SPACED: Limits = Limits {
+    index_interval: 100,
+    ..SMALL
+};
+
+// For each of these times the first record of that time or a later one.
+fn push_times(text: &mut String, log: &PartitionLog, times: [u64; 5]) -> Result<(), AllocError> {
+    for time in times {
+        match log.offset_for_time(time) {
+            Some(found) => write!(text, "{time} at {} {} ", found.offset, found.timestamp)?,
+            None => write!(text, "{time} none ")?,
+        }
+    }
+    Ok(())
+}
+
+// The base of the batch that has each of these offsets.
+fn push_places(text: &mut String, log: &PartitionLog, offsets: [u64; 4]) -> Result<(), AllocError> {
+    for offset in offsets {
+        match log.batch_at(offset) {
+            Some(batch) => write!(text, "{offset} in {} ", batch.base_offset())?,
+            None => write!(text, "{offset} nowhere ")?,
+        }
+    }
+    Ok(())
+}
+
+// The names of the segments of the log of these batches, and what is found in it.
+fn found_in(alloc: Global, words: &str) -> Result<String, Refusal> {
+    let log = log_of(alloc, &SPACED, words)?;
+    let mut text = String::new(alloc);
+    for name in log.tables().names() {
+        write!(text, "{name} ")?;
+    }
+    push_places(&mut text, &log, [0, 1, 2, 3])?;
+    push_times(&mut text, &log, [0, 10, 15, 30, 31])?;
+    Ok(text)
+}
+
+#[test]
+fn an_empty_log_has_nothing_to_find(rt: HostRuntime) {
+    is(&rt, told_of(rt.alloc(), &SMALL, "", ""), "stable 0\n");
+    let nowhere = "0 nowhere 1 nowhere 2 nowhere 3 nowhere 0 none 10 none 15 none 30 none 31 none ";
+    is(&rt, found_in(rt.alloc(), ""), nowhere);
+}
+
+// The example log of docs/FORMATS.md, whose batches have 69, 69 and 78 bytes: only in front of the third lie more than
+// 100. An entry's last number is how many batches stand before it, or how many a look-up may pass over.
+#[test]
+fn the_example_log_has_its_tables(rt: HostRuntime) {
+    let found = there_and_back(rt.alloc(), &SPACED, "t5.0.0 p30", "a5.0.7", "");
+    is(
+        &rt,
+        found,
+        "00000000000000000000.log 216 at 2 138 2 time 30 1 0\nproducer 5 0 7 0-0@0\naborted 5 0 2 3\nstable 3 1=62\n\
+         undone\n00000000000000000000.log 138\nproducer 5 0 - 0-0@0\nopen 5 0\nstable 0\n",
+    );
+}
+
+// Times 10, 30 and 20, in one segment and in three.
+#[test]
+fn look_ups_find_offsets_and_times(rt: HostRuntime) {
+    let together = found_in(rt.alloc(), "t5.0.0 p30 a5.0.7");
+    is(
+        &rt,
+        together,
+        "00000000000000000000.log \
+         0 in 0 1 in 1 2 in 2 3 nowhere 0 at 0 10 10 at 0 10 15 at 1 30 30 at 1 30 31 none ",
+    );
+    let apart = found_in(rt.alloc(), "p10.443 p30.443 p20.443");
+    is(
+        &rt,
+        apart,
+        "00000000000000000000.log 00000000000000000001.log 00000000000000000002.log \
+         0 in 0 1 in 1 2 in 2 3 nowhere 0 at 0 10 10 at 0 10 15 at 1 30 30 at 1 30 31 none ",
+    );
+}
+
+// A value of 442 bytes makes a batch of 512: a head of 61, the record's length in 2 (449 is the number 898, 8207) and 449
+// more, of which 7 are no value.
+#[test]
+fn a_batch_that_fills_the_segment_belongs_to_it(rt: HostRuntime) {
+    let found = there_and_back(rt.alloc(), &SMALL, "p10.442", "p20.442", "");
+    is(
+        &rt,
+        found,
+        "00000000000000000000.log 1024 at 1 512 1 time 20 1 0\nstable 2 0=62 1=62\n\
+         undone\n00000000000000000000.log 512\nstable 1 0=62\n",
+    );
+}
+
+#[test]
+fn one_byte_more_rolls_the_log_until_it_is_undone(rt: HostRuntime) {
+    let found = there_and_back(rt.alloc(), &SMALL, "p10.442", "p20.443", "");
+    is(
+        &rt,
+        found,
+        "00000000000000000000.log 512 time 10 0 0\n00000000000000000001.log 513\nstable 2 0=62 1=62\n\
+         undone\n00000000000000000000.log 512\nstable 1 0=62\n",
+    );
+}

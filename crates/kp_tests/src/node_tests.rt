@@ -1,0 +1,205 @@
+//! Nodes by themselves, and runs of several nodes.
+
+ghost use Rattle.std.specs.Prelude.{◌<◌, ◌≤◌};
+ghost use Rattle.std.specs.List.{AllByRecursion};
+ghost use Rattle.kp_world.specs.Events.{node_of, HasMarker};
+
+use crate::logs::{batch_of, told};
+use crate::script_tests::trace_of;
+use crate::shown::is;
+use bytes::Bytes;
+use kp_marker::{Kind, Marker};
+use kp_replica::{Receipt, Record, Replica};
+use kp_types::{Limits, MAX_BATCH, NodeId, Refusal};
+use kp_world::{Answer, Event, Stopped, Trace, run};
+use std::alloc::{AllocError, Global};
+
+// The bytes of the batch of a word.
+fn bytes_of(alloc: Global, word: &str) -> Result<Bytes, Refusal> {
+    let mut out = Vec::new(alloc);
+    batch_of(alloc, word)?.write(&mut out)?;
+    Ok(Bytes::from_vec(out)?)
+}
+
+// Of one node: no leader yet, its election, its second one, and that of another node.
+fn elections(alloc: Global) -> Result<String, Refusal> {
+    let initial = Record::initial(1);
+    let first = initial.elected(0)?;
+    let outcomes = [
+        Ok(Answer::Changed(initial)),
+        Ok(Answer::Changed(first)),
+        first.elected(0).map(Answer::Changed),
+        initial.elected(1).map(Answer::Changed),
+    ];
+    trace_of(alloc, &outcomes)
+}
+
+#[test]
+fn elects_only_a_node_in_sync(rt: HostRuntime) {
+    is(
+        &rt,
+        elections(rt.alloc()),
+        "2 record leader none epoch -1 isr 0 version 0\n3 record leader 0 epoch 0 isr 0 version 1\n\
+         4 record leader 0 epoch 1 isr 0 version 2\n5 F21 NotInSync\n",
+    );
+}
+
+// Of two nodes, led by node 0.
+fn led() -> Result<Record, Refusal> {
+    Record::initial(2).elected(0)
+}
+
+// What a leader's watermark rises to, and where its log ends then.
+fn raised(alloc: Global) -> Result<(u64, u64), Refusal> {
+    let mut leader = Replica::new(alloc, 0, &LIMITS);
+    let _ = leader.adopt(&led()?)?;
+    let _ = leader.produce(bytes_of(alloc, "p10")?)?;
+    Ok((leader.raise()?, leader.log().end_offset()))
+}
+
+#[test]
+fn a_leader_waits_for_the_others_in_sync(rt: HostRuntime) {
+    assert_eq!(rt; raised(rt.alloc()), Ok((0, 1)));
+}
+
+// Of which a segment has room for one batch of 69 bytes.
+const LIMITS: Limits = Limits {
+    segment_bytes: 137,
+    index_interval: 0,
+    max_batch: MAX_BATCH,
+};
+
+// What a leader's log tells after two batches.
+fn told_of_two(alloc: Global) -> Result<String, Refusal> {
+    let mut node = Replica::new(alloc, 0, &LIMITS);
+    let _ = node.adopt(&Record::initial(1).elected(0)?)?;
+    for _ in 0..2 {
+        let _ = node.produce(bytes_of(alloc, "p10")?)?;
+    }
+    Ok(told(alloc, node.log())?)
+}
+
+// No contract says by which limits a node's log is cut.
+#[test]
+fn a_node_cuts_its_log_by_its_limits(rt: HostRuntime) {
+    is(
+        &rt,
+        told_of_two(rt.alloc()),
+        "00000000000000000000.log 69 time 10 0 0\n00000000000000000001.log 69\nstable 2 0=62 1=62\n",
+    );
+}
+
+// The answers of a run, also of one that stopped, as the trace of events that name node 5; and the whole of each receipt.
+fn played(alloc: Global, count: NodeId, events: &[Event]) -> Result<String, Refusal>
+    requires some { 0 < count }
+    requires most { count ≤ 7 }
+    requires nodes { AllByRecursion (λ event. node_of event < count) events.now }
+    requires markers { AllByRecursion HasMarker events.now }
+{
+    match run(alloc, count, &LIMITS, events) {
+        Ok(trace) => told_run(alloc, &trace),
+        Err(Stopped { trace }) => told_run(alloc, &trace),
+    }
+}
+
+fn told_run(alloc: Global, trace: &Trace) -> Result<String, Refusal> {
+    let mut text = trace_of(alloc, &trace.outcomes)?;
+    for outcome in trace.outcomes.iter() {
+        if let Ok(Answer::Appended(receipt)) = outcome {
+            push_receipt(&mut text, receipt)?;
+        }
+    }
+    Ok(text)
+}
+
+fn push_receipt(text: &mut String, receipt: &Receipt) -> Result<(), AllocError> {
+    let (base, last) = (receipt.base, receipt.last);
+    write!(
+        text,
+        "{base} to {last} epoch {} {}, ",
+        receipt.epoch, receipt.duplicate
+    )
+}
+
+// Node 6 leads, then node 0.
+fn seven(alloc: Global) -> Result<String, Refusal> {
+    let bytes = bytes_of(alloc, "p10")?;
+    let again = bytes.clone()?;
+    let events = [
+        Event::Show { node: 6 },
+        Event::Elect { node: 6 },
+        Event::Adopt { node: 6 },
+        Event::Adopt { node: 0 },
+        Event::Produce {
+            node: 0,
+            bytes: again,
+        },
+        Event::Produce { node: 6, bytes },
+        Event::Raise { node: 6 },
+        Event::Raise { node: 0 },
+        Event::Show { node: 6 },
+        Event::Elect { node: 0 },
+        Event::Adopt { node: 0 },
+        Event::Adopt { node: 6 },
+    ];
+    played(alloc, 7, &events)
+}
+
+#[test]
+fn seven_nodes_run(rt: HostRuntime) {
+    is(
+        &rt,
+        seven(rt.alloc()),
+        "2 node 5 life 0 end 0 mark 0 stable 0\n\
+         3 record leader 6 epoch 0 isr 0,1,2,3,4,5,6 version 1\n\
+         4 leads epoch 0 from 0\n5 follows 6 epoch 0 fetching\n6 F15 NotLeader\n7 at 0\n8 mark 0\n\
+         9 F15 NotLeader\n10 node 5 life 0 end 1 mark 0 stable 0\n\
+         11 record leader 0 epoch 1 isr 0,1,2,3,4,5,6 version 2\n\
+         12 leads epoch 1 from 0\n13 follows 0 epoch 1 reconciling\n0 to 0 epoch 0 false, ",
+    );
+}
+
+const MARKER: Marker = Marker {
+    producer_id: 5,
+    producer_epoch: 0,
+    coordinator_epoch: 7,
+    kind: Kind::Abort,
+    timestamp: 20,
+};
+
+// Three records come twice, the second time in the leader's next epoch.
+fn three_twice(alloc: Global) -> Result<String, Refusal> {
+    let bytes = bytes_of(alloc, "d9.0.0.3")?;
+    let again = bytes.clone()?;
+    let marker = MARKER;
+    let events = [
+        Event::Elect { node: 0 },
+        Event::Adopt { node: 0 },
+        Event::Mark { node: 0, marker },
+        Event::Produce { node: 0, bytes },
+        Event::Elect { node: 0 },
+        Event::Adopt { node: 0 },
+        Event::Produce {
+            node: 0,
+            bytes: again,
+        },
+        Event::Mark { node: 0, marker },
+        Event::Raise { node: 0 },
+        Event::Committed { node: 0, from: 2 },
+        Event::Read { node: 0, from: 3 },
+    ];
+    played(alloc, 1, &events)
+}
+
+// No contract says the last offset and the epoch of a run's receipts. The duplicate has those of the batch that stands.
+#[test]
+fn receipts_name_what_stands(rt: HostRuntime) {
+    is(
+        &rt,
+        three_twice(rt.alloc()),
+        "2 record leader 0 epoch 0 isr 0 version 1\n3 leads epoch 0 from 0\n4 at 0\n5 at 1\n\
+         6 record leader 0 epoch 1 isr 0 version 2\n7 leads epoch 1 from 4\n8 duplicate 1\n9 at 4\n10 mark 5\n\
+         11 read 2 2=61 3=61\n12 read 1 3=61\n\
+         0 to 0 epoch 0 false, 1 to 3 epoch 0 false, 1 to 3 epoch 0 true, 4 to 4 epoch 1 false, ",
+    );
+}

@@ -1,0 +1,159 @@
+//! Records as bytes. The bytes are spelled out by hand from the Kafka protocol guide's 'Record': the length, then
+//! attributes, timestamp delta, offset delta, key, value, number of headers, headers.
+
+use crate::shown::{hex, is, push_bytes, push_record, unhex};
+use kp_record::{HeaderParts, Parts, Place, is_text, read_record, record_size, write_record};
+use kp_types::Refusal;
+use std::alloc::Global;
+
+// The first record of a batch of base time 1000.
+const FIRST: Place = Place {
+    base_timestamp: 1000,
+    offset_delta: 0,
+    byte: 61,
+};
+
+const SIXTH: Place = Place {
+    offset_delta: 5,
+    ..FIRST
+};
+
+// Null key, value `a`, no headers, at time 1000.
+fn plain() -> Parts<'static> {
+    Parts {
+        timestamp: 1000,
+        key: None,
+        value: Some(b"a"),
+        headers: &[],
+    }
+}
+
+static HEADERS: [HeaderParts<'static>; 2] = [
+    HeaderParts {
+        key: b"h1",
+        value: None,
+    },
+    HeaderParts {
+        key: &[0xc3, 0xa9],
+        value: Some(b"xyz"),
+    },
+];
+
+// Key `k`, null value, two headers, at time 700.
+fn full() -> Parts<'static> {
+    Parts {
+        timestamp: 700,
+        key: Some(b"k"),
+        value: None,
+        headers: &HEADERS,
+    }
+}
+
+fn nulls(timestamp: u64) -> Parts<'static> {
+    Parts {
+        timestamp,
+        key: None,
+        value: None,
+        headers: &[],
+    }
+}
+
+// Null key, a value of no bytes.
+fn empty() -> Parts<'static> {
+    Parts {
+        value: Some(b""),
+        ..plain()
+    }
+}
+
+// The record's bytes as digits, and its size.
+fn spelled(alloc: Global, place: &Place, parts: &Parts<'_>) -> Result<String, Refusal> {
+    if place.base_timestamp >> 62 != 0
+        || parts.timestamp >> 62 != 0
+        || place.offset_delta >> 31 != 0
+    {
+        return Err(Refusal::BadCount);
+    }
+    let mut out = Vec::new(alloc);
+    write_record(&mut out, place, parts)?;
+    let mut text = hex(alloc, &out)?;
+    write!(text, " {}", record_size(place, parts))?;
+    Ok(text)
+}
+
+fn place_of(base_timestamp: u64, offset_delta: u32) -> Place {
+    Place {
+        base_timestamp,
+        offset_delta,
+        byte: 61,
+    }
+}
+
+// A difference of times is zigzag, so 300 later is the number 600, d804 in groups of 7 bits; so is the place 300.
+#[test]
+fn records_have_the_known_bytes(rt: HostRuntime) {
+    let most = 0x3fff_ffff_ffff_ffff;
+    for (place, parts, known) in [
+        (FIRST, plain(), "0e00000001026100 8"),
+        (SIXTH, full(), "2600d7040a026b01040468310104c3a90678797a 20"),
+        (FIRST, empty(), "0c000000010000 7"),
+        (FIRST, nulls(1001), "0c000200010100 7"),
+        (place_of(1000, 1), nulls(999), "0c000102010100 7"),
+        (place_of(1000, 300), nulls(1300), "1000d804d804010100 9"),
+        (
+            place_of(0, 0),
+            nulls(most),
+            "1c00feffffffffffffff7f00010100 15",
+        ),
+        (
+            place_of(most, 0),
+            nulls(0),
+            "1c00fdffffffffffffff7f00010100 15",
+        ),
+    ] {
+        is(&rt, spelled(rt.alloc(), &place, &parts), known);
+    }
+}
+
+// The record in front of the bytes that these digits spell, and what follows it; or why there is none.
+fn found(alloc: Global, digits: &str, place: &Place) -> Result<String, Refusal> {
+    if place.base_timestamp >> 62 != 0 || place.offset_delta >> 31 != 0 {
+        return Err(Refusal::BadCount);
+    }
+    let bytes = unhex(alloc, digits)?;
+    let (record, rest) = read_record(&bytes, place)?;
+    let mut text = String::new(alloc);
+    push_record(&mut text, record)?;
+    push_bytes(&mut text, Some(rest))?;
+    Ok(text)
+}
+
+#[test]
+fn records_are_read_back(rt: HostRuntime) {
+    for (digits, place, known) in [
+        ("0e000000010261000e00", FIRST, "time 1000 - 61\n0e00"),
+        (
+            "2600d7040a026b01040468310104c3a90678797a08",
+            SIXTH,
+            "time 700 6b - 6831=- c3a9=78797a\n08",
+        ),
+        ("0c000000010000", FIRST, "time 1000 - \n"),
+    ] {
+        is(&rt, found(rt.alloc(), digits, &place), known);
+    }
+}
+
+// A length in more bytes than it needs, another place, cut off, a header's key that is no text.
+#[test]
+fn other_spellings_are_refused(rt: HostRuntime) {
+    for (digits, place) in [
+        ("8e0000000001026100", FIRST),
+        ("0e00000001026100", place_of(1000, 1)),
+        ("0e000000010261", FIRST),
+        ("1200000001010202ff01", FIRST),
+    ] {
+        let refusal = found(rt.alloc(), digits, &place).err();
+        assert_eq!(rt; refusal, Some(Refusal::BadRecord(61)), "{digits}");
+    }
+    assert!(rt; is_text("é".as_bytes()) && !is_text(&[0xff]));
+}
