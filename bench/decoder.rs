@@ -279,6 +279,16 @@ impl Batch {
         Ok(Batch { base, epoch, bytes })
     }
 
+    /// A batch that was just spelled, and isn't read again.
+    #[allow(dead_code)]
+    pub fn of(bytes: &[u8]) -> Batch {
+        Batch {
+            base: 0,
+            epoch: None,
+            bytes: bytes.into(),
+        }
+    }
+
     pub fn records(&self) -> Records<'_> {
         Records {
             base: long_at(&self.bytes, 27),

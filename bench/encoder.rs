@@ -5,7 +5,8 @@ use crate::decoder::crc32c;
 /// A time for first records.
 pub const FIRST: i64 = 1_700_000_000_000;
 
-fn varint(out: &mut Vec<u8>, number: i64) {
+/// Appends the shortest spelling of a number.
+pub fn varint(out: &mut Vec<u8>, number: i64) {
     let mut rest = (number << 1 ^ number >> 63) as u64;
     while rest > 0x7f {
         out.push(rest as u8 | 0x80);

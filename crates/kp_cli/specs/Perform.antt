@@ -4,10 +4,9 @@ use Rattle.std.specs.Io.KnownBytes.{Appends, Keeps}
 use Rattle.kp_types.specs.declared.refusal.Refusal.{Refusal}
 use Rattle.kp_types.specs.declared.refusal.Refusal.TheVariants as refusals
 use Rattle.kp_types.specs.declared.limits.Limits.{Limits}
-use Rattle.kp_types.specs.declared.limits.TheConstants.{MAX_BATCH}
 use Rattle.kp_types.specs.Texts.{refusal_text}
 use Rattle.kp_script.specs.Script.{IsFaultAt}
-use Rattle.kp_script.specs.Transcript.{Writes, WritesFront}
+use Rattle.kp_script.specs.Transcript.{largest_batch, Writes, WritesFront}
 use Rattle.kp_inspect.specs.Inspected.{Writes as WritesDump, WritesFront as WritesDumpFront}
 use Rattle.kp_cli.specs.declared.call.Call.{Call}
 use Rattle.kp_cli.specs.declared.call.Call.TheVariants.{Run, Inspect}
@@ -38,7 +37,7 @@ Inspects limits input old new (Err _) = ⊥
 abbrev pub Performs : Call → Option (List ℕ) → Option (List ℕ) → Option (List ℕ) → Result ℕ Refusal → Type 0
 Performs (Run file) input old new outcome = RunsScript input old new outcome
 Performs (Inspect file segment_bytes index_interval) input old new outcome =
-    Inspects (record { segment_bytes = segment_bytes; index_interval = index_interval; max_batch = MAX_BATCH }) input old new outcome
+    Inspects (record { segment_bytes = segment_bytes; index_interval = index_interval; max_batch = largest_batch }) input old new outcome
 
 -- what stands on standard error for a refusal
 abbrev pub complaint : Refusal → List ℕ

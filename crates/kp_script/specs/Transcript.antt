@@ -4,13 +4,16 @@ use Rattle.std.specs.Io.KnownBytes.{Appends, Keeps}
 use Rattle.kp_types.specs.declared.refusal.Refusal.{Refusal}
 use Rattle.kp_types.specs.declared.refusal.Refusal.TheVariants as refusals
 use Rattle.kp_types.specs.Devices.{AppendsFront}
-use Rattle.kp_types.specs.declared.limits.TheConstants.{MAX_BATCH}
 use Rattle.kp_model.specs.Event.{Event, Reply, Refused, Outcome}
 use Rattle.kp_world.specs.Plays.{IsPlayed}
 use Rattle.kp_script.specs.Call.{node_of}
 use Rattle.kp_script.specs.Script.{Script, IsScript}
 use Rattle.kp_script.specs.Told.{AreTold}
 use Rattle.kp_script.specs.Trace.{trace_text}
+
+-- the most bytes of a batch that the program takes (own rule; Kafka's `max.message.bytes` is about as much)
+abbrev pub largest_batch : ℕ
+largest_batch = 1048576
 
 abbrev pub is_refusal : Reply → Bool
 is_refusal (Refused refusal) = true
@@ -26,7 +29,7 @@ pub record IsTranscript (input text : List ℕ) (refused : ℕ) : Type 0 where
   pub script : Script
   pub spelled : IsScript input script
   pub events : List Event
-  pub told : AreTold MAX_BATCH (map (λ call. call.1) script.calls) events
+  pub told : AreTold largest_batch (map (λ call. call.1) script.calls) events
   pub outcomes : List Outcome
   pub played : IsPlayed script.header.count events outcomes
   pub text_is : text ≡ trace_text (map (λ call. (call.0, node_of call.1)) script.calls) outcomes
