@@ -130,6 +130,9 @@ NO_CALL = {f"kpart{' ' if words else ''}{words}": kind for words, kind in (
     ("run a b", UNKNOWN),
     ("--loud", UNKNOWN),
     ("--help", "DisplayHelp"),
+    ("--version", "DisplayVersion"),
+    ("-V", "DisplayVersion"),
+    ("run --version", UNKNOWN),
     ("run --help", "DisplayHelp"),
     ("help run", "DisplayHelp"),
     ("inspect --help", "DisplayHelp"),
@@ -155,4 +158,11 @@ NO_CALL = {f"kpart{' ' if words else ''}{words}": kind for words, kind in (
     ("inspect --segment 1024", MISSING),
     ("run x --segment 1024", UNKNOWN),
     ("--segment 1024 inspect x", UNKNOWN),
+)}
+
+# Calls whose file isn't there, and its path.
+NO_FILE = {f"kpart {words}": path for words, path in (
+    ("run no.script", "no.script"),
+    ("run no/such.script", "no/such.script"),
+    ("inspect no.log --segment 1024", "no.log"),
 )}

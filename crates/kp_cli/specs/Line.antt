@@ -35,14 +35,16 @@ interval_rule = number_rule (codes "interval") 0 1048576 (codes "4096")
 abbrev pub inspect_app : App
 inspect_app = with_rule (with_rule (with_rule (new_app (codes "inspect")) file_rule) segment_rule) interval_rule
 
--- a subcommand has to be used
-abbrev pub requiring_subcommand : App → App
-requiring_subcommand a = record a { top = record a.top { subcommand_required = true } }
+-- `kpart`, of which a subcommand has to be used; it can be asked for its version
+abbrev pub kpart_app : App
+kpart_app =
+    let app = new_app (codes "kpart") in
+    record app { top = record app.top { subcommand_required = true; has_version = true } }
 
 -- the whole command line
 abbrev pub kpart : App
 kpart = with_subcommand
-    (with_subcommand (requiring_subcommand (new_app (codes "kpart"))) run_app.top)
+    (with_subcommand kpart_app run_app.top)
     inspect_app.top
 
 -- the text of this name is a decimal numeral from `least` to `greatest`
@@ -75,3 +77,8 @@ NamesCall (Some entered) = ((entered.0 ≡ codes "run") × HasFile entered.1)
     ⊎ ((entered.0 ≡ codes "inspect") × HasFile entered.1
     × HasNumber (codes "segment") 1024 1073741824 entered.1
     × HasNumber (codes "interval") 0 1048576 entered.1)
+
+-- the path of the file that a call reads
+abbrev pub path_of : Call → List ℕ
+path_of (Run file) = string_bytes file
+path_of (Inspect file segment_bytes index_interval) = string_bytes file

@@ -1,10 +1,12 @@
 -- What the program does once its command line is read.
 use Rattle.std.specs.Prelude.{◌++◌, ℕ, zero, suc, List, Option, Some, None, Result, Ok, Err, IfSome, ◌≡◌, codes}
-use Rattle.std.specs.Io.KnownBytes.{Appends, Keeps}
+use Rattle.std.specs.Io.KnownBytes.{Keeps}
 use Rattle.kp_types.specs.declared.refusal.Refusal.{Refusal}
 use Rattle.kp_types.specs.declared.refusal.Refusal.TheVariants as refusals
 use Rattle.kp_types.specs.declared.limits.Limits.{Limits}
 use Rattle.kp_types.specs.Texts.{refusal_text}
+use Rattle.kp_types.specs.Devices.{Tells}
+use Rattle.kp_types.specs.declared.counted.Counted.{Counted}
 use Rattle.kp_script.specs.Script.{IsFaultAt}
 use Rattle.kp_script.specs.Transcript.{largest_batch, Writes, WritesFront}
 use Rattle.kp_inspect.specs.Inspected.{Writes as WritesDump, WritesFront as WritesDumpFront}
@@ -43,10 +45,11 @@ Performs (Inspect file segment_bytes index_interval) input old new outcome =
 abbrev pub complaint : Refusal → List ℕ
 complaint refusal = codes "kpart: " ++ (refusal_text refusal ++ codes "\n")
 
--- only a refusal puts something on standard error
-abbrev pub Complains : Option (List ℕ) → Option (List ℕ) → Result ℕ Refusal → Type 0
-Complains old new (Ok refused) = Keeps old new
-Complains old new (Err refusal) = Appends old new (complaint refusal)
+-- Nothing has happened to standard error without a refusal. With one its complaint is out, or a call of standard error
+-- failed, and a beginning of it is.
+abbrev pub Complains : {E : Type 0} → (E → Option (List ℕ)) → (old new : Counted E) → Result ℕ Refusal → Type 0
+Complains contents old new (Ok refused) = new ≡ old
+Complains contents old new (Err refusal) = Tells contents old new (complaint refusal)
 
 -- 2 for a fault of the script, and 1 else
 abbrev pub status_of_refusal : Refusal → ℕ

@@ -1,5 +1,8 @@
 //! What the program can be asked to do.
 
+ghost use Rattle.std.specs.Prelude.{◌≡◌};
+ghost use Rattle.kp_cli.specs.Line.{path_of};
+
 /// What the command line asks for.
 #[derive(Debug, Drop)]
 pub enum Call {
@@ -17,4 +20,15 @@ pub enum Call {
         /// How many bytes lie between two entries of an index, up to 1,048,576.
         index_interval: u32,
     },
+}
+
+impl Call {
+    /// The path of the file that it reads, as it was written. O(1).
+    pub fn file(&self) -> &str
+        ensures { result.now ≡ path_of self.now }
+    {
+        match self {
+            Call::Run { file } | Call::Inspect { file, .. } => file.as_str(),
+        }
+    }
 }

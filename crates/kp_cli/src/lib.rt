@@ -5,8 +5,12 @@
 
 mod call;
 mod line;
+mod opening;
+mod program;
 mod running;
 
 pub use call::Call;
-pub use line::call_of;
+pub use line::{VERSION, call_of};
+pub use opening::{Files, Unopened, refusal_of};
+pub use program::main_with;
 pub use running::{perform, refuse};

@@ -16,6 +16,9 @@ use kp_types::{GREATEST_SEGMENT_BYTES, LEAST_SEGMENT_BYTES, MAX_INDEX_INTERVAL};
 use std::alloc::{AllocError, Global};
 use std::convert::AsStr;
 
+/// The version of the program, which `kpart --version` prints.
+pub const VERSION: &str = "0.1.0";
+
 fn file_argument<'a>(alloc: Global, help: &'a str) -> Arg<'a>
     ensures rule { rule_of result ≡ file_rule }
     ensures local { result.global ≡ false }
@@ -78,6 +81,7 @@ fn whole_command<'a>(alloc: Global) -> Result<Command<'a>, AllocError>
     let inspect = inspect_command(alloc)?;
     let command = Command::new(alloc, "kpart")
         .about("A replicated partition log with Kafka's replication rules")
+        .version(VERSION)
         .subcommand_required(true)
         .subcommand(run)?
         .subcommand(inspect)?;

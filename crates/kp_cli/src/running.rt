@@ -1,29 +1,65 @@
 //! What the command line asks for, done.
 
-ghost use Rattle.std.specs.Prelude.{◌≡◌, ◌+◌, ◌<◌, ◌^◌, ℕ, Result};
-ghost use Rattle.std.specs.Io.KnownBytes.{Appends};
-ghost use Rattle.kp_types.specs.Devices.{CountsFaults};
+ghost use Rattle.std.specs.Prelude.{◌≡◌, ◌+◌, ◌++◌, ◌<◌, ◌^◌, ℕ, Result, OnOk, OnErr};
+ghost use Rattle.kp_types.specs.Devices.{CountsOne, IsBegun, IsOut, Tells, device_of, faults_of};
 ghost use Rattle.kp_types.specs.declared.refusal.Refusal.{Refusal as SomeRefusal};
 ghost use Rattle.kp_cli.specs.Perform.{RunsScript, Inspects, Performs, Complains, complaint, status_of, status_of_refusal};
 
 use crate::Call;
+use itoa::Buffer;
 use kp_inspect::inspect;
 use kp_script::run_script;
 use kp_types::{Counted, Limits, MAX_BATCH, Refusal};
 use std::alloc::Global;
 use std::io::{Read, Write};
 
+/// Writes five texts, one after another.
+pub(crate) fn write_line<'a, E: Write>(
+    err: &mut Counted<E>,
+    first: &'a str,
+    second: &'a str,
+    third: &'a str,
+    fourth: &'a str,
+    last: &'a str,
+) -> Result<(), Refusal>
+    requires { faults_of err.old + 1 < 2 ^ 64 }
+    ensures ok { OnOk result (IsOut E.contents err.old err.new
+        (first.now ++ (second.now ++ (third.now ++ (fourth.now ++ last.now))))) }
+    ensures err { OnErr result (IsBegun E.contents err.old err.new
+        (first.now ++ (second.now ++ (third.now ++ (fourth.now ++ last.now))))) }
+{
+    err.write_each(&[
+        first.as_bytes(),
+        second.as_bytes(),
+        third.as_bytes(),
+        fourth.as_bytes(),
+        last.as_bytes(),
+    ])
+}
+
+/// Writes what was refused, as `kpart: F32 Device`.
+pub(crate) fn complain<E: Write>(err: &mut Counted<E>, refusal: Refusal) -> Result<(), Refusal>
+    requires { faults_of err.old + 1 < 2 ^ 64 }
+    ensures ok { OnOk result (IsOut E.contents err.old err.new (complaint refusal)) }
+    ensures err { OnErr result (IsBegun E.contents err.old err.new (complaint refusal)) }
+{
+    let mut buffer = Buffer::new();
+    let (gap, place) = match refusal.place() {
+        Some(place) => (" ", buffer.format(place)),
+        None => ("", ""),
+    };
+    write_line(err, "kpart: ", refusal.name(), gap, place, "\n")
+}
+
 /// Says on standard error what was refused, as `kpart: F32 Device`, and answers the exit status: 2 for a fault
-/// of the script, else 1. Where standard error failed, its count rises by one.
+/// of the script, else 1. Where standard error fails, its count rises by one, and a beginning is out. It takes no
+/// memory.
 pub fn refuse<E: Write>(err: &mut Counted<E>, refusal: Refusal) -> u8
-    requires { err.old.failed + 1 < 2 ^ 64 }
-    ensures told { err.new.failed ≡ err.old.failed
-        → Appends (E.contents err.old.inner) (E.contents err.new.inner) (complaint refusal) }
+    requires { faults_of err.old + 1 < 2 ^ 64 }
+    ensures told { Tells E.contents err.old err.new (complaint refusal) }
     ensures status { result ≡ status_of_refusal refusal }
 {
-    if writeln!(err.inner, "kpart: {refusal}").is_err() {
-        err.failed += 1;
-    }
+    let _ = complain(err, refusal);
     match refusal {
         Refusal::BadScript(_) => 2,
         _ => 1,
@@ -37,14 +73,15 @@ fn run_file<R: Read, W: Write, E: Write>(
     out: &mut Counted<W>,
     err: &mut Counted<E>,
 ) -> u8
-    requires reads { reader.old.failed + 1 < 2 ^ 64 }
-    requires writes { out.old.failed + 1 < 2 ^ 64 }
-    requires complaints { err.old.failed + 1 < 2 ^ 64 }
+    requires reads { faults_of reader.old + 1 < 2 ^ 64 }
+    requires writes { faults_of out.old + 1 < 2 ^ 64 }
+    requires complaints { faults_of err.old + 1 < 2 ^ 64 }
     ensures { (outcome : Result ℕ SomeRefusal)
-        × RunsScript (R.remaining reader.old.inner) (W.contents out.old.inner) (W.contents out.new.inner) outcome
-        × CountsFaults outcome (reader.old.failed + out.old.failed) (reader.new.failed + out.new.failed)
-        × (err.new.failed ≡ err.old.failed
-        → Complains (E.contents err.old.inner) (E.contents err.new.inner) outcome)
+        × RunsScript (R.remaining (device_of reader.old))
+        (W.contents (device_of out.old)) (W.contents (device_of out.new)) outcome
+        × CountsOne outcome (faults_of reader.old) (faults_of reader.new)
+        (faults_of out.old) (faults_of out.new)
+        × Complains E.contents err.old err.new outcome
         × result ≡ status_of outcome }
 {
     match run_script(alloc, reader, out) {
@@ -62,14 +99,15 @@ fn inspect_file<R: Read, W: Write, E: Write>(
     out: &mut Counted<W>,
     err: &mut Counted<E>,
 ) -> u8
-    requires reads { reader.old.failed + 1 < 2 ^ 64 }
-    requires writes { out.old.failed + 1 < 2 ^ 64 }
-    requires complaints { err.old.failed + 1 < 2 ^ 64 }
+    requires reads { faults_of reader.old + 1 < 2 ^ 64 }
+    requires writes { faults_of out.old + 1 < 2 ^ 64 }
+    requires complaints { faults_of err.old + 1 < 2 ^ 64 }
     ensures { (outcome : Result ℕ SomeRefusal)
-        × Inspects limits.now (R.remaining reader.old.inner) (W.contents out.old.inner) (W.contents out.new.inner) outcome
-        × CountsFaults outcome (reader.old.failed + out.old.failed) (reader.new.failed + out.new.failed)
-        × (err.new.failed ≡ err.old.failed
-        → Complains (E.contents err.old.inner) (E.contents err.new.inner) outcome)
+        × Inspects limits.now (R.remaining (device_of reader.old))
+        (W.contents (device_of out.old)) (W.contents (device_of out.new)) outcome
+        × CountsOne outcome (faults_of reader.old) (faults_of reader.new)
+        (faults_of out.old) (faults_of out.new)
+        × Complains E.contents err.old err.new outcome
         × result ≡ status_of outcome }
 {
     match inspect(alloc, reader, out, limits) {
@@ -90,14 +128,15 @@ pub fn perform<R: Read, W: Write, E: Write>(
     out: &mut Counted<W>,
     err: &mut Counted<E>,
 ) -> u8
-    requires reads { reader.old.failed + 1 < 2 ^ 64 }
-    requires writes { out.old.failed + 1 < 2 ^ 64 }
-    requires complaints { err.old.failed + 1 < 2 ^ 64 }
+    requires reads { faults_of reader.old + 1 < 2 ^ 64 }
+    requires writes { faults_of out.old + 1 < 2 ^ 64 }
+    requires complaints { faults_of err.old + 1 < 2 ^ 64 }
     ensures { (outcome : Result ℕ SomeRefusal)
-        × Performs call.now (R.remaining reader.old.inner) (W.contents out.old.inner) (W.contents out.new.inner) outcome
-        × CountsFaults outcome (reader.old.failed + out.old.failed) (reader.new.failed + out.new.failed)
-        × (err.new.failed ≡ err.old.failed
-        → Complains (E.contents err.old.inner) (E.contents err.new.inner) outcome)
+        × Performs call.now (R.remaining (device_of reader.old))
+        (W.contents (device_of out.old)) (W.contents (device_of out.new)) outcome
+        × CountsOne outcome (faults_of reader.old) (faults_of reader.new)
+        (faults_of out.old) (faults_of out.new)
+        × Complains E.contents err.old err.new outcome
         × result ≡ status_of outcome }
 {
     match call {

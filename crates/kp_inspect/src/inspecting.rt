@@ -2,7 +2,7 @@
 
 ghost use Rattle.std.specs.Prelude.{◌≡◌, ◌+◌, ◌<◌, ◌^◌, IfOk, IfErr, OnErr, string_bytes};
 ghost use Rattle.kp_types.specs.declared.refusal.Refusal.TheVariants.{Memory};
-ghost use Rattle.kp_types.specs.Devices.{CountsFaults, IsDeviceFault};
+ghost use Rattle.kp_types.specs.Devices.{CountsOne, device_of, faults_of, IsDeviceFault};
 ghost use Rattle.kp_inspect.specs.Inspected.{IsDump, Writes, WritesFront};
 
 use crate::scan::scan_bytes;
@@ -51,14 +51,15 @@ pub fn inspect<R: Read, W: Write>(
     writer: &mut Counted<W>,
     limits: &Limits,
 ) -> Result<Option<Refusal>, Refusal>
-    requires reads { reader.old.failed + 1 < 2 ^ 64 }
-    requires writes { writer.old.failed + 1 < 2 ^ 64 }
-    ensures written { IfOk result (λ fault. Writes limits.now (R.remaining reader.old.inner)
-        (W.contents writer.old.inner) (W.contents writer.new.inner) fault) }
-    ensures front { OnErr result (WritesFront limits.now (R.remaining reader.old.inner)
-        (W.contents writer.old.inner) (W.contents writer.new.inner)) }
+    requires reads { faults_of reader.old + 1 < 2 ^ 64 }
+    requires writes { faults_of writer.old + 1 < 2 ^ 64 }
+    ensures written { IfOk result (λ fault. Writes limits.now (R.remaining (device_of reader.old))
+        (W.contents (device_of writer.old)) (W.contents (device_of writer.new)) fault) }
+    ensures front { OnErr result (WritesFront limits.now (R.remaining (device_of reader.old))
+        (W.contents (device_of writer.old)) (W.contents (device_of writer.new))) }
     ensures only { IfErr result IsDeviceFault }
-    ensures counted { CountsFaults result (reader.old.failed + writer.old.failed) (reader.new.failed + writer.new.failed) }
+    ensures counted { CountsOne result (faults_of reader.old) (faults_of reader.new)
+        (faults_of writer.old) (faults_of writer.new) }
 {
     let input = reader.read_all(alloc)?;
     let dump = dump_of(alloc, input, limits)?;

@@ -3,7 +3,7 @@
 //! Its rows, files and wanted text are made by `tools/rows`; no contract speaks of it, and `docs/TESTS.md` says how to add a row.
 #![tactic(auto)]
 
-use kp_cli::{Call, call_of, perform};
+use kp_cli::{Call, Files, Unopened, call_of, main_with, perform};
 use kp_types::{Counted, Faulty};
 use std::fs;
 use std::io::{self, Write};
@@ -20,31 +20,55 @@ const NEVER: Failing = Failing {
     write: u64::MAX,
 };
 
-/// Prints what the call leaves over these bytes: its output, its complaint behind `! `, and its exit status.
-fn show(rt: &HostRuntime, call: &Call, bytes: Vec<u8>, failing: Failing) -> io::Result<()> {
-    let mut reader = Counted::new(Faulty::new(bytes, failing.read));
-    let mut out = Counted::new(Faulty::new(Vec::new(rt.alloc()), failing.write));
-    let mut err = Counted::new(Vec::new(rt.alloc()));
-    let status = perform(rt.alloc(), call, &mut reader, &mut out, &mut err);
-    rt.stdout().write_all(out.inner.bytes.as_slice())?;
-    if !err.inner.is_empty() {
+/// Prints what was left: the output, the complaint behind `! `, and the exit status.
+fn show(rt: &HostRuntime, out: &[u8], err: &[u8], status: u8) -> io::Result<()> {
+    rt.stdout().write_all(out)?;
+    if !err.is_empty() {
         rt.stdout().write_all(b"! ")?;
-        rt.stdout().write_all(err.inner.as_slice())?;
+        rt.stdout().write_all(err)?;
     }
     println!(rt; "status {status}")
 }
 
-/// Does one command line. Of words that are no call it prints the kind of clap's refusal.
-fn perform_words(rt: &HostRuntime, words: &[&str], failing: Failing) -> io::Result<()> {
-    match call_of(rt.alloc(), words) {
-        Ok(call) => {
-            let (Call::Run { file } | Call::Inspect { file, .. }) = &call;
-            let bytes = fs::read(rt, file.as_str())?;
-            show(rt, &call, bytes, failing)
+/// The files of the folder, of which each read of this number fails.
+#[derive(Clone, Copy)]
+struct Folder<'a> {
+    rt: &'a HostRuntime,
+    read: u64,
+}
+
+impl<'a> Files for Folder<'a> {
+    type File = Faulty;
+
+    fn open(&self, path: &str) -> Result<Faulty, Unopened> {
+        match fs::read(self.rt, path) {
+            Ok(bytes) => Ok(Faulty::new(bytes, self.read)),
+            Err(error) => Err(Unopened::of(&error)),
         }
+    }
+}
+
+/// Does one command line, as the whole program does it. Of words that are no call it prints the kind of clap's refusal,
+/// where the text went, and the status.
+fn perform_words(rt: &HostRuntime, words: &[&str], failing: Failing) -> io::Result<()> {
+    let mut out = Counted::new(Faulty::new(Vec::new(rt.alloc()), failing.write));
+    let mut err = Counted::new(Vec::new(rt.alloc()));
+    let folder = Folder {
+        rt,
+        read: failing.read,
+    };
+    let mut handed = Vec::new(rt.alloc());
+    for word in words {
+        handed.push(word.to_string(rt.alloc())?)?;
+    }
+    let status = main_with(rt.alloc(), Ok(handed), &folder, &mut out, &mut err);
+    let told = out.device().bytes.as_slice();
+    match call_of(rt.alloc(), words) {
+        Ok(_) => show(rt, told, err.device().as_slice(), status),
         Err(error) => {
             let kind = error.kind();
-            println!(rt; "no call: {kind:?}, status {}", error.exit_code())
+            let place = if told.is_empty() { "error" } else { "output" };
+            println!(rt; "no call: {kind:?} on standard {place}, status {status}")
         }
     }
 }
@@ -56,6 +80,15 @@ fn run_call(rt: &HostRuntime) -> io::Result<Call> {
     })
 }
 
+/// Does the call over these bytes.
+fn run_bytes(rt: &HostRuntime, call: &Call, bytes: Vec<u8>) -> io::Result<()> {
+    let mut reader = Counted::new(Faulty::new(bytes, NEVER.read));
+    let mut out = Counted::new(Vec::new(rt.alloc()));
+    let mut err = Counted::new(Vec::new(rt.alloc()));
+    let status = perform(rt.alloc(), call, &mut reader, &mut out, &mut err);
+    show(rt, out.device().as_slice(), err.device().as_slice(), status)
+}
+
 /// Runs a script for each line of the file `lines`, between what two other files hold.
 fn perform_each(rt: &HostRuntime, front: &str, lines: &str, back: &str) -> io::Result<()> {
     let front = fs::read_to_string(rt, front)?;
@@ -65,7 +98,7 @@ fn perform_each(rt: &HostRuntime, front: &str, lines: &str, back: &str) -> io::R
     for line in lines.as_str().split_terminator('\n') {
         println!(rt; "| {line}")?;
         let script = format!(in rt.alloc(); "{front}{line}\n{back}")?;
-        show(rt, &call, script.into_bytes(), NEVER)?;
+        run_bytes(rt, &call, script.into_bytes())?;
     }
     Ok(())
 }
@@ -78,7 +111,7 @@ fn perform_repeated(rt: &HostRuntime, front: &str, piece: &str, count: &str) -> 
         script.extend_from_slice(piece.as_slice())?;
     }
     let call = run_call(rt)?;
-    show(rt, &call, script, NEVER)
+    run_bytes(rt, &call, script)
 }
 
 /// The number of a device's call that fails.

@@ -3,7 +3,7 @@
 ghost use Rattle.std.specs.Prelude.{◌≡◌, ◌+◌, ◌<◌, ◌^◌, ℕ, IfOk, IfErr, IfSome, OnErr, Err, map, string_bytes};
 ghost use Rattle.std.specs.Io.KnownBytes.{Keeps};
 ghost use Rattle.kp_types.specs.declared.refusal.Refusal.TheVariants.{BadScript};
-ghost use Rattle.kp_types.specs.Devices.{CountsFaults};
+ghost use Rattle.kp_types.specs.Devices.{CountsOne, device_of, faults_of};
 ghost use Rattle.kp_world.specs.Answers.{outcome_of};
 ghost use Rattle.kp_script.specs.Script.{IsFaultAt, IsScriptRefusal};
 ghost use Rattle.kp_script.specs.Transcript.{refusals_in, IsTranscript, IsRunRefusal, Writes, WritesFront};
@@ -61,17 +61,18 @@ pub fn run_script<R: Read, W: Write>(
     reader: &mut Counted<R>,
     writer: &mut Counted<W>,
 ) -> Result<u64, Refusal>
-    requires reads { reader.old.failed + 1 < 2 ^ 64 }
-    requires writes { writer.old.failed + 1 < 2 ^ 64 }
-    ensures written { IfOk result (λ refused. Writes (R.remaining reader.old.inner)
-        (W.contents writer.old.inner) (W.contents writer.new.inner) refused) }
+    requires reads { faults_of reader.old + 1 < 2 ^ 64 }
+    requires writes { faults_of writer.old + 1 < 2 ^ 64 }
+    ensures written { IfOk result (λ refused. Writes (R.remaining (device_of reader.old))
+        (W.contents (device_of writer.old)) (W.contents (device_of writer.new)) refused) }
     ensures fault { (line : ℕ) → result ≡ Err (BadScript line)
-        → IfSome (R.remaining reader.old.inner) (λ input. IsFaultAt input line) }
+        → IfSome (R.remaining (device_of reader.old)) (λ input. IsFaultAt input line) }
     ensures untouched { (line : ℕ) → result ≡ Err (BadScript line) → writer.new ≡ writer.old }
-    ensures front { OnErr result (WritesFront (R.remaining reader.old.inner)
-        (W.contents writer.old.inner) (W.contents writer.new.inner)) }
+    ensures front { OnErr result (WritesFront (R.remaining (device_of reader.old))
+        (W.contents (device_of writer.old)) (W.contents (device_of writer.new))) }
     ensures only { IfErr result IsRunRefusal }
-    ensures counted { CountsFaults result (reader.old.failed + writer.old.failed) (reader.new.failed + writer.new.failed) }
+    ensures counted { CountsOne result (faults_of reader.old) (faults_of reader.new)
+        (faults_of writer.old) (faults_of writer.new) }
 {
     let input = reader.read_all(alloc)?;
     let told = transcript_of(alloc, &input)?;

@@ -27,6 +27,7 @@ fn help_has_the_texts(rt: HostRuntime) {
     for (line, part) in [
         ("kpart --help", replication),
         ("kpart --help", "Runs a script and prints its trace"),
+        ("kpart --version", "kpart 0.1.0\n"),
         ("kpart run --help", "the script to run"),
         ("kpart inspect --help", "the log to read"),
         ("kpart inspect --help", "--segment <S>"),
@@ -54,7 +55,8 @@ fn a_mistake_is_named(rt: HostRuntime) {
 fn refused(alloc: Global, refusal: Refusal, fails: u64) -> (Vec<u8>, u64, u8) {
     let mut err = Counted::new(Faulty::new(Vec::new(alloc), fails));
     let status = refuse(&mut err, refusal);
-    (err.inner.bytes, err.failed, status)
+    let told = err.device().bytes.as_slice().to_vec(alloc);
+    (told.unwrap_or(Vec::new(alloc)), err.faults(), status)
 }
 
 #[test]

@@ -4,7 +4,7 @@ use crate::shown::{hex, is};
 use kp_crc::crc32c;
 use kp_types::{Counted, Faulty, Refusal};
 use std::alloc::Global;
-use std::io::{self, Write};
+use std::io::{self, ErrorKind, Read, Write};
 
 fn text_of(alloc: Global, refusal: Refusal) -> Result<String, Refusal> {
     Ok(refusal.to_string(alloc)?)
@@ -39,7 +39,7 @@ fn read_failing(alloc: Global, fails: u64) -> Result<String, Refusal> {
         Ok(bytes) => hex(alloc, &bytes)?,
         Err(refusal) => refusal.to_string(alloc)?,
     };
-    write!(text, " {}", reader.failed)?;
+    write!(text, " {}", reader.faults())?;
     Ok(text)
 }
 
@@ -78,6 +78,14 @@ impl Write for Narrow {
 // What is written of `hello`, whether it was refused, and how many calls failed.
 type Out = (Vec<u8>, Result<(), Refusal>, u64);
 
+fn left(alloc: Global, bytes: &[u8], written: Result<(), Refusal>, faults: u64) -> Out {
+    (
+        bytes.to_vec(alloc).unwrap_or(Vec::new(alloc)),
+        written,
+        faults,
+    )
+}
+
 fn write_narrow(alloc: Global, room: usize) -> Out {
     let narrow = Narrow {
         bytes: Vec::new(alloc),
@@ -85,13 +93,13 @@ fn write_narrow(alloc: Global, room: usize) -> Out {
     };
     let mut writer = Counted::new(narrow);
     let written = writer.write_all(b"hello");
-    (writer.inner.bytes, written, writer.failed)
+    left(alloc, &writer.device().bytes, written, writer.faults())
 }
 
 fn write_failing(alloc: Global, fails: u64) -> Out {
     let mut writer = Counted::new(Faulty::new(Vec::new(alloc), fails));
     let written = writer.write_all(b"hello");
-    (writer.inner.bytes, written, writer.failed)
+    left(alloc, &writer.device().bytes, written, writer.faults())
 }
 
 fn out_is(rt: &impl std::process::Abort, out: &Out, bytes: &[u8], failed: u64) {
@@ -115,6 +123,66 @@ fn short_writes_go_on_and_failed_ones_are_counted(rt: HostRuntime) {
     }
     for (fails, bytes, failed) in [(0, b"".as_slice(), 1), (1, b"hello", 0)] {
         out_is(&rt, &write_failing(rt.alloc(), fails), bytes, failed);
+    }
+}
+
+/// A device of which every second call is interrupted, the first one too.
+#[derive(Drop)]
+struct Interrupting {
+    device: Faulty,
+    interrupted: bool,
+}
+
+impl Interrupting {
+    fn call(&mut self) -> io::Result<()> {
+        self.interrupted = !self.interrupted;
+        if self.interrupted {
+            return Err(io::Error::from(ErrorKind::Interrupted));
+        }
+        Ok(())
+    }
+}
+
+impl Read for Interrupting {
+    fn read(&mut self, buf: &mut [u8]) -> io::Result<usize> {
+        self.call()?;
+        self.device.read(buf)
+    }
+}
+
+impl Write for Interrupting {
+    fn write(&mut self, buf: &[u8]) -> io::Result<usize> {
+        self.call()?;
+        self.device.write(buf)
+    }
+
+    fn flush(&mut self) -> io::Result<()> {
+        Ok(())
+    }
+}
+
+// What is read of `hello`, what of it is written, and how many calls failed, where calls are interrupted.
+fn interrupted(alloc: Global) -> Result<(Vec<u8>, Vec<u8>, u64), Refusal> {
+    let mut both = Counted::new(Interrupting {
+        device: Faulty::new(b"hello".to_vec(alloc)?, u64::MAX),
+        interrupted: false,
+    });
+    let read = both.read_all(alloc)?;
+    both.write_all(b"hello")?;
+    let kept = both.device().device.bytes.as_slice().to_vec(alloc)?;
+    Ok((read, kept, both.faults()))
+}
+
+#[test]
+fn interrupted_calls_are_tried_again(rt: HostRuntime) {
+    match interrupted(rt.alloc()) {
+        Ok((read, kept, faults)) => {
+            assert_eq!(rt;
+                (read.as_slice(), kept.as_slice(), faults),
+                (b"hello".as_slice(), b"hellohello".as_slice(), 0)
+            );
+        }
+        Err(refusal) => panic!(rt; "{refusal}"),
     }
 }
 

@@ -1,5 +1,5 @@
 -- The text of each refusal, as the program prints it.
-use Rattle.std.specs.Prelude.{List, ℕ, ◌++◌, codes}
+use Rattle.std.specs.Prelude.{List, [], ◌∷◌, ℕ, ◌++◌, codes, Option, Some, None}
 use Rattle.std.specs.Fmt.{decimal}
 use Rattle.kp_types.specs.declared.refusal.Refusal.{Refusal}
 use Rattle.kp_types.specs.declared.refusal.Refusal.TheVariants as refusals
@@ -38,3 +38,14 @@ refusal_text refusals.ControlFromClient = codes "F30 ControlFromClient"
 refusal_text (refusals.BadScript line) = codes "F31 BadScript " ++ decimal line
 refusal_text refusals.Device = codes "F32 Device"
 refusal_text refusals.Memory = codes "F33 Memory"
+
+-- the place or the line that a refusal has
+abbrev pub place_of : Refusal → Option ℕ
+place_of (refusals.BadRecord place) = Some place
+place_of (refusals.BadScript line) = Some line
+place_of _ = None
+
+-- and how it stands behind the name
+abbrev pub place_text : Option ℕ → List ℕ
+place_text None = []
+place_text (Some place) = 32 ∷ decimal place

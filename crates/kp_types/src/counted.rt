@@ -1,72 +1,81 @@
 //! A reader or a writer with the count of its calls that failed.
 
 ghost use Rattle.std.specs.Prelude.{◌≡◌, ◌+◌, ◌<◌, ◌^◌, List, IfOk, IfErr, IfSome, OnOk, OnErr, ◌≤◌};
+ghost use Rattle.std.specs.List.{flat_map};
 ghost use Rattle.std.specs.Io.KnownBytes.{Appends};
 ghost use Rattle.kp_types.specs.declared.refusal.Refusal.TheVariants.{Device};
-ghost use Rattle.kp_types.specs.Devices.{CountsFaults, AppendsFront, IsDeviceFault};
+ghost use Rattle.kp_types.specs.Devices.{CountsFaults, AppendsFront, IsDeviceFault, IsOut, IsBegun, device_of, faults_of};
 
 use crate::refusal::Refusal;
 use std::alloc::Global;
+use std::fmt::Display;
 use std::io::{ErrorKind, Read, Write};
 
-const CHUNK: usize = 4096;
-
-/// A reader or a writer with the count of its calls that failed. Its own calls answer F32 exactly where
-/// the count rises, so that a refused growth and a failed device are told apart.
+/// A reader or a writer with the count of its calls that failed. Only its own calls reach the device, and they
+/// answer F32 exactly where the count rises: so what is refused with F32 is a call that the device failed.
 #[derive(Drop)]
 pub struct Counted<T> {
-    /// The device.
-    pub inner: T,
-    /// How many of its calls failed.
-    pub failed: u64,
+    inner: T,
+    failed: u64,
 }
 
 impl<T> Counted<T> {
     /// The device, none of whose calls has failed yet.
     pub fn new(inner: T) -> Counted<T>
-        ensures inner { result.inner ≡ inner }
-        ensures failed { result.failed ≡ 0 }
+        ensures device { device_of result ≡ inner }
+        ensures faults { faults_of result ≡ 0 }
     {
         Counted { inner, failed: 0 }
+    }
+
+    /// The device. O(1).
+    pub fn device(&self) -> &T
+        ensures { result.now ≡ device_of self.now }
+    {
+        &self.inner
+    }
+
+    /// How many of its calls failed. O(1).
+    pub fn faults(&self) -> u64
+        ensures { result ≡ faults_of self.now }
+    {
+        self.failed
     }
 }
 
 impl<R: Read> Counted<R> {
     /// All the bytes that are left. F32 where the device failed or never ends, and the count rises by one;
-    /// F33. Reads that were interrupted are tried again.
+    /// F33 where memory was refused, by the device too. Reads that were interrupted are tried again.
     pub fn read_all(&mut self, alloc: Global) -> Result<Vec<u8>, Refusal>
-        requires { self.old.failed + 1 < 2 ^ 64 }
-        ensures bytes { IfOk result (λ input. IfSome (R.remaining self.old.inner) (λ all. input.items ≡ all)) }
+        requires { faults_of self.old + 1 < 2 ^ 64 }
+        ensures bytes { IfOk result (λ input. IfSome (R.remaining (device_of self.old))
+            (λ all. input.items ≡ all)) }
         ensures only { IfErr result IsDeviceFault }
-        ensures counted { CountsFaults result self.old.failed self.new.failed }
+        ensures counted { CountsFaults result (faults_of self.old) (faults_of self.new) }
     {
         let mut input = Vec::new(alloc);
-        let mut chunk = [0u8; CHUNK];
-        for _ in 0..u64::MAX {
-            match self.inner.read(&mut chunk) {
-                Ok(0) => return Ok(input),
-                Ok(n) => input.extend_from_slice(&chunk[..n])?,
-                Err(error) => {
-                    if error.kind() != ErrorKind::Interrupted {
-                        break;
-                    }
-                }
+        match self.inner.read_to_end(&mut input) {
+            Ok(_) => Ok(input),
+            Err(error) if error.kind() == ErrorKind::OutOfMemory => Err(Refusal::Memory),
+            Err(_) => {
+                self.failed += 1;
+                Err(Refusal::Device)
             }
         }
-        self.failed += 1;
-        Err(Refusal::Device)
     }
 }
 
 impl<W: Write> Counted<W> {
     /// Writes the whole text. F32 where the device failed, and the count rises by one; a beginning of the
-    /// text is out then.
+    /// text is out then. Writes that were interrupted are tried again.
     pub fn write_all(&mut self, text: &[u8]) -> Result<(), Refusal>
-        requires { self.old.failed + 1 < 2 ^ 64 }
-        ensures ok { OnOk result (Appends (W.contents self.old.inner) (W.contents self.new.inner) text.now) }
-        ensures err { OnErr result (AppendsFront (W.contents self.old.inner) (W.contents self.new.inner) text.now) }
+        requires { faults_of self.old + 1 < 2 ^ 64 }
+        ensures ok { OnOk result (Appends (W.contents (device_of self.old))
+            (W.contents (device_of self.new)) text.now) }
+        ensures err { OnErr result (AppendsFront (W.contents (device_of self.old))
+            (W.contents (device_of self.new)) text.now) }
         ensures only { IfErr result (λ refusal. refusal ≡ Device) }
-        ensures counted { CountsFaults result self.old.failed self.new.failed }
+        ensures counted { CountsFaults result (faults_of self.old) (faults_of self.new) }
     {
         let mut done = 0;
         for _ in 0..u64::MAX {
@@ -85,5 +94,39 @@ impl<W: Write> Counted<W> {
         }
         self.failed += 1;
         Err(Refusal::Device)
+    }
+
+    /// Writes these texts, one after another. F32 where the device failed, and the count rises by one; a
+    /// beginning of all of them together is out then.
+    pub fn write_each(&mut self, texts: &[&[u8]]) -> Result<(), Refusal>
+        requires { faults_of self.old + 1 < 2 ^ 64 }
+        ensures ok { OnOk result (IsOut W.contents self.old self.new
+            (flat_map (λ text. text.now) texts.now)) }
+        ensures err { OnErr result (IsBegun W.contents self.old self.new
+            (flat_map (λ text. text.now) texts.now)) }
+        ensures only { IfErr result (λ refusal. refusal ≡ Device) }
+    {
+        for text in texts {
+            self.write_all(text)?;
+        }
+        Ok(())
+    }
+
+    /// Writes the text of a value. F32 where the device failed, and the count rises by one; then some of the
+    /// text may be out.
+    pub fn write_text<D: Display + Drop>(&mut self, text: D) -> Result<(), Refusal>
+        requires { faults_of self.old + 1 < 2 ^ 64 }
+        ensures ok { OnOk result (IfSome (D.output text)
+            (Appends (W.contents (device_of self.old)) (W.contents (device_of self.new)))) }
+        ensures only { IfErr result (λ refusal. refusal ≡ Device) }
+        ensures counted { CountsFaults result (faults_of self.old) (faults_of self.new) }
+    {
+        match write!(self.inner, "{text}") {
+            Ok(()) => Ok(()),
+            Err(_) => {
+                self.failed += 1;
+                Err(Refusal::Device)
+            }
+        }
     }
 }

@@ -1,7 +1,7 @@
 //! Why a call was refused.
 
-ghost use Rattle.std.specs.Prelude.{◌≡◌, Some};
-ghost use Rattle.kp_types.specs.Texts.{refusal_text};
+ghost use Rattle.std.specs.Prelude.{◌≡◌, ◌++◌, Some};
+ghost use Rattle.kp_types.specs.Texts.{refusal_text, place_of, place_text};
 ghost use Rattle.kp_types.specs.declared.refusal.Refusal.TheVariants.{Memory};
 
 use std::alloc::{AllocError, AllocFailed};
@@ -80,46 +80,69 @@ pub enum Refusal {
     Memory,
 }
 
+impl Refusal {
+    /// Its number and name, as `F8 BadRecord`. O(1).
+    pub fn name(&self) -> &'static str
+        ensures { refusal_text self.now ≡ result.now ++ place_text (place_of self.now) }
+    {
+        match self {
+            Refusal::Truncated => "F1 Truncated",
+            Refusal::BadMagic => "F2 BadMagic",
+            Refusal::BadLength => "F3 BadLength",
+            Refusal::BadCrc => "F4 BadCrc",
+            Refusal::Compressed => "F5 Compressed",
+            Refusal::BadAttributes => "F6 BadAttributes",
+            Refusal::BadCount => "F7 BadCount",
+            Refusal::BadRecord(_) => "F8 BadRecord",
+            Refusal::TooLarge => "F9 TooLarge",
+            Refusal::BadProducerFields => "F10 BadProducerFields",
+            Refusal::InvalidProducerEpoch => "F11 InvalidProducerEpoch",
+            Refusal::OutOfOrderSequence => "F12 OutOfOrderSequence",
+            Refusal::InvalidTxnState => "F13 InvalidTxnState",
+            Refusal::CoordinatorFenced => "F14 CoordinatorFenced",
+            Refusal::NotLeader => "F15 NotLeader",
+            Refusal::OffsetOutOfRange => "F16 OffsetOutOfRange",
+            Refusal::FencedLeaderEpoch => "F17 FencedLeaderEpoch",
+            Refusal::UnknownLeaderEpoch => "F18 UnknownLeaderEpoch",
+            Refusal::NotBoundary => "F19 NotBoundary",
+            Refusal::BelowSettled => "F20 BelowSettled",
+            Refusal::NotInSync => "F21 NotInSync",
+            Refusal::StaleRecord => "F22 StaleRecord",
+            Refusal::NotCaughtUp => "F23 NotCaughtUp",
+            Refusal::RecordFull => "F24 RecordFull",
+            Refusal::OffsetsExhausted => "F25 OffsetsExhausted",
+            Refusal::NotNext => "F26 NotNext",
+            Refusal::EpochBack => "F27 EpochBack",
+            Refusal::Down => "F28 Down",
+            Refusal::StaleAnswer => "F29 StaleAnswer",
+            Refusal::ControlFromClient => "F30 ControlFromClient",
+            Refusal::BadScript(_) => "F31 BadScript",
+            Refusal::Device => "F32 Device",
+            Refusal::Memory => "F33 Memory",
+        }
+    }
+
+    /// The place in a batch, or the line of a script, that stands behind the name, where there is one. O(1).
+    pub fn place(&self) -> Option<u64>
+        ensures { result ≡ place_of self.now }
+    {
+        match self {
+            Refusal::BadRecord(place) | Refusal::BadScript(place) => Some(*place),
+            _ => None,
+        }
+    }
+}
+
 /// The text that a trace, a dump and standard error have: number, name, and where it has one the place
 /// or the line, as `F8 BadRecord 61`.
 impl fmt::Display for Refusal {
     ghost output = { λ refusal. Some (refusal_text refusal) };
 
     fn fmt<W: fmt::Write>(&self, f: &mut fmt::Formatter<W>) -> fmt::Result {
-        match self {
-            Refusal::Truncated => f.write_str("F1 Truncated"),
-            Refusal::BadMagic => f.write_str("F2 BadMagic"),
-            Refusal::BadLength => f.write_str("F3 BadLength"),
-            Refusal::BadCrc => f.write_str("F4 BadCrc"),
-            Refusal::Compressed => f.write_str("F5 Compressed"),
-            Refusal::BadAttributes => f.write_str("F6 BadAttributes"),
-            Refusal::BadCount => f.write_str("F7 BadCount"),
-            Refusal::BadRecord(place) => write!(f, "F8 BadRecord {place}"),
-            Refusal::TooLarge => f.write_str("F9 TooLarge"),
-            Refusal::BadProducerFields => f.write_str("F10 BadProducerFields"),
-            Refusal::InvalidProducerEpoch => f.write_str("F11 InvalidProducerEpoch"),
-            Refusal::OutOfOrderSequence => f.write_str("F12 OutOfOrderSequence"),
-            Refusal::InvalidTxnState => f.write_str("F13 InvalidTxnState"),
-            Refusal::CoordinatorFenced => f.write_str("F14 CoordinatorFenced"),
-            Refusal::NotLeader => f.write_str("F15 NotLeader"),
-            Refusal::OffsetOutOfRange => f.write_str("F16 OffsetOutOfRange"),
-            Refusal::FencedLeaderEpoch => f.write_str("F17 FencedLeaderEpoch"),
-            Refusal::UnknownLeaderEpoch => f.write_str("F18 UnknownLeaderEpoch"),
-            Refusal::NotBoundary => f.write_str("F19 NotBoundary"),
-            Refusal::BelowSettled => f.write_str("F20 BelowSettled"),
-            Refusal::NotInSync => f.write_str("F21 NotInSync"),
-            Refusal::StaleRecord => f.write_str("F22 StaleRecord"),
-            Refusal::NotCaughtUp => f.write_str("F23 NotCaughtUp"),
-            Refusal::RecordFull => f.write_str("F24 RecordFull"),
-            Refusal::OffsetsExhausted => f.write_str("F25 OffsetsExhausted"),
-            Refusal::NotNext => f.write_str("F26 NotNext"),
-            Refusal::EpochBack => f.write_str("F27 EpochBack"),
-            Refusal::Down => f.write_str("F28 Down"),
-            Refusal::StaleAnswer => f.write_str("F29 StaleAnswer"),
-            Refusal::ControlFromClient => f.write_str("F30 ControlFromClient"),
-            Refusal::BadScript(line) => write!(f, "F31 BadScript {line}"),
-            Refusal::Device => f.write_str("F32 Device"),
-            Refusal::Memory => f.write_str("F33 Memory"),
+        f.write_str(self.name())?;
+        match self.place() {
+            Some(place) => write!(f, " {place}"),
+            None => Ok(()),
         }
     }
 }
