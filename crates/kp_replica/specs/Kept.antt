@@ -1,5 +1,5 @@
 -- What a replica keeps of its fields.
-use Rattle.std.specs.Prelude.{◌<◌, ◌≤◌}
+use Rattle.std.specs.Prelude.{◌≡◌, ◌<◌}
 use Rattle.std.specs.List.{AllByRecursion}
 use Rattle.kp_model.specs.Log.{IsBoundary}
 use Rattle.kp_log.specs.Entries.{AreEntriesOf}
@@ -11,7 +11,7 @@ abbrev pub member_of : Inside → Member
 member_of r =
     record {
       number = r.number;
-      max_batch = r.limits.max_batch;
+      limits = r.log.limits;
       state =
           record {
             log = r.log.log;
@@ -23,10 +23,10 @@ member_of r =
     }
 
 -- The undo entries are those of the log's last batches, each of them above the watermark; the watermark is a boundary of
--- the log, and no batch above it is settled.
+-- the log, and the log is settled up to it.
 pub record IsKept (r : Inside) : Type 0 where
   pub entries : AreEntriesOf r.log r.entries
   pub unsettled : AllByRecursion (λ entry. r.watermark < entry.end) r.entries
   pub epochs : HasEpochs r.log.log (mode_of r.mode)
   pub boundary : IsBoundary r.log.log r.watermark
-  pub settled : r.log.settled ≤ r.watermark
+  pub settled : r.log.settled ≡ r.watermark

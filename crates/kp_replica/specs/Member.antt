@@ -1,19 +1,20 @@
 -- A node of the model with its number, and what it is that a call does.
 use Rattle.std.specs.Prelude.{◌≡◌, ℕ, ◌+◌, ◌<◌, ◌≤◌, ◌^◌, List, [], unwrap_or}
+use Rattle.kp_types.specs.declared.limits.Limits.{Limits}
 use Rattle.kp_model.specs.Log.{Batch}
 use Rattle.kp_model.specs.World.{LeaderAndIsr, Mode, Down, Idle, Leads, Follows, Node}
 use Rattle.kp_model.specs.Event.{Act, Reply}
 use Rattle.kp_model.specs.Local.{Local, becomes, last_epoch}
 
--- a node's number, the most bytes of a batch that it takes, and its state
+-- a node's number, the limits of its log, and its state
 pub record Member : Type 0 where
   pub number : ℕ
-  pub max_batch : ℕ
+  pub limits : Limits
   pub state : Node
 
 -- the same node in another state
 abbrev pub IsSameNode : Member → Member → Type 0
-IsSameNode old new = (new.number ≡ old.number) × (new.max_batch ≡ old.max_batch)
+IsSameNode old new = (new.number ≡ old.number) × (new.limits ≡ old.limits)
 
 -- Under this record of the controller the node did this, replied so, and became what it is now.
 abbrev pub DoesUnder : LeaderAndIsr → Member → Member → Act → Reply → Type 0

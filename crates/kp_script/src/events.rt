@@ -16,7 +16,7 @@ use crate::script::Line;
 use bytes::Bytes;
 use kp_batch::{Fields, Parts, spell};
 use kp_types::{NodeId, Refusal};
-use kp_world::Event;
+use kp_world::{Act, Event};
 use std::alloc::{AllocError, Global};
 
 /// A record for each piece between the commas: it has this time in milliseconds, and the piece as its value.
@@ -66,7 +66,10 @@ fn append_event(
     };
     let parts = parts_of(alloc, time, values)?;
     let bytes = Bytes::from_vec(spell(alloc, &fields, &parts)?)?;
-    Ok(Event::Produce { node, bytes })
+    Ok(Event::Acts {
+        node,
+        act: Act::Produce { bytes },
+    })
 }
 
 /// The bytes that the digits spell, handed to the node. Takes time and memory proportional to their number, and is
@@ -79,7 +82,10 @@ fn raw_event(alloc: Global, node: NodeId, digits: &[u8]) -> Result<Event, Refusa
 {
     kp_replica::bytes_are_an_offer();
     let bytes = Bytes::from_vec(bytes_of(alloc, digits)?)?;
-    Ok(Event::Produce { node, bytes })
+    Ok(Event::Acts {
+        node,
+        act: Act::Produce { bytes },
+    })
 }
 
 /// The event that a call tells.
@@ -91,23 +97,24 @@ fn event_of(alloc: Global, call: &Call<'_>, count: NodeId) -> Result<Event, Refu
     ensures only { IfErr result (λ refusal. refusal ≡ Memory) }
 {
     let _ = count;
-    match *call {
-        Call::Elect { node } => Ok(Event::Elect { node }),
-        Call::Adopt { node } => Ok(Event::Adopt { node }),
+    let (node, act) = match *call {
+        Call::Elect { node } => return Ok(Event::Elect { node }),
         Call::Append {
             node,
             time,
             sender,
             transactional,
             values,
-        } => append_event(alloc, node, time, sender, transactional, values),
-        Call::Raw { node, digits } => raw_event(alloc, node, digits),
-        Call::Mark { node, marker } => Ok(Event::Mark { node, marker }),
-        Call::Raise { node } => Ok(Event::Raise { node }),
-        Call::Show { node } => Ok(Event::Show { node }),
-        Call::Read { node, from } => Ok(Event::Read { node, from }),
-        Call::Committed { node, from } => Ok(Event::Committed { node, from }),
-    }
+        } => return append_event(alloc, node, time, sender, transactional, values),
+        Call::Raw { node, digits } => return raw_event(alloc, node, digits),
+        Call::Adopt { node } => (node, Act::Adopt),
+        Call::Mark { node, marker } => (node, Act::Mark { marker }),
+        Call::Raise { node } => (node, Act::Raise),
+        Call::Show { node } => (node, Act::Show),
+        Call::Read { node, from } => (node, Act::Read { from }),
+        Call::Committed { node, from } => (node, Act::Committed { from }),
+    };
+    Ok(Event::Acts { node, act })
 }
 
 /// The events of a script's lines, in their order. Takes time and memory proportional to the lines. F33.

@@ -45,7 +45,7 @@ fn push_places(text: &mut String, log: &PartitionLog, offsets: [u64; 4]) -> Resu
 fn found_in(alloc: Global, words: &str) -> Result<String, Refusal> {
     let log = log_of(alloc, &SPACED, words)?;
     let mut text = String::new(alloc);
-    for name in log.tables().names() {
+    for name in log.tables().segments().names() {
         write!(text, "{name} ")?;
     }
     push_places(&mut text, &log, [0, 1, 2, 3])?;

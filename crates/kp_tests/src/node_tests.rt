@@ -11,7 +11,7 @@ use bytes::Bytes;
 use kp_marker::{Kind, Marker};
 use kp_replica::{Receipt, Record, Replica};
 use kp_types::{Limits, MAX_BATCH, NodeId, Refusal};
-use kp_world::{Answer, Event, Stopped, Trace, run};
+use kp_world::{Act, Answer, Event, Stopped, Trace, run};
 use std::alloc::{AllocError, Global};
 
 // The bytes of the batch of a word.
@@ -126,21 +126,48 @@ fn seven(alloc: Global) -> Result<String, Refusal> {
     let bytes = bytes_of(alloc, "p10")?;
     let again = bytes.clone()?;
     let events = [
-        Event::Show { node: 6 },
-        Event::Elect { node: 6 },
-        Event::Adopt { node: 6 },
-        Event::Adopt { node: 0 },
-        Event::Produce {
-            node: 0,
-            bytes: again,
+        Event::Acts {
+            node: 6,
+            act: Act::Show,
         },
-        Event::Produce { node: 6, bytes },
-        Event::Raise { node: 6 },
-        Event::Raise { node: 0 },
-        Event::Show { node: 6 },
+        Event::Elect { node: 6 },
+        Event::Acts {
+            node: 6,
+            act: Act::Adopt,
+        },
+        Event::Acts {
+            node: 0,
+            act: Act::Adopt,
+        },
+        Event::Acts {
+            node: 0,
+            act: Act::Produce { bytes: again },
+        },
+        Event::Acts {
+            node: 6,
+            act: Act::Produce { bytes },
+        },
+        Event::Acts {
+            node: 6,
+            act: Act::Raise,
+        },
+        Event::Acts {
+            node: 0,
+            act: Act::Raise,
+        },
+        Event::Acts {
+            node: 6,
+            act: Act::Show,
+        },
         Event::Elect { node: 0 },
-        Event::Adopt { node: 0 },
-        Event::Adopt { node: 6 },
+        Event::Acts {
+            node: 0,
+            act: Act::Adopt,
+        },
+        Event::Acts {
+            node: 6,
+            act: Act::Adopt,
+        },
     ];
     played(alloc, 7, &events)
 }
@@ -174,24 +201,48 @@ fn three_twice(alloc: Global) -> Result<String, Refusal> {
     let marker = MARKER;
     let events = [
         Event::Elect { node: 0 },
-        Event::Adopt { node: 0 },
-        Event::Mark { node: 0, marker },
-        Event::Produce { node: 0, bytes },
-        Event::Elect { node: 0 },
-        Event::Adopt { node: 0 },
-        Event::Produce {
+        Event::Acts {
             node: 0,
-            bytes: again,
+            act: Act::Adopt,
         },
-        Event::Mark { node: 0, marker },
-        Event::Raise { node: 0 },
-        Event::Committed { node: 0, from: 2 },
-        Event::Read { node: 0, from: 3 },
+        Event::Acts {
+            node: 0,
+            act: Act::Mark { marker },
+        },
+        Event::Acts {
+            node: 0,
+            act: Act::Produce { bytes },
+        },
+        Event::Elect { node: 0 },
+        Event::Acts {
+            node: 0,
+            act: Act::Adopt,
+        },
+        Event::Acts {
+            node: 0,
+            act: Act::Produce { bytes: again },
+        },
+        Event::Acts {
+            node: 0,
+            act: Act::Mark { marker },
+        },
+        Event::Acts {
+            node: 0,
+            act: Act::Raise,
+        },
+        Event::Acts {
+            node: 0,
+            act: Act::Committed { from: 2 },
+        },
+        Event::Acts {
+            node: 0,
+            act: Act::Read { from: 3 },
+        },
     ];
     played(alloc, 1, &events)
 }
 
-// No contract says the last offset and the epoch of a run's receipts. The duplicate has those of the batch that stands.
+// The duplicate's receipt has the last offset and the epoch of the batch that stands.
 #[test]
 fn receipts_name_what_stands(rt: HostRuntime) {
     is(

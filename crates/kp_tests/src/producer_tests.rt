@@ -146,7 +146,10 @@ fn an_undone_commit_opens_its_transaction_again(rt: HostRuntime) {
 fn stable_offsets(alloc: Global, marker: &str) -> Result<(u64, u64), Refusal> {
     let mut log = log_of(alloc, &LIMITS, ONE_OPEN)?;
     let undo = log.append(batch_of(alloc, marker)?.stamp(4, 0))?;
-    let found = (log.transactions().stable(4), log.transactions().stable(5));
+    let found = (
+        log.tables().transactions().stable(4),
+        log.tables().transactions().stable(5),
+    );
     log.undo(undo);
     Ok(found)
 }

@@ -24,11 +24,11 @@ nothing : (xs : List Batch) → AllByRecursion (λ x. Unit {0}) xs
 nothing [] = tt
 nothing (x ∷ xs) = (tt, nothing xs)
 
-found_marks : (xs : List Batch) (m : Batch) (producer : ℕ) → find (is_marker_of producer) xs ≡ Some m → is_marker (content_of m) ≡ true
+pub found_marks : (xs : List Batch) (m : Batch) (producer : ℕ) → find (is_marker_of producer) xs ≡ Some m → is_marker (content_of m) ≡ true
 found_marks xs m producer e = (and_parts (is_marker (content_of m)) (is_of producer m) (all_find (is_marker_of producer) (λ x. Unit {0}) xs m (nothing xs) e).1).0
 
 -- the next marker behind the batch, for a producer of this content
-abbrev ending_at : List Batch → Batch → Content → Option Batch
+abbrev pub ending_at : List Batch → Batch → Content → Option Batch
 ending_at log b content = option_and_then (λ p. find (is_marker_of p.0) (from_offset (next_offset b) log)) (producer_of content)
 
 -- a batch whose next marker is an abort isn't visible, also where the log goes on
@@ -55,7 +55,7 @@ aborted_is log more b transactional aborted = by_content (content_of b) refl
 
 -- ---- where the records of other batches lie
 
-outside : (b x : Batch) → (next_offset x ≤ b.base) ⊎ (next_offset b ≤ x.base) → AllByRecursion (λ r. ¬ Spans b r.0) (enumerate_from x.base (records_of x.body))
+pub outside : (b x : Batch) → (next_offset x ≤ b.base) ⊎ (next_offset b ≤ x.base) → AllByRecursion (λ r. ¬ Spans b r.0) (enumerate_from x.base (records_of x.body))
 outside b x apart =
     all_weaker (λ r. (x.base ≤ r.0) × (r.0 < next_offset x)) (λ r. ¬ Spans b r.0) (λ r h s. elim apart [
       | inl front ↦ let upto = h.1 in let from = s.0 in omega (arith, front, upto, from)

@@ -10,3 +10,4 @@ pub mod Stability
 pub mod Stopping
 pub mod Showing
 pub mod Consumers
+pub mod Growing

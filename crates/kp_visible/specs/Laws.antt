@@ -4,6 +4,7 @@ use Rattle.std.specs.List.{AllByRecursion, AllPairs, find, slice_get}
 use Rattle.std.specs.Option.{IsSomeAnd, option_and_then}
 use Rattle.kp_batch.specs.Batch.{records_of, is_transactional}
 use Rattle.kp_record.specs.Record.{Record}
+use Rattle.kp_model.specs.Beginning.{Begins}
 use Rattle.kp_model.specs.Log.{Batch, IsLog, next_offset, from_offset}
 use Rattle.kp_model.specs.Producers.{content_of, producer_of}
 use Rattle.kp_model.specs.Transactions.{is_abort, is_marker_of, stable}
@@ -29,6 +30,12 @@ AbortedRecordsAreHidden =
     (log more : List Batch) (b : Batch) → IsLog (log ++ more) → IsAbortedIn log b
     → (high_watermark : ℕ) → AllByRecursion (λ r. ¬ Spans b r.0) (visible (log ++ more) high_watermark)
 
+-- Nor was one visible before the abort marker came: in no beginning of the log, at any high watermark.
+abbrev pub AbortedRecordsWereHidden : Type 0
+AbortedRecordsWereHidden =
+    (front more : List Batch) (b : Batch) → IsLog (front ++ more) → IsAbortedIn (front ++ more) b
+    → (high_watermark : ℕ) → AllByRecursion (λ r. ¬ Spans b r.0) (visible front high_watermark)
+
 -- data of the log that isn't transactional, or whose transaction a commit marker of the log ends
 pub record IsCommittedIn (log : List Batch) (b : Batch) : Type 0 where
   pub stands : Contains log b
@@ -45,3 +52,10 @@ CommittedRecordsAreVisible =
 abbrev pub VisibleOffsetsRise : Type 0
 VisibleOffsetsRise =
     (log : List Batch) (high_watermark : ℕ) → IsLog log → AllPairs (λ one later. one.0 < later.0) (visible log high_watermark)
+
+-- What was visible stays so. Once the log has grown and the high watermark has risen, the visible
+-- records are those that were visible before, and then others behind them.
+abbrev pub VisibleRecordsStay : Type 0
+VisibleRecordsStay =
+    (front more : List Batch) (earlier later : ℕ) → IsLog (front ++ more) → earlier ≤ later
+    → Begins (visible front earlier) (visible (front ++ more) later)

@@ -16,7 +16,7 @@ ghost use Rattle.kp_model.specs.Transactions.{aborted_in, stable};
 ghost use Rattle.kp_model.specs.Visible.{is_visible, records_in, visible};
 ghost use Rattle.kp_visible.specs.Filter.{shows};
 ghost use Rattle.kp_visible.specs.Lent.{committed_left};
-ghost use Rattle.kp_visible.specs.Laws.{AbortedRecordsAreHidden, CommittedRecordsAreVisible, VisibleOffsetsRise};
+ghost use Rattle.kp_visible.specs.Laws.{AbortedRecordsAreHidden, AbortedRecordsWereHidden, CommittedRecordsAreVisible, VisibleOffsetsRise, VisibleRecordsStay};
 
 use crate::near::Nearby;
 pub use committed::CommittedRecords;
@@ -50,14 +50,20 @@ pub fn committed_records<'a>(
     CommittedRecords::of(batches, Nearby::search(aborted, offset))
 }
 
-/// No record of an aborted transaction is visible, at any high watermark, now or once the log has grown. It costs nothing.
+/// No record of an aborted transaction is visible at any high watermark: not once the log has the
+/// abort marker, however it grows, and not before, while the transaction was still open. It costs
+/// nothing.
 pub fn aborted_records_are_hidden()
-    ensures { AbortedRecordsAreHidden }
+    ensures marked { AbortedRecordsAreHidden }
+    ensures unmarked { AbortedRecordsWereHidden }
 {}
 
-/// Each record below the last stable offset that no open or aborted transaction holds back is visible at its offset, and
-/// the visible records come in offset order, each once. It costs nothing.
+/// Of data that isn't transactional, or whose transaction a commit marker ended, each record below
+/// the last stable offset is visible at its offset, and the visible records come in offset order,
+/// each once. What was visible stays so when the log grows and the high watermark rises, and what
+/// comes to be visible then comes behind it. It costs nothing.
 pub fn committed_records_are_visible()
     ensures visible { CommittedRecordsAreVisible }
     ensures rising { VisibleOffsetsRise }
+    ensures staying { VisibleRecordsStay }
 {}

@@ -1,71 +1,85 @@
 -- A node's call is a step of every world that is shown.
-use Rattle.std.proofs.Common.{◌≡◌, ℕ, ◌<◌, true, false, cond, eqb, List, length, set, get_or, Some, None, Option, Ok, Err, refl, sym, ap, ◌∙◌, subst, arith, inl, inr, length-set}
-use Rattle.std.proofs.lemmas.List.{get_or-set_same, get_or-set_other, set-get_or}
-use Rattle.kp_model.specs.Log.{end_of}
-use Rattle.kp_model.specs.Transactions.{stable}
+use Rattle.std.proofs.Common.{◌≡◌, ℕ, ◌<◌, true, false, cond, eqb, List, length, set, get_or, Some, None, Option, Result, Ok, Err, refl, sym, ap, ◌∙◌, subst, arith, inl, inr, length-set}
+use Rattle.std.proofs.lemmas.List.{get_or-set_same, get_or-set_other}
 use Rattle.std.proofs.lemmas.Bool.{eq-eqb, ne_eqb, cases_eq}
 use Rattle.kp_types.specs.Causes.{IsRefusedOnlyBy}
+use Rattle.kp_types.specs.declared.limits.Limits.{Limits}
 use Rattle.kp_types.specs.declared.refusal.Refusal.{Refusal}
+use Rattle.kp_model.specs.Log.{end_of}
+use Rattle.kp_model.specs.Transactions.{stable}
 use Rattle.kp_model.specs.World.{LeaderAndIsr, Node, World, with_record}
 use Rattle.kp_model.specs.Event.{Act, Show, Elect, Acts, Reply, Changed, Shown}
 use Rattle.kp_model.specs.Local.{Effect, Local, LocalBy, Happens, cause, is_down, becomes, elected}
 use Rattle.kp_model.specs.Step.{NodeStep, ElectsBy, moved, told, IsGiven, elect_cause}
 use Rattle.kp_replica.specs.Member.{Member, DoesUnder}
-use Rattle.kp_world.specs.Shown.{IsNode, LeadsOn}
+use Rattle.kp_replica.specs.Set.{record_of}
+use Rattle.kp_replica.specs.declared.record.Record.{Record}
+use Rattle.kp_world.specs.Answers.{reply_of}
+use Rattle.kp_world.specs.declared.event.Answer.{Answer}
+use Rattle.kp_world.specs.declared.event.Answer.TheVariants as answers
+use Rattle.kp_world.specs.Shown.{IsNode, IsShown, KeepsReceipt, Leads, LeadsOn, Stage}
 
 -- node n as it is after the call, and the others as they were
-after : (max n : ℕ) (m : Member) (members : List Member) (x : Node) (nodes : ℕ → Node) → n < length members → m.number ≡ n → m.max_batch ≡ max → x ≡ m.state
-    → ((k : ℕ) (d : Member) → k < length members → IsNode max k (get_or members k d) (nodes k))
-    → (k : ℕ) (d : Member) → k < length (set members n m) → IsNode max k (get_or (set members n m) k d) (cond (eqb k n) x (nodes k))
-after max n m members x nodes inside number limit state old k d h =
+after : (limits : Limits) (n : ℕ) (m : Member) (members : List Member) (x : Node) (nodes : ℕ → Node) → n < length members → m.number ≡ n → m.limits ≡ limits → x ≡ m.state
+    → ((k : ℕ) (d : Member) → k < length members → IsNode limits k (get_or members k d) (nodes k))
+    → (k : ℕ) (d : Member) → k < length (set members n m) → IsNode limits k (get_or (set members n m) k d) (cond (eqb k n) x (nodes k))
+after limits n m members x nodes inside number limits_are state old k d h =
     let within : k < length members = omega (arith, length-set members n m) in
     elim (cases_eq k n) [
       | inl e ↦
           (let same : eqb k n ≡ true = eq-eqb k n e in
           let there : get_or (set members n m) k d ≡ m = ap (λ (i : ℕ). get_or (set members n m) i d) e ∙ get_or-set_same members n m d inside in
-          rw same (subst (λ (y : Member). IsNode max k y x) (sym there) (record { number_is = number ∙ sym e; limit = limit; state = state })))
+          rw same (subst (λ (y : Member). IsNode limits k y x) (sym there) (record { number_is = number ∙ sym e; limits_are = limits_are; state = state })))
       | inr ne ↦
           (let other : eqb k n ≡ false = ne_eqb k n ne in
           let there : get_or (set members n m) k d ≡ get_or members k d = get_or-set_other members n k m d ne in
-          rw other (subst (λ (y : Member). IsNode max k y (nodes k)) (sym there) (old k d within)))
+          rw other (subst (λ (y : Member). IsNode limits k y (nodes k)) (sym there) (old k d within)))
     ]
 
+-- node n itself
+here : (n : ℕ) (x : Node) (nodes : ℕ → Node) → cond (eqb n n) x (nodes n) ≡ x
+here n x nodes = rw (eq-eqb n n refl) refl
+
 -- the node x at place i, which is its number, did this and became m
-pub acted : (max n i : ℕ) (c : LeaderAndIsr) (members : List Member) (x m : Member) (act : Act) (reply : Reply) → i ≡ n → n < length members → x ≡ get_or members i x
-    → ((w : World) → IsGiven w.messages act) → (x.max_batch ≡ max → DoesUnder c x m act reply)
-    → LeadsOn max c members (Acts n act) (told reply) c (set members i m)
-acted max n i c members x m act reply same inside there given did w shown =
-    let old : IsNode max n x (w.nodes n) =
-    subst (λ (y : Member). IsNode max n y (w.nodes n)) (sym (there ∙ ap (λ (k : ℕ). get_or members k x) same)) (shown.nodes n x inside) in
-    let does = did old.limit in
-    let e : Effect = becomes c m.state reply in
+pub acted : (limits : Limits) (n i : ℕ) (c : LeaderAndIsr) (members : List Member) (x m : Member) (act : Act) (outcome : Result Answer Refusal) → i ≡ n → n < length members → x ≡ get_or members i x
+    → ((w : World) → IsGiven w.messages act) → (x.limits ≡ limits → DoesUnder c x m act (reply_of outcome)) → KeepsReceipt m.state.log outcome
+    → LeadsOn limits (record { controller = c; members = members }) (Acts n act) outcome (record { controller = c; members = set members i m })
+acted limits n i c members x m act outcome same inside there given did receipt w shown =
+    let old : IsNode limits n x (w.nodes n) =
+    subst (λ (y : Member). IsNode limits n y (w.nodes n)) (sym (there ∙ ap (λ (k : ℕ). get_or members k x) same)) (shown.nodes n x inside) in
+    let does = did old.limits_are in
+    let e : Effect = becomes c m.state (reply_of outcome) in
     let local : Local w.controller n (w.nodes n) act e =
     subst (λ (k : LeaderAndIsr). Local k n (w.nodes n) act e) (sym shown.controller_is)
     (subst (λ (y : Node). Local c n y act e) (sym old.state) (subst (λ (k : ℕ). Local c k x.state act e) old.number_is does.0)) in
-    let step : NodeStep w n act (told reply) (moved w n e) =
-    record { counted = omega (arith, shown.count); given = given w; effect = e; local = local; outcome_is = refl; new_is = refl } in (
-      moved w n e,
-      step,
-      record {
+    record {
+      after = moved w n e;
+      step = record { counted = omega (arith, shown.count); given = given w; effect = e; local = local; outcome_is = refl; new_is = refl };
+      receipt = subst (λ (y : Node). KeepsReceipt y.log outcome) (sym (here n m.state w.nodes)) receipt;
+      shown = record {
         controller_is = refl;
         count = shown.count ∙ sym (length-set members i m);
         nodes =
-            subst (λ (k : ℕ). (j : ℕ) (d : Member) → j < length (set members k m) → IsNode max j (get_or (set members k m) j d) (cond (eqb j n) m.state (w.nodes j))) (sym same)
-            (after max n m members m.state w.nodes inside (does.1.0 ∙ old.number_is) (does.1.1 ∙ old.limit) refl shown.nodes);
-      },
-    )
+            subst (λ (k : ℕ). (j : ℕ) (d : Member) → j < length (set members k m) → IsNode limits j (get_or (set members k m) j d) (cond (eqb j n) m.state (w.nodes j))) (sym same)
+            (after limits n m members m.state w.nodes inside (does.1.0 ∙ old.number_is) (does.1.1 ∙ old.limits_are) refl shown.nodes);
+      };
+    }
 
 -- the controller's record changed by an election
-pub elected_on : (max n : ℕ) (c changed : LeaderAndIsr) (members : List Member) → elect_cause c n ≡ None → changed ≡ elected c n
-    → LeadsOn max c members (Elect n) (told (Changed changed)) changed members
-elected_on max n c changed members free is w shown =
+pub elected_on : (limits : Limits) (n : ℕ) (old new : Record) (members : List Member) → elect_cause (record_of old) n ≡ None → record_of new ≡ elected (record_of old) n
+    → LeadsOn limits (record { controller = record_of old; members = members }) (Elect n) (Ok (answers.Changed new)) (record { controller = record_of new; members = members })
+elected_on limits n old new members free is w shown =
+    let c = record_of old in
+    let changed = record_of new in
     let r = elected w.controller n in
     let same : r ≡ changed = ap (λ (k : LeaderAndIsr). elected k n) shown.controller_is ∙ sym is in
-    let unrefused : elect_cause w.controller n ≡ None = ap (λ (k : LeaderAndIsr). elect_cause k n) shown.controller_is ∙ free in (
-      with_record w r,
-      subst (λ (o : Option Refusal). ElectsBy o w n (told (Changed changed)) (with_record w r)) (sym unrefused) (ap (λ (k : LeaderAndIsr). told (Changed k)) (sym same), refl),
-      record { controller_is = same; count = shown.count; nodes = shown.nodes },
-    )
+    let unrefused : elect_cause w.controller n ≡ None = ap (λ (k : LeaderAndIsr). elect_cause k n) shown.controller_is ∙ free in
+    record {
+      after = with_record w r;
+      step = (subst (λ (o : Option Refusal). ElectsBy o w n (told (Changed changed)) (with_record w r)) (sym unrefused) (ap (λ (k : LeaderAndIsr). told (Changed k)) (sym same), refl));
+      receipt = tt;
+      shown = record { controller_is = same; count = shown.count; nodes = shown.nodes };
+    }
 
 pub only_free : (A : Type 0) (o : Option Refusal) (x : A) → IsRefusedOnlyBy o (Ok x) → o ≡ None
 only_free A (Some s) x h = absurd (no_ok x h)
@@ -73,15 +87,6 @@ only_free A (Some s) x h = absurd (no_ok x h)
     no_ok : (x : A) → Ok x ≡ Err s → ⊥
     no_ok x e = cc
 only_free A None x h = refl
-
--- a node that only told something
-pub looked : (max n i : ℕ) (c : LeaderAndIsr) (members : List Member) (x : Member) (act : Act) (reply : Reply) → i ≡ n → n < length members → x ≡ get_or members i x
-    → ((w : World) → IsGiven w.messages act) → DoesUnder c x x act reply
-    → LeadsOn max c members (Acts n act) (told reply) c members
-looked max n i c members x act reply same inside there given does =
-    let back : set members i x ≡ members = ap (λ (y : Member). set members i y) there ∙ set-get_or members i x in
-    subst (λ (others : List Member). LeadsOn max c members (Acts n act) (told reply) c others) back
-    (acted max n i c members x x act reply same inside there given (λ limit. does))
 
 happened : (c : LeaderAndIsr) (n : ℕ) (x : Node) (act : Act) (e : Effect) → cause c n x act ≡ None → Happens c n x act e → Local c n x act e
 unfolding Local

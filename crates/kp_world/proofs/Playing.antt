@@ -1,43 +1,59 @@
 -- A run goes on, event by event.
-use Rattle.std.proofs.Common.{◌≡◌, ℕ, zero, suc, List, [], ◌∷◌, ◌++◌, take, refl, ap, ◌∙◌}
-use Rattle.std.specs.Prelude.{map}
-use Rattle.std.proofs.lemmas.List.{reverse-append}
-use Rattle.kp_model.specs.World.{LeaderAndIsr, start}
+use Rattle.std.proofs.Common.{◌≡◌, ℕ, zero, suc, List, [], ◌∷◌, ◌++◌, Result, take, refl, sym, ap, ◌∙◌, subst}
+use Rattle.std.specs.Prelude.{map, reverse}
+use Rattle.std.proofs.lemmas.List.{append-nil, append_assoc, map-append, reverse-append}
+use Rattle.kp_types.specs.declared.limits.Limits.{Limits}
+use Rattle.kp_types.specs.declared.refusal.Refusal.{Refusal}
+use Rattle.kp_model.specs.World.{start}
 use Rattle.kp_model.specs.Event.{Event, Outcome}
 use Rattle.kp_model.specs.Run.{Moment, Run, last, extend, IsSafe}
-use Rattle.kp_replica.specs.Member.{Member}
+use Rattle.kp_world.specs.Answers.{outcome_of}
 use Rattle.kp_world.specs.Events.{IsEvent, AreEvents}
+use Rattle.kp_world.specs.declared.event.Answer.{Answer}
 use Rattle.kp_world.specs.declared.event.Event.{Event as CodeEvent}
-use Rattle.kp_world.specs.Plays.{events_of, outcomes_of, IsPlayed}
-use Rattle.kp_world.specs.Shown.{IsShown, LeadsOn}
+use Rattle.kp_world.specs.Plays.{HaveReceipts, IsAnswered, IsReached}
+use Rattle.kp_world.specs.Shown.{HasReceipt, IsShown, Leads, LeadsOn, Stage}
 
--- a run so far, whose last world is shown
-pub record Playing (count max : ℕ) (es : List Event) (os : List Outcome) (c : LeaderAndIsr) (members : List Member) : Type 0 where
-  pub run : Run count
-  pub events_are : events_of run ≡ es
-  pub outcomes_are : outcomes_of run ≡ os
-  pub shown : IsShown max c members (last run)
+-- nothing has happened yet
+pub reached_none : (count : ℕ) (limits : Limits) (stage : Stage) → IsShown limits stage (start count) → IsReached count limits [] [] stage
+reached_none count limits stage shown =
+    record { run = record { moments = []; is_run = tt }; events_are = refl; outcomes_are = refl; receipts = tt; shown = shown }
 
-pub playing_none : (count max : ℕ) (c : LeaderAndIsr) (members : List Member) → IsShown max c members (start count) → Playing count max [] [] c members
-playing_none count max c members shown =
-    record { run = record { moments = []; is_run = tt }; events_are = refl; outcomes_are = refl; shown = shown }
+receipts-push : (moments : List Moment) (outcomes : List (Result Answer Refusal)) (m : Moment) (outcome : Result Answer Refusal) → HaveReceipts moments outcomes
+    → HasReceipt m.event m.after outcome → HaveReceipts (moments ++ m ∷ []) (outcomes ++ outcome ∷ [])
+receipts-push [] [] m outcome h one = (one, tt)
+receipts-push [] (o ∷ os) m outcome h one = absurd h
+receipts-push (x ∷ xs) [] m outcome h one = absurd h
+receipts-push (x ∷ xs) (o ∷ os) m outcome h one = (h.0, receipts-push xs os m outcome h.1 one)
 
-pub playing_more : (count max : ℕ) (es : List Event) (os : List Outcome) (c d : LeaderAndIsr) (members others : List Member) (e : Event) (o : Outcome)
-    → Playing count max es os c members → LeadsOn max c members e o d others → Playing count max (es ++ e ∷ []) (os ++ o ∷ []) d others
-playing_more count max es os c d members others e o p leads =
+-- one event more
+pub reached_more : (count : ℕ) (limits : Limits) (es : List Event) (os : List (Result Answer Refusal)) (old new : Stage) (e : Event) (o : Result Answer Refusal)
+    → IsReached count limits es os old → LeadsOn limits old e o new → IsReached count limits (es ++ e ∷ []) (os ++ o ∷ []) new
+reached_more count limits es os old new e o p leads =
     let next = leads (last p.run) p.shown in
+    let m : Moment = record { event = e; outcome = outcome_of o; after = next.after } in
     record {
-      run = extend p.run e o next.0 next.1;
+      run = extend p.run e (outcome_of o) next.after next.step;
       events_are =
           reverse-append (e ∷ []) (map (λ (m : Moment). m.event) p.run.moments) ∙ ap (λ (xs : List Event). xs ++ e ∷ []) p.events_are;
       outcomes_are =
-          reverse-append (o ∷ []) (map (λ (m : Moment). m.outcome) p.run.moments) ∙ ap (λ (xs : List Outcome). xs ++ o ∷ []) p.outcomes_are;
-      shown = next.2;
+          reverse-append (outcome_of o ∷ []) (map (λ (m : Moment). m.outcome) p.run.moments) ∙ ap (λ (xs : List Outcome). xs ++ outcome_of o ∷ []) p.outcomes_are
+          ∙ sym (map-append outcome_of os (o ∷ []));
+      receipts = subst (λ (ms : List Moment). HaveReceipts ms (os ++ o ∷ [])) (sym (reverse-append (m ∷ []) p.run.moments))
+          (receipts-push (reverse p.run.moments) os m o p.receipts next.receipt);
+      shown = next.shown;
     }
 
-pub played : (count max : ℕ) (es : List Event) (os : List Outcome) (c : LeaderAndIsr) (members : List Member) → ((r : Run count) → IsSafe r) → Playing count max es os c members → IsPlayed count es os
-played count max es os c members safe p =
-    record { run = p.run; events_are = p.events_are; outcomes_are = p.outcomes_are; safe = safe p.run }
+-- what is reached is answered, and safe
+pub answered : (count : ℕ) (limits : Limits) (es : List Event) (os : List (Result Answer Refusal)) (stage : Stage) → ((r : Run count) → IsSafe r) → IsReached count limits es os stage
+    → IsAnswered count es os
+answered count limits es os stage safe p =
+    record { played = record { run = p.run; events_are = p.events_are; outcomes_are = p.outcomes_are; safe = safe p.run }; receipts = p.receipts }
+
+pub nothing_answered : (count : ℕ) → ((r : Run count) → IsSafe r) → IsAnswered count [] []
+nothing_answered count safe =
+    let none : Run count = record { moments = []; is_run = tt } in
+    record { played = record { run = none; events_are = refl; outcomes_are = refl; safe = safe none }; receipts = tt }
 
 -- ---- the events of the definitions beside those of the code
 
@@ -69,7 +85,8 @@ pub AreEvents-none : (max : ℕ) (es : List Event) → AreEvents max [] es → e
 AreEvents-none max [] h = refl
 AreEvents-none max (e ∷ es) h = absurd h
 
-pub nothing_played : (count : ℕ) → ((r : Run count) → IsSafe r) → IsPlayed count [] []
-nothing_played count safe =
-    let none : Run count = record { moments = []; is_run = tt } in
-    record { run = none; events_are = refl; outcomes_are = refl; safe = safe none }
+-- none before none
+pub reached_again : (count : ℕ) (limits : Limits) (before es : List Event) (os : List (Result Answer Refusal)) (stage : Stage) → es ≡ []
+    → IsReached count limits before os stage → IsReached count limits (before ++ es) os stage
+reached_again count limits before es os stage none h =
+    subst (λ (xs : List Event). IsReached count limits xs os stage) (sym (ap (λ (xs : List Event). before ++ xs) none ∙ append-nil before)) h

@@ -2,25 +2,32 @@
 use Rattle.std.proofs.Common.{◌≡◌, ℕ, [], ◌∷◌, Result, refl, sym, ap, ◌∙◌}
 use Rattle.kp_types.specs.declared.refusal.Refusal.{Refusal}
 use Rattle.kp_batch.specs.Batch.{Body}
-use Rattle.kp_model.specs.Event.{Event as ModelEvent, Elect as ElectNode, Acts, Adopt as AdoptRecord, Produce as ProduceBatch, Raise as RaiseMark, Show as ShowState, Read as ReadFrom, Committed as ReadCommitted}
+use Rattle.kp_model.specs.Event as model
 use Rattle.kp_replica.specs.Offers.{BytesAreAnOffer, OffersAreOne}
 use Rattle.kp_replica.specs.Replies.{mark_of}
 use Rattle.kp_world.specs.declared.event.Event.{Event}
-use Rattle.kp_world.specs.declared.event.Event.TheVariants.{Elect, Adopt, Produce, Mark, Raise, Show, Read, Committed}
-use Rattle.kp_world.specs.Events.{IsEvent, HasBytes}
+use Rattle.kp_world.specs.declared.event.Event.TheVariants.{Elect, Acts}
+use Rattle.kp_world.specs.declared.event.Act.{Act}
+use Rattle.kp_world.specs.declared.event.Act.TheVariants.{Adopt, Produce, Mark, Raise, Show, Read, Committed}
+use Rattle.kp_world.specs.Events.{HandsBytes, HasBytes, IsAct, IsEvent}
 use Rattle.kp_world.specs.Laws.{EventsAreTold, EventsAreToldOnce}
 
-event_told : BytesAreAnOffer → (max : ℕ) (event : Event) → HasBytes event → (e : ModelEvent) × IsEvent max event e
-event_told some max (Elect node) h = (ElectNode node, refl)
-event_told some max (Adopt node) h = (Acts node AdoptRecord, refl)
-event_told some max (Produce node bytes) h =
+act_told : BytesAreAnOffer → (max : ℕ) (act : Act) → HandsBytes act → (a : model.Act) × IsAct max act a
+act_told some max Adopt h = (model.Adopt, refl)
+act_told some max (Produce bytes) h =
     let offered = some max bytes h in
-    (Acts node (ProduceBatch offered.0), (offered.0, offered.1, refl))
-event_told some max (Mark node marker) h = (Acts node (mark_of marker), refl)
-event_told some max (Raise node) h = (Acts node RaiseMark, refl)
-event_told some max (Show node) h = (Acts node ShowState, refl)
-event_told some max (Read node from) h = (Acts node (ReadFrom from), refl)
-event_told some max (Committed node from) h = (Acts node (ReadCommitted from), refl)
+    (model.Produce offered.0, (offered.0, offered.1, refl))
+act_told some max (Mark marker) h = (mark_of marker, refl)
+act_told some max Raise h = (model.Raise, refl)
+act_told some max Show h = (model.Show, refl)
+act_told some max (Read from) h = (model.Read from, refl)
+act_told some max (Committed from) h = (model.Committed from, refl)
+
+event_told : BytesAreAnOffer → (max : ℕ) (event : Event) → HasBytes event → (e : model.Event) × IsEvent max event e
+event_told some max (Elect node) h = (model.Elect node, refl)
+event_told some max (Acts node act) h =
+    let told = act_told some max act h in
+    (model.Acts node told.0, (told.0, told.1, refl))
 
 pub events_told : BytesAreAnOffer → EventsAreTold
 events_told some max [] h = ([], tt)
@@ -29,16 +36,20 @@ events_told some max (event ∷ events) h =
     let others = events_told some max events h.1 in
     (first.0 ∷ others.0, (first.1, others.1))
 
-event_told_once : OffersAreOne → (max : ℕ) (event : Event) (e d : ModelEvent) → HasBytes event → IsEvent max event e → IsEvent max event d → e ≡ d
+act_told_once : OffersAreOne → (max : ℕ) (act : Act) (a b : model.Act) → HandsBytes act → IsAct max act a → IsAct max act b → a ≡ b
+act_told_once one max Adopt a b h is was = is ∙ sym was
+act_told_once one max (Produce bytes) a b h (offer, of, is) (other, from, was) =
+    is ∙ ap (λ (o : Result Body Refusal). model.Produce o) (one max bytes offer other h of from) ∙ sym was
+act_told_once one max (Mark marker) a b h is was = is ∙ sym was
+act_told_once one max Raise a b h is was = is ∙ sym was
+act_told_once one max Show a b h is was = is ∙ sym was
+act_told_once one max (Read from) a b h is was = is ∙ sym was
+act_told_once one max (Committed from) a b h is was = is ∙ sym was
+
+event_told_once : OffersAreOne → (max : ℕ) (event : Event) (e d : model.Event) → HasBytes event → IsEvent max event e → IsEvent max event d → e ≡ d
 event_told_once one max (Elect node) e d h a b = a ∙ sym b
-event_told_once one max (Adopt node) e d h a b = a ∙ sym b
-event_told_once one max (Produce node bytes) e d h (offer, is, a) (other, was, b) =
-    a ∙ ap (λ (o : Result Body Refusal). Acts node (ProduceBatch o)) (one max bytes offer other h is was) ∙ sym b
-event_told_once one max (Mark node marker) e d h a b = a ∙ sym b
-event_told_once one max (Raise node) e d h a b = a ∙ sym b
-event_told_once one max (Show node) e d h a b = a ∙ sym b
-event_told_once one max (Read node from) e d h a b = a ∙ sym b
-event_told_once one max (Committed node from) e d h a b = a ∙ sym b
+event_told_once one max (Acts node act) e d h (a, told, is) (b, other, was) =
+    is ∙ ap (λ (x : model.Act). model.Acts node x) (act_told_once one max act a b h told other) ∙ sym was
 
 pub events_told_once : OffersAreOne → EventsAreToldOnce
 events_told_once one max [] [] [] h a b = refl

@@ -5,7 +5,6 @@ use Rattle.std.specs.Global.{Vec}
 use Rattle.kp_types.specs.declared.refusal.Refusal.{Refusal}
 use Rattle.kp_model.specs.Event.{Line as ModelLine, Reply, Refused, Changed as RecordChanged, MarkAt, Shown as StateShown, Lines as LinesRead, Outcome}
 use Rattle.kp_model.specs.Step.{told}
-use Rattle.kp_replica.specs.declared.record.Record.{Record}
 use Rattle.kp_replica.specs.Set.{record_of}
 use Rattle.kp_replica.specs.Replies.{role_reply, receipt_reply}
 use Rattle.kp_world.specs.declared.event.Line.{Line}
@@ -30,11 +29,6 @@ reply_of (Err refusal) = Refused refusal
 -- no event of this stage sends a message
 abbrev pub outcome_of : Result Answer Refusal → Outcome
 outcome_of result = told (reply_of result)
-
--- the reply to an election
-abbrev pub record_reply : Result Record Refusal → Reply
-record_reply (Ok controller) = RecordChanged (record_of controller)
-record_reply (Err refusal) = Refused refusal
 
 -- the reply to a read
 abbrev pub lines_reply : Result (Vec Line) Refusal → Reply

@@ -1,7 +1,12 @@
 -- A run over events, with its answers.
-use Rattle.std.specs.Prelude.{◌≡◌, ℕ, List, map, reverse}
+use Rattle.std.specs.Prelude.{◌≡◌, ℕ, List, [], ◌∷◌, map, reverse, Result}
+use Rattle.kp_types.specs.declared.limits.Limits.{Limits}
+use Rattle.kp_types.specs.declared.refusal.Refusal.{Refusal}
 use Rattle.kp_model.specs.Event.{Event, Outcome}
-use Rattle.kp_model.specs.Run.{Run, IsSafe}
+use Rattle.kp_model.specs.Run.{Moment, Run, IsSafe, last}
+use Rattle.kp_world.specs.declared.event.Answer.{Answer}
+use Rattle.kp_world.specs.Answers.{outcome_of}
+use Rattle.kp_world.specs.Shown.{HasReceipt, IsShown, Stage}
 
 -- the events of the run, the oldest first
 abbrev pub events_of : {count : ℕ} → Run count → List Event
@@ -16,3 +21,23 @@ pub record IsPlayed (count : ℕ) (events : List Event) (outcomes : List Outcome
   pub events_are : events_of run ≡ events
   pub outcomes_are : outcomes_of run ≡ outcomes
   pub safe : IsSafe run
+
+-- the batch that a receipt names stands in its node's log once it is answered, at each moment, the oldest first
+abbrev pub HaveReceipts : List Moment → List (Result Answer Refusal) → Type 0
+HaveReceipts [] [] = Unit {0}
+HaveReceipts [] (outcome ∷ outcomes) = ⊥
+HaveReceipts (m ∷ moments) [] = ⊥
+HaveReceipts (m ∷ moments) (outcome ∷ outcomes) = HasReceipt m.event m.after outcome × HaveReceipts moments outcomes
+
+-- Such a run, with the code's answers, each receipt of which names a batch that was appended in it.
+pub record IsAnswered (count : ℕ) (events : List Event) (outcomes : List (Result Answer Refusal)) : Type 0 where
+  pub played : IsPlayed count events (map outcome_of outcomes)
+  pub receipts : HaveReceipts (reverse played.run.moments) outcomes
+
+-- Such a run, whose last world is shown.
+pub record IsReached (count : ℕ) (limits : Limits) (events : List Event) (outcomes : List (Result Answer Refusal)) (stage : Stage) : Type 0 where
+  pub run : Run count
+  pub events_are : events_of run ≡ events
+  pub outcomes_are : outcomes_of run ≡ map outcome_of outcomes
+  pub receipts : HaveReceipts (reverse run.moments) outcomes
+  pub shown : IsShown limits stage (last run)

@@ -1,23 +1,53 @@
 -- What the program's record and replicas show of a world.
-use Rattle.std.specs.Prelude.{◌≡◌, ℕ, ◌<◌, List, length, slice_index_or}
+use Rattle.std.specs.Prelude.{◌≡◌, ℕ, ◌<◌, List, length, slice_index_or, Result, Ok, Err, Contains}
+use Rattle.kp_types.specs.declared.limits.Limits.{Limits}
+use Rattle.kp_types.specs.declared.refusal.Refusal.{Refusal}
+use Rattle.kp_model.specs.Log.{Batch}
 use Rattle.kp_model.specs.World.{LeaderAndIsr, Node, World}
-use Rattle.kp_model.specs.Event.{Event, Outcome}
+use Rattle.kp_model.specs.Event.{Event, Elect, Acts, Deliver}
 use Rattle.kp_model.specs.Step.{Step}
 use Rattle.kp_replica.specs.Member.{Member}
+use Rattle.kp_replica.specs.Replies.{IsNamedBy}
+use Rattle.kp_world.specs.Answers.{outcome_of}
+use Rattle.kp_world.specs.declared.event.Answer.{Answer}
+use Rattle.kp_world.specs.declared.event.Answer.TheVariants.{Appended}
 
--- the node of this number, which takes batches of at most so many bytes
-pub record IsNode (max number : ℕ) (m : Member) (x : Node) : Type 0 where
+-- the controller's record, and the nodes by their numbers
+pub record Stage : Type 0 where
+  pub controller : LeaderAndIsr
+  pub members : List Member
+
+-- the node of this number, whose log has these limits
+pub record IsNode (limits : Limits) (number : ℕ) (m : Member) (x : Node) : Type 0 where
   pub number_is : m.number ≡ number
-  pub limit : m.max_batch ≡ max
+  pub limits_are : m.limits ≡ limits
   pub state : x ≡ m.state
 
 -- the world has this record and these nodes, each at the place of its number
-pub record IsShown (max : ℕ) (controller : LeaderAndIsr) (members : List Member) (w : World) : Type 0 where
-  pub controller_is : w.controller ≡ controller
-  pub count : w.count ≡ length members
-  pub nodes : (n : ℕ) (d : Member) → n < length members → IsNode max n (slice_index_or members n d) (w.nodes n)
+pub record IsShown (limits : Limits) (stage : Stage) (w : World) : Type 0 where
+  pub controller_is : w.controller ≡ stage.controller
+  pub count : w.count ≡ length stage.members
+  pub nodes : (n : ℕ) (d : Member) → n < length stage.members → IsNode limits n (slice_index_or stage.members n d) (w.nodes n)
 
--- From each world that was shown the event leads, with this outcome, to one that is shown now.
-abbrev pub LeadsOn : ℕ → LeaderAndIsr → List Member → Event → Outcome → LeaderAndIsr → List Member → Type 0
-LeadsOn max controller members event outcome changed others =
-    (w : World) → IsShown max controller members w → (new : World) × Step w event outcome new × IsShown max changed others new
+-- a receipt names a batch that stands in this log: base and last offset, and leader epoch
+abbrev pub KeepsReceipt : List Batch → Result Answer Refusal → Type 0
+KeepsReceipt log (Ok (Appended receipt)) = (b : Batch) × Contains log b × IsNamedBy receipt b
+KeepsReceipt log (Ok _) = Unit {0}
+KeepsReceipt log (Err refusal) = Unit {0}
+
+-- in the log of the node that answers
+abbrev pub HasReceipt : Event → World → Result Answer Refusal → Type 0
+HasReceipt (Elect n) w outcome = Unit {0}
+HasReceipt (Acts n act) w outcome = KeepsReceipt (w.nodes n).log outcome
+HasReceipt (Deliver n number) w outcome = Unit {0}
+
+-- From each world that was shown the event leads, with this answer, to one that is shown now, in which a receipt's batch
+-- stands.
+pub record Leads (limits : Limits) (w : World) (event : Event) (outcome : Result Answer Refusal) (stage : Stage) : Type 0 where
+  pub after : World
+  pub step : Step w event (outcome_of outcome) after
+  pub receipt : HasReceipt event after outcome
+  pub shown : IsShown limits stage after
+
+abbrev pub LeadsOn : Limits → Stage → Event → Result Answer Refusal → Stage → Type 0
+LeadsOn limits old event outcome new = (w : World) → IsShown limits old w → Leads limits w event outcome new

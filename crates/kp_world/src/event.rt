@@ -10,23 +10,29 @@ use kp_types::{NodeId, Offset, Refusal};
 pub enum Event {
     /// The controller elects this node.
     Elect { node: NodeId },
-    /// The node takes up the controller's record.
-    Adopt { node: NodeId },
-    /// A client hands the node these bytes, to be appended as a batch.
-    Produce { node: NodeId, bytes: Bytes },
-    /// A transaction coordinator hands the node this marker, to be appended. Its fields lie in their ranges:
-    /// `producer_id` below 2^63, `producer_epoch` below 2^15, `coordinator_epoch` below 2^31, `timestamp` below 2^62.
-    /// (KIP-98.)
-    Mark { node: NodeId, marker: Marker },
-    /// The node raises its high watermark, as far as it may.
-    Raise { node: NodeId },
-    /// The node tells its state.
-    Show { node: NodeId },
-    /// The node reads the records from this offset on that lie below its high watermark.
-    Read { node: NodeId, from: Offset },
-    /// The node reads, of the records from this offset on that lie below its last stable offset, those that no aborted
+    /// The node does this.
+    Acts { node: NodeId, act: Act },
+}
+
+/// What a node does.
+#[derive(Drop)]
+pub enum Act {
+    /// It takes up the controller's record.
+    Adopt,
+    /// A client hands it these bytes, to be appended as a batch.
+    Produce { bytes: Bytes },
+    /// A transaction coordinator hands it this marker, to be appended. Its fields lie in their ranges: `producer_id`
+    /// below 2^63, `producer_epoch` below 2^15, `coordinator_epoch` below 2^31, `timestamp` below 2^62. (KIP-98.)
+    Mark { marker: Marker },
+    /// It raises its high watermark, as far as it may.
+    Raise,
+    /// It tells its state.
+    Show,
+    /// It reads the records from this offset on that lie below its high watermark.
+    Read { from: Offset },
+    /// It reads, of the records from this offset on that lie below its last stable offset, those that no aborted
     /// transaction has. (KIP-98, `read_committed`.)
-    Committed { node: NodeId, from: Offset },
+    Committed { from: Offset },
 }
 
 /// A record as a reader gets it.

@@ -5,12 +5,13 @@
 
 ghost use Rattle.kp_world.specs.Laws.{EventsAreTold, EventsAreToldOnce};
 
+mod acting;
 mod event;
 mod read;
 mod world;
 
-pub use event::{Answer, Event, Line, Stopped, Trace};
-pub use world::run;
+pub use event::{Act, Answer, Event, Line, Stopped, Trace};
+pub use world::{World, run};
 
 /// Every list of events, in which numbers below 256 are handed in, is a list of events of the definitions, and of
 /// one only: the bytes that a client hands in are one offer. It is what [`run`] speaks of. It costs nothing.

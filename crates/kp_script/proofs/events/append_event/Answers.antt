@@ -35,5 +35,5 @@ returns-clause-told c = λ max.
     record {
       e = Acts c.args.node (Produce offer);
       told = refl;
-      is = (offer, offers max c.in_ok-bytes.bytes time sender transactional values parts c.requires.sender records spelled, refl);
+      is = (Produce offer, (offer, offers max c.in_ok-bytes.bytes time sender transactional values parts c.requires.sender records spelled, refl), refl);
     }

@@ -13,5 +13,5 @@ returns-clause-told c = λ max.
     record {
       e = Acts c.args.node (Produce o.0);
       told = (o.0, o.1, refl);
-      is = (o.0, subst (λ (bytes : List ℕ). IsOffer max bytes o.0) (sym same) o.1, refl);
+      is = (Produce o.0, (o.0, subst (λ (bytes : List ℕ). IsOffer max bytes o.0) (sym same) o.1, refl), refl);
     }

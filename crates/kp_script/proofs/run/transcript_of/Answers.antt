@@ -44,7 +44,7 @@ returns-clause-told c =
       events = told.es;
       told = told.told;
       outcomes = map outcome_of outcomes;
-      played = c.in-Ok.ensures.played told.es taken;
+      played = (c.in-Ok.ensures.played told.es taken).played;
       text_is =
           c.in_ok-text.ensures ∙ ap (λ (xs : List (ℕ × ℕ)). trace_text xs (map outcome_of c.deref-4.result.now)) numbered
           ∙ ap (λ (os : List (Result Answer Refusal)). trace_text (map (λ call. (call.0, node_of call.1)) script.calls) (map outcome_of os)) c.deref-4.ensures.value;

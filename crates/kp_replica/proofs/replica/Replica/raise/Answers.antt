@@ -33,7 +33,7 @@ invariant_of-self c =
       unsettled = subst (AreAbove mark) (sym c.settle.ensures.left) (above_left mark c.self.inside.entries);
       epochs = subst (λ (l : List Batch). HasEpochs l m.state.mode) same c.self.invariant.epochs;
       boundary = subst (λ (l : List Batch). IsBoundary l mark) same raised.0;
-      settled = omega (arith, c.settle.ensures.settled, c.self.invariant.settled, raised.1);
+      settled = c.settle.ensures.reached raised.0 (omega (arith, c.self.invariant.settled, raised.1));
     }
 
 pub returns : goal.returns
@@ -44,8 +44,8 @@ returns c =
     let is = raised_either m.number m.state l mark refl
     (λ e. c.raised-watermark.ensures.alone e ∙ ap (λ (end : ℕ). max m.state.watermark end) c.end_offset-end.ensures.value)
     c.raised-watermark.ensures.among in
-    let P : Member → List Batch → Type 0 =
-    λ x log. Does x (record m { state = record m.state { log = log; watermark = mark } }) Raise (MarkAt mark) in
-    subst (λ (x : Member). P x c.settle.new.log.log) c.self.view_is
-    (subst (λ (log : List Batch). P m log) (ap (λ (p : Partition). p.log) (sym c.settle.ensures.same_log))
+    let P : Member → Partition → Type 0 =
+    λ x p. Does x (record { number = m.number; limits = p.limits; state = record m.state { log = p.log; watermark = mark } }) Raise (MarkAt mark) in
+    subst (λ (x : Member). P x c.settle.new.log) c.self.view_is
+    (subst (λ (p : Partition). P m p) (sym c.settle.ensures.same_log)
     (λ r. (raises r m.number m.state l mark (ap mode_of c.in-Leads.is) is, (refl, refl))))

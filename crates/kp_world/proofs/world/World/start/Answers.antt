@@ -1,6 +1,7 @@
 use Rattle.std.proofs.Common.{◌≡◌, ℕ, ◌+◌, ◌<◌, List, [], ◌∷◌, ◌++◌, length, get_or, arith, sym, ap, ◌∙◌, subst, inl, inr}
 use Rattle.std.proofs.lemmas.Bool.{cases_lt}
 use Rattle.std.proofs.lemmas.List.{length_push, get_or_append_left, get_or_push}
+use Rattle.kp_types.specs.declared.limits.Limits.{Limits}
 use Rattle.kp_model.specs.World.{fresh}
 use Rattle.kp_replica.specs.Member.{Member}
 use Rattle.kp_world.specs.Shown.{IsNode}
@@ -14,19 +15,19 @@ returns-clause-shown c = record {
 }
 
 -- one node more, of the next number
-node_more : (max number : ℕ) (members : List Member) (new : Member) → length members ≡ number → new ≡ record { number = number; max_batch = max; state = fresh }
-    → ((n : ℕ) (d : Member) → n < number → IsNode max n (get_or members n d) fresh) → (n : ℕ) (d : Member) → n < number + 1 → IsNode max n (get_or (members ++ new ∷ []) n d) fresh
-node_more max number members new count is nodes n d below =
+node_more : (limits : Limits) (number : ℕ) (members : List Member) (new : Member) → length members ≡ number → new ≡ record { number = number; limits = limits; state = fresh }
+    → ((n : ℕ) (d : Member) → n < number → IsNode limits n (get_or members n d) fresh) → (n : ℕ) (d : Member) → n < number + 1 → IsNode limits n (get_or (members ++ new ∷ []) n d) fresh
+node_more limits number members new count is nodes n d below =
     elim (cases_lt n number) [
       | inl before ↦
           let same = get_or_append_left members (new ∷ []) d n (omega (arith, count, before)) in
-          subst (λ (m : Member). IsNode max n m fresh) (sym same) (nodes n d before)
+          subst (λ (m : Member). IsNode limits n m fresh) (sym same) (nodes n d before)
       | inr behind ↦
           let at : n ≡ number = omega (arith, behind, below) in
           let last = get_or_push members new d n (count ∙ sym at) ∙ is in
           record {
             number_is = ap (λ (m : Member). m.number) last ∙ sym at;
-            limit = ap (λ (m : Member). m.max_batch) last;
+            limits_are = ap (λ (m : Member). m.limits) last;
             state = sym (ap (λ (m : Member). m.state) last);
           }
     ]
@@ -37,6 +38,6 @@ loop-number-preserved c =
     record {
       count = ap length c.in_ok-push.ensures.items ∙ length_push members c.new.result ∙ ap (λ (k : ℕ). k + 1) c.loop-number.invariant.count;
       nodes = λ n d below.
-          subst (λ (l : List Member). IsNode c.args.limits.now.max_batch n (get_or l n d) fresh) (sym c.in_ok-push.ensures.items)
-          (node_more c.args.limits.now.max_batch c.loop-number.number members c.new.result c.loop-number.invariant.count c.new.ensures c.loop-number.invariant.nodes n d below);
+          subst (λ (l : List Member). IsNode c.args.limits.now n (get_or l n d) fresh) (sym c.in_ok-push.ensures.items)
+          (node_more c.args.limits.now c.loop-number.number members c.new.result c.loop-number.invariant.count c.new.ensures c.loop-number.invariant.nodes n d below);
     }

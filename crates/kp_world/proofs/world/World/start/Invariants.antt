@@ -7,5 +7,5 @@ use Rattle.kp_world.proofs.world.World.start.Given as goal
 abbrev pub invariant-loop-number : goal.invariant-loop-number
 invariant-loop-number l = record {
   count : length l.replicas.items ≡ l.number;
-  nodes : (n : ℕ) (d : Member) → n < l.number → IsNode l.limits.max_batch n (get_or l.replicas.items n d) fresh;
+  nodes : (n : ℕ) (d : Member) → n < l.number → IsNode l.limits n (get_or l.replicas.items n d) fresh;
 }

@@ -1,0 +1,41 @@
+use Rattle.std.proofs.Common.{◌≡◌, ℕ, List, Result, Ok, Err, length, set, sym, ap, ◌∙◌, subst, arith}
+use Rattle.std.specs.Prelude.{IfOk}
+use Rattle.kp_types.specs.declared.limits.Limits.{Limits}
+use Rattle.kp_model.specs.Event as model
+use Rattle.kp_model.specs.World.{Message}
+use Rattle.kp_model.specs.Step.{IsGiven}
+use Rattle.kp_replica.specs.Set.{record_of}
+use Rattle.kp_world.specs.Events.{IsAct}
+use Rattle.kp_world.specs.Shown.{LeadsOn, Stage}
+use Rattle.kp_world.specs.declared.event.Act.{Act}
+use Rattle.kp_world.specs.declared.event.Act.TheVariants.{Adopt, Produce, Mark, Raise, Show, Read, Committed}
+use Rattle.kp_world.proofs.Moved.{acted}
+use Rattle.kp_world.proofs.world.World.acts.Goals as goal
+
+-- none of these is handed a message
+given : (max : ℕ) (act : Act) (a : model.Act) (messages : List Message) → IsAct max act a → IsGiven messages a
+given max Adopt a messages is = subst (IsGiven messages) (sym is) tt
+given max (Produce bytes) a messages (offer, of, is) = subst (IsGiven messages) (sym is) tt
+given max (Mark marker) a messages is = subst (IsGiven messages) (sym is) tt
+given max Raise a messages is = subst (IsGiven messages) (sym is) tt
+given max Show a messages is = subst (IsGiven messages) (sym is) tt
+given max (Read from) a messages is = subst (IsGiven messages) (sym is) tt
+given max (Committed from) a messages is = subst (IsGiven messages) (sym is) tt
+
+with_both : {A E : Type 0} (r : Result A E) (P Q R : A → Type 0) → ((x : A) → P x → Q x → R x) → IfOk r P → IfOk r Q → IfOk r R
+with_both (Ok x) P Q R both p q = both x p q
+with_both (Err e) P Q R both p q = tt
+
+pub returns-clause-step : goal.returns-clause-step
+returns-clause-step c =
+    let x = c.index_mut-replica.result.now in
+    let r = record_of c.self.inside.controller in
+    let members = c.self.inside.replicas.items in
+    let inside = ap (λ (stage : Stage). length stage.members) c.self.view_is in
+    with_both c.act.result _ _ _ (λ outcome does receipt limits a is.
+    let new : Stage = record { controller = r; members = set members c.from.result c.act.new.replica } in
+    subst (λ (stage : Stage). LeadsOn limits stage (model.Acts c.args.node a) outcome new) c.self.view_is
+    (acted limits c.args.node c.from.result r members x c.act.new.replica a outcome c.from.ensures (omega (arith, inside, c.requires.node))
+    c.index_mut-replica.ensures.value (λ w. given limits.max_batch c.args.what.now a w.messages is)
+    (λ same. does a (subst (λ (l : Limits). IsAct l.max_batch c.args.what.now a) (sym same) is)) receipt))
+    c.act.ensures.does c.act.ensures.receipt
