@@ -51,25 +51,6 @@ fn explain<W: Write, E: Write>(error: &Error, out: &mut Counted<W>, err: &mut Co
     }
 }
 
-/// Opens the call's file and does the call.
-fn perform_call<F: Files, W: Write, E: Write>(
-    alloc: Global,
-    call: &Call,
-    files: &F,
-    out: &mut Counted<W>,
-    err: &mut Counted<E>,
-) -> u8
-    requires writes { faults_of out.old + 1 < 2 ^ 64 }
-    requires complaints { faults_of err.old + 1 < 2 ^ 64 }
-    ensures { Ends (F.opens files.now) F.File.remaining W.contents E.contents (Asks call.now)
-        out.old out.new err.old err.new result }
-{
-    match files.open(call.file()) {
-        Ok(file) => perform(alloc, call, &mut Counted::new(file), out, err),
-        Err(reason) => refuse_file(err, call, reason),
-    }
-}
-
 /// Does what the words ask for, of which the first is the program's name, and answers the exit status: that of
 /// [`perform`] for a call whose file is open; 1 where the file can't be opened, with a second line on standard error that
 /// says which and why; 0 for help and the version, which go to standard output; 2 for a mistake in the words, which goes
@@ -92,8 +73,12 @@ pub fn main_with<F: Files, W: Write, E: Write>(
         Ok(words) => words,
         Err(refusal) => return refuse(err, refusal),
     };
-    match call_of(alloc, words.as_slice()) {
-        Ok(call) => perform_call(alloc, &call, files, out, err),
-        Err(error) => explain(&error, out, err),
+    let call = match call_of(alloc, words.as_slice()) {
+        Ok(call) => call,
+        Err(error) => return explain(&error, out, err),
+    };
+    match files.open(call.file()) {
+        Ok(file) => perform(alloc, &call, &mut Counted::new(file), out, err),
+        Err(reason) => refuse_file(err, &call, reason),
     }
 }

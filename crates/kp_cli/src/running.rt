@@ -66,57 +66,6 @@ pub fn refuse<E: Write>(err: &mut Counted<E>, refusal: Refusal) -> u8
     }
 }
 
-/// Runs the script that the reader has left.
-fn run_file<R: Read, W: Write, E: Write>(
-    alloc: Global,
-    reader: &mut Counted<R>,
-    out: &mut Counted<W>,
-    err: &mut Counted<E>,
-) -> u8
-    requires reads { faults_of reader.old + 1 < 2 ^ 64 }
-    requires writes { faults_of out.old + 1 < 2 ^ 64 }
-    requires complaints { faults_of err.old + 1 < 2 ^ 64 }
-    ensures { (outcome : Result ℕ SomeRefusal)
-        × RunsScript (R.remaining (device_of reader.old))
-        (W.contents (device_of out.old)) (W.contents (device_of out.new)) outcome
-        × CountsOne outcome (faults_of reader.old) (faults_of reader.new)
-        (faults_of out.old) (faults_of out.new)
-        × Complains E.contents err.old err.new outcome
-        × result ≡ status_of outcome }
-{
-    match run_script(alloc, reader, out) {
-        Ok(0) => 0,
-        Ok(_) => 1,
-        Err(refusal) => refuse(err, refusal),
-    }
-}
-
-/// Inspects the log that the reader has left.
-fn inspect_file<R: Read, W: Write, E: Write>(
-    alloc: Global,
-    limits: &Limits,
-    reader: &mut Counted<R>,
-    out: &mut Counted<W>,
-    err: &mut Counted<E>,
-) -> u8
-    requires reads { faults_of reader.old + 1 < 2 ^ 64 }
-    requires writes { faults_of out.old + 1 < 2 ^ 64 }
-    requires complaints { faults_of err.old + 1 < 2 ^ 64 }
-    ensures { (outcome : Result ℕ SomeRefusal)
-        × Inspects limits.now (R.remaining (device_of reader.old))
-        (W.contents (device_of out.old)) (W.contents (device_of out.new)) outcome
-        × CountsOne outcome (faults_of reader.old) (faults_of reader.new)
-        (faults_of out.old) (faults_of out.new)
-        × Complains E.contents err.old err.new outcome
-        × result ≡ status_of outcome }
-{
-    match inspect(alloc, reader, out, limits) {
-        Ok(None) => 0,
-        Ok(Some(_)) => 1,
-        Err(refusal) => refuse(err, refusal),
-    }
-}
-
 /// Does what the call asks for, with the opened file as the reader, and answers the exit status: 0 where no
 /// event was refused and no fault was found, 1 where one or more were and for F32 and F33, 2 for F31. The trace
 /// or the dump goes to standard output and a refusal of the whole call to standard error; with F31 nothing
@@ -140,7 +89,11 @@ pub fn perform<R: Read, W: Write, E: Write>(
         × result ≡ status_of outcome }
 {
     match call {
-        Call::Run { .. } => run_file(alloc, reader, out, err),
+        Call::Run { .. } => match run_script(alloc, reader, out) {
+            Ok(0) => 0,
+            Ok(_) => 1,
+            Err(refusal) => refuse(err, refusal),
+        },
         Call::Inspect {
             segment_bytes,
             index_interval,
@@ -151,7 +104,11 @@ pub fn perform<R: Read, W: Write, E: Write>(
                 index_interval: *index_interval,
                 max_batch: MAX_BATCH,
             };
-            inspect_file(alloc, &limits, reader, out, err)
+            match inspect(alloc, reader, out, &limits) {
+                Ok(None) => 0,
+                Ok(Some(_)) => 1,
+                Err(refusal) => refuse(err, refusal),
+            }
         }
     }
 }

@@ -9,6 +9,7 @@ pub mod Refusing
 pub mod HexLaws
 pub mod Values
 pub mod Senders
+pub mod Verbs
 pub mod Markers
 pub mod Spelling
 pub mod Sizes

@@ -1,10 +1,10 @@
 -- Laws of a marker's fields: each line spells one marker at most.
-use Rattle.std.proofs.Common.{◌≡◌, ℕ, ◌<◌, ◌^◌, Bool, true, false, List, [], ◌∷◌, ◌++◌, get_or, refl, ap, ◌∙◌, arith, codes}
+use Rattle.std.proofs.Common.{◌≡◌, ℕ, ◌<◌, ◌^◌, Bool, true, false, List, [], ◌∷◌, ◌++◌, get_or, refl, ap, ◌∙◌, arith}
 use Rattle.std.specs.Fmt.{decimal}
 use Rattle.kp_marker.specs.Marker.{commits, kind_of}
 use Rattle.kp_marker.specs.declared.parts.Marker.{Marker}
 use Rattle.kp_world.specs.Events.{IsInRange}
-use Rattle.kp_script.specs.Call.{Mark, IsCallInRange, call_text, ending_text}
+use Rattle.kp_script.specs.Call.{Mark, IsCallInRange, fields_text, ending_text}
 use Rattle.kp_script.specs.Read.{marker_text}
 use Rattle.kp_script.proofs.Numbers.{same_field}
 
@@ -20,9 +20,9 @@ abbrev pub handed_marker : (time producer epoch coordinator : ℕ) → (commit :
 handed_marker time producer epoch coordinator commit =
     record { producer_id = producer; producer_epoch = epoch; coordinator_epoch = coordinator; kind = kind_of commit; timestamp = time }
 
--- a call's text is its word, its node and its marker
+-- a call's fields are its node and its marker's
 pub handed_text : (node time producer epoch coordinator : ℕ) (commit : Bool) →
-    call_text (Mark node time producer epoch coordinator commit) ≡ codes "mark " ++ (decimal node ++ 32 ∷ marker_text (handed_marker time producer epoch coordinator commit))
+    fields_text (Mark node time producer epoch coordinator commit) ≡ decimal node ++ 32 ∷ marker_text (handed_marker time producer epoch coordinator commit)
 handed_text node time producer epoch coordinator true = refl
 handed_text node time producer epoch coordinator false = refl
 
@@ -48,13 +48,13 @@ abbrev pub after_time : (producer epoch coordinator : ℕ) → List ℕ → List
 after_time producer epoch coordinator ending =
     decimal producer ++ 32 ∷ (decimal epoch ++ 32 ∷ (decimal coordinator ++ 32 ∷ ending))
 
-abbrev pub fields_text : (time producer epoch coordinator : ℕ) → List ℕ → List ℕ
-fields_text time producer epoch coordinator ending = decimal time ++ 32 ∷ after_time producer epoch coordinator ending
+abbrev pub from_time : (time producer epoch coordinator : ℕ) → List ℕ → List ℕ
+from_time time producer epoch coordinator ending = decimal time ++ 32 ∷ after_time producer epoch coordinator ending
 
 same_mark_fields : (t u p q e f c d : ℕ) (x y : Bool) → t < 2 ^ 64 → u < 2 ^ 64 → p < 2 ^ 64 → q < 2 ^ 64 → e < 2 ^ 64 → f < 2 ^ 64 → c < 2 ^ 64 → d < 2 ^ 64 →
-    fields_text t p e c (ending_text x) ≡ fields_text u q f d (ending_text y) → SameFields t u p q e f c d x y
+    from_time t p e c (ending_text x) ≡ from_time u q f d (ending_text y) → SameFields t u p q e f c d x y
 same_mark_fields t u p q e f c d x y t1 u1 p1 q1 e1 f1 c1 d1 same =
-    let first = same_field [] (fields_text t p e c (ending_text x)) t u _ _ t1 u1 refl same in
+    let first = same_field [] (from_time t p e c (ending_text x)) t u _ _ t1 u1 refl same in
     let second = same_field [] (after_time p e c (ending_text x)) p q _ _ p1 q1 refl first.1 in
     let third = same_field [] (decimal e ++ 32 ∷ (decimal c ++ 32 ∷ ending_text x)) e f _ _ e1 f1 refl second.1 in
     let fourth = same_field [] (decimal c ++ 32 ∷ ending_text x) c d _ _ c1 d1 refl third.1 in
@@ -65,10 +65,10 @@ same_mark m n t u p q e f c d x y same fields =
     ap (λ (k : ℕ). Mark k t p e c x) same ∙ ap (λ (k : ℕ). Mark n k p e c x) fields.time ∙ ap (λ (k : ℕ). Mark n u k e c x) fields.producer
     ∙ ap (λ (k : ℕ). Mark n u q k c x) fields.epoch ∙ ap (λ (k : ℕ). Mark n u q f k x) fields.coordinator ∙ ap (λ (k : Bool). Mark n u q f d k) fields.ending
 
--- Two calls in range that hand in markers and have one text are one call.
+-- Two calls in range that hand in markers and have the same fields are one call.
 pub marks_apart : (count m n t u p q e f c d : ℕ) (x y : Bool) → count < 2 ^ 64 → IsCallInRange count (Mark m t p e c x) → IsCallInRange count (Mark n u q f d y) →
-    call_text (Mark m t p e c x) ≡ call_text (Mark n u q f d y) → Mark m t p e c x ≡ Mark n u q f d y
+    fields_text (Mark m t p e c x) ≡ fields_text (Mark n u q f d y) → Mark m t p e c x ≡ Mark n u q f d y
 marks_apart count m n t u p q e f c d x y fits a b same =
-    let first = same_field (codes "mark ") (call_text (Mark m t p e c x)) m n _ _ (omega (arith, a.0)) (omega (arith, b.0)) refl same in
+    let first = same_field [] (fields_text (Mark m t p e c x)) m n _ _ (omega (arith, a.0)) (omega (arith, b.0)) refl same in
     same_mark m n t u p q e f c d x y first.0
     (same_mark_fields t u p q e f c d x y (omega (arith, a.1)) (omega (arith, b.1)) (omega (arith, a.2)) (omega (arith, b.2)) (omega (arith, a.3)) (omega (arith, b.3)) (omega (arith, a.4)) (omega (arith, b.4)) first.1)

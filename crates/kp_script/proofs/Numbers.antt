@@ -1,16 +1,16 @@
 -- Laws of the spelling of a number in decimal digits.
-use Rattle.std.proofs.Common.{◌≡◌, ℕ, ◌+◌, ◌*◌, ◌<◌, ◌≤◌, ◌^◌, List, [], ◌∷◌, ◌++◌, sym, ap, ◌∙◌, arith, ◌-◌, length, get_or, take, subst, inl, inr}
+use Rattle.std.proofs.Common.{◌≡◌, ℕ, zero, suc, ◌+◌, ◌*◌, ◌<◌, ◌≤◌, ◌^◌, List, [], ◌∷◌, ◌++◌, refl, sym, ap, ◌∙◌, arith, ◌-◌, length, get_or, take, drop, subst, inl, inr}
 use Rattle.std.proofs.lemmas.Bool.{cases_lt}
 use Rattle.std.proofs.lemmas.Int.Digits.{digits_value_more, digits_more}
 use Rattle.std.proofs.lemmas.Str.{digit_value_digit}
 use Rattle.std.proofs.lemmas.Str.Parse.{IsNumeralModel, numerals_by_value, tells_digits, digit_from_value, digit_at, digits_value-take-le}
 use Rattle.std.proofs.lemmas.Fmt.{decimal_is_IsNumeral, decimal-digits_value, decimal_nonempty, first_decimal, decimal_digit, decimal_injective}
-use Rattle.std.proofs.lemmas.List.{append_cancel_left}
+use Rattle.std.proofs.lemmas.List.{append_cancel_left, append-nil, take-append-drop, take-append-le, drop_more, drop_all, get_or_append_left}
 use Rattle.std.specs.Char.{digit_value}
 use Rattle.std.specs.Fmt.{decimal}
 use Rattle.std.specs.Int.{IsInRange}
 use Rattle.std.specs.Str.Parse.{AllDigits, digits_value}
-use Rattle.kp_script.specs.Read.{Lacks}
+use Rattle.kp_script.specs.Read.{Lacks, BeginsWithNoDigit}
 use Rattle.kp_script.proofs.Splitting.{one_parting, no_parting}
 
 own : IsNumeralModel (AllDigits 10) (digits_value 10)
@@ -65,6 +65,72 @@ front_below bytes n i value fits e lt is =
     let most : digits_value 10 (take (i + 1) bytes) ≤ digits_value 10 bytes = digits_value-take-le 10 bytes (i + 1) (omega arith) in
     let all : digits_value 10 bytes ≡ n = ap (digits_value 10) e ∙ (decimal_is_IsNumeral n fits).1 in
     omega arith
+
+-- ---- digits in front of other bytes
+
+-- so many digits in front are no more than those before a byte that is none
+digits_before : (k : ℕ) (ds rest : List ℕ) → BeginsWithNoDigit rest → AllDigits 10 (take k (ds ++ rest)) → k ≤ length (ds ++ rest) → k ≤ length ds
+digits_before zero ds rest none all within = omega arith
+digits_before (suc k) [] [] none all within = absurd (omega arith)
+digits_before (suc k) [] (x ∷ rest) none all within = absurd (none (digit_from_value x all.0))
+digits_before (suc k) (d ∷ ds) rest none all within = let more = digits_before k ds rest none all.1 (omega arith) in omega arith
+
+-- digits end in one place
+one_front : (a x b y : List ℕ) → AllDigits 10 a → AllDigits 10 b → BeginsWithNoDigit x → BeginsWithNoDigit y → a ++ x ≡ b ++ y → (a ≡ b) × (x ≡ y)
+one_front [] x [] y p q r s e = (refl, e)
+one_front [] x (d ∷ b) y p q r s e = absurd ((subst BeginsWithNoDigit e r) (digit_from_value d q.0))
+one_front (d ∷ a) x [] y p q r s e = absurd ((subst BeginsWithNoDigit (sym e) s) (digit_from_value d p.0))
+one_front (c ∷ a) x (d ∷ b) y p q r s e =
+    let head : c ≡ d = cc in
+    let tail : a ++ x ≡ b ++ y = cc in
+    let rest = one_front a x b y p.1 q.1 r s tail in
+    (ap (λ (h : ℕ). h ∷ a) head ∙ ap (λ (t : List ℕ). d ∷ t) rest.0, rest.1)
+
+decimal_digits : (n : ℕ) → n < 2 ^ 64 → AllDigits 10 (decimal n)
+decimal_digits n fits = (decimal_is_IsNumeral n fits).0.1
+
+-- one number stands in front
+pub one_number : (bytes : List ℕ) (m n : ℕ) (x y : List ℕ) → m < 2 ^ 64 → n < 2 ^ 64 → BeginsWithNoDigit x → BeginsWithNoDigit y →
+    bytes ≡ decimal m ++ x → bytes ≡ decimal n ++ y → (m ≡ n) × (x ≡ y)
+one_number bytes m n x y p q r s e f =
+    let parts = one_front (decimal m) x (decimal n) y (decimal_digits m p) (decimal_digits n q) r s (sym e ∙ f) in
+    (decimal_injective m n p q parts.0, parts.1)
+
+-- one number is the whole
+pub whole_number : (bytes : List ℕ) (m n : ℕ) (x : List ℕ) → m < 2 ^ 64 → n < 2 ^ 64 → BeginsWithNoDigit x → bytes ≡ decimal m ++ x → bytes ≡ decimal n → (m ≡ n) × (x ≡ [])
+whole_number bytes m n x p q r e f = one_number bytes m n x [] p q r tt e (f ∙ sym (append-nil (decimal n)))
+
+-- the digits in front are the number's
+pub digits_are : (bytes : List ℕ) (k n : ℕ) (rest : List ℕ) → n < 2 ^ 64 → BeginsWithNoDigit rest → AllDigits 10 (take k bytes) → BeginsWithNoDigit (drop k bytes) →
+    bytes ≡ decimal n ++ rest → take k bytes ≡ decimal n
+digits_are bytes k n rest fits none all ended e =
+    (one_front (take k bytes) (drop k bytes) (decimal n) rest all (decimal_digits n fits) ended none (take-append-drop k bytes ∙ e)).0
+
+-- the first of them
+pub front_digit : (bytes : List ℕ) (k : ℕ) → 0 < k → get_or (take k bytes) 0 0 ≡ get_or bytes 0 0
+front_digit bytes zero some = absurd (omega arith)
+front_digit [] (suc k) some = refl
+front_digit (x ∷ xs) (suc k) some = refl
+
+-- a byte that is no digit, and the bytes behind it
+pub ends_at : (bytes : List ℕ) (i : ℕ) → i < length bytes → ¬ IsInRange 48 57 (get_or bytes i 0) → BeginsWithNoDigit (drop i bytes)
+ends_at bytes i lt none = subst BeginsWithNoDigit (sym (drop_more bytes i 0 lt)) none
+
+pub ends_behind : (bytes : List ℕ) (i : ℕ) → length bytes ≤ i → BeginsWithNoDigit (drop i bytes)
+ends_behind bytes i past = subst BeginsWithNoDigit (sym (drop_all i bytes past)) tt
+
+-- the digits so far and the next one stand for no more than the number in front
+pub number_above : (bytes : List ℕ) (n : ℕ) (rest : List ℕ) (i value : ℕ) → n < 2 ^ 64 → BeginsWithNoDigit rest → bytes ≡ decimal n ++ rest → i < length bytes →
+    AllDigits 10 (take i bytes) → value ≡ digits_value 10 (take i bytes) → 48 ≤ get_or bytes i 0 → get_or bytes i 0 ≤ 57 →
+    value * 10 + (get_or bytes i 0 - 48) ≤ n
+number_above bytes n rest i value fits none e lt all is low high =
+    let grown = digits_grow bytes i value lt all is low high in
+    let within : i + 1 ≤ length (decimal n) =
+    digits_before (i + 1) (decimal n) rest none (subst (λ (l : List ℕ). AllDigits 10 (take (i + 1) l)) e grown.0) (omega (arith, ap length e)) in
+    let front : take i bytes ≡ take i (decimal n) = ap (take i) e ∙ take-append-le i (decimal n) rest (omega arith) in
+    let digit : get_or bytes i 0 ≡ get_or (decimal n) i 0 = ap (λ (l : List ℕ). get_or l i 0) e ∙ get_or_append_left (decimal n) rest 0 i (omega arith) in
+    let most = front_below (decimal n) n i value fits refl (omega arith) (is ∙ ap (digits_value 10) front) in
+    omega (arith, digit, most)
 
 digits_lack : (c : ℕ) (xs : List ℕ) → c < 48 → AllDigits 10 xs → Lacks c xs
 digits_lack c [] lt all = tt

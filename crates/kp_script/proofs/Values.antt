@@ -1,9 +1,9 @@
 -- Laws of values and the commas between them: a text has one list of values, and values have one text.
-use Rattle.std.proofs.Common.{◌≡◌, ℕ, ◌<◌, true, false, not, ◌&&◌, eqb, leb, List, [], ◌∷◌, All, refl, sym, ap, ◌∙◌, arith, length}
-use Rattle.std.proofs.lemmas.Bool.{and_parts, not-true}
+use Rattle.std.proofs.Common.{◌≡◌, ℕ, ◌<◌, Bool, true, false, not, cond, ◌&&◌, eqb, leb, List, [], ◌∷◌, All, refl, sym, ap, ◌∙◌, arith, length}
+use Rattle.std.proofs.lemmas.Bool.{and_parts, not-true, le-leb}
 use Rattle.std.proofs.lemmas.List.Elements.{All-from_recursion}
 use Rattle.std.proofs.lemmas.List.Splits.{slice_split_none, slice_split_at, length-slice_split, join_with_byte-slice_split}
-use Rattle.std.specs.List.{list_all, AllByRecursion}
+use Rattle.std.specs.List.{list_all, onto_first, AllByRecursion}
 use Rattle.kp_script.specs.Call.{is_value_byte, is_value, values_text, pieces}
 
 lacks_commas : (value : List ℕ) → list_all is_value_byte value ≡ true → AllByRecursion (λ x. eqb x 44 ≡ false) value
@@ -36,3 +36,45 @@ pieces_back text = sym (join_with_byte-slice_split 44 text)
 -- a text has a piece
 pub some_piece : (text : List ℕ) → 0 < length (pieces text)
 some_piece text = omega (arith, length-slice_split (λ (x : ℕ). eqb x 44) text)
+
+-- ---- values read from the front
+
+-- Whether the bytes go on with values, where a value has begun or not.
+abbrev pub goes_on : (begun : Bool) → List ℕ → Bool
+goes_on begun [] = begun
+goes_on begun (x ∷ xs) = cond (eqb x 44) (begun && goes_on false xs) (is_value_byte x && goes_on true xs)
+
+-- Whether pieces are values, where the first one has begun.
+abbrev are_begun : List (List ℕ) → Bool
+are_begun [] = true
+are_begun (piece ∷ rest) = list_all is_value_byte piece && list_all is_value rest
+
+both : (a b c : Bool) → (a && (b && c)) ≡ ((a && b) && c)
+both true b c = refl
+both false b c = refl
+
+onto_begun : (x : ℕ) (ps : List (List ℕ)) → 0 < length ps →
+    ((is_value_byte x && are_begun ps) ≡ are_begun (onto_first x ps)) × ((is_value_byte x && are_begun ps) ≡ list_all is_value (onto_first x ps))
+onto_begun x [] some = absurd (omega arith)
+onto_begun x (p ∷ ps) some =
+    let here = both (is_value_byte x) (list_all is_value_byte p) (list_all is_value ps) in
+    let long : leb 1 (length (x ∷ p)) ≡ true = le-leb 1 (length (x ∷ p)) (omega arith) in
+    (here, rw long here)
+
+one_more : (comma : Bool) (x : ℕ) (whole begun : Bool) (ps : List (List ℕ)) → begun ≡ are_begun ps → whole ≡ list_all is_value ps → 0 < length ps →
+    (cond comma (true && whole) (is_value_byte x && begun) ≡ are_begun (cond comma ([] ∷ ps) (onto_first x ps)))
+    × (cond comma (false && whole) (is_value_byte x && begun) ≡ list_all is_value (cond comma ([] ∷ ps) (onto_first x ps)))
+one_more true x whole begun ps e f some = (f, refl)
+one_more false x whole begun ps e f some =
+    let onto = onto_begun x ps some in
+    (ap (λ (b : Bool). is_value_byte x && b) e ∙ onto.0, ap (λ (b : Bool). is_value_byte x && b) e ∙ onto.1)
+
+values_go_on : (xs : List ℕ) → (goes_on true xs ≡ are_begun (pieces xs)) × (goes_on false xs ≡ list_all is_value (pieces xs))
+values_go_on [] = (refl, refl)
+values_go_on (x ∷ xs) =
+    let rest = values_go_on xs in
+    one_more (eqb x 44) x (goes_on false xs) (goes_on true xs) (pieces xs) rest.0 rest.1 (some_piece xs)
+
+-- Pieces are values just where the bytes go on with values from the front.
+pub values_from : (xs : List ℕ) → goes_on false xs ≡ list_all is_value (pieces xs)
+values_from xs = (values_go_on xs).1

@@ -1,5 +1,5 @@
 -- What a line of a script says, and how it is written: words with one space between each two.
-use Rattle.std.specs.Prelude.{◌≡◌, ◌≢◌, ℕ, ◌<◌, ◌≤◌, ◌^◌, ◌&&◌, ◌==◌, Bool, true, false, not, nat_le, IsTrue, List, [], ◌∷◌, length, Option, Some, None, IfSome, codes}
+use Rattle.std.specs.Prelude.{◌≡◌, ◌≢◌, ℕ, ◌<◌, ◌≤◌, ◌^◌, ◌&&◌, ◌==◌, Bool, true, false, not, nat_le, IsTrue, List, [], ◌∷◌, ◌++◌, length, Option, Some, None, IfSome, codes}
 use Rattle.std.specs.List.{join_with_byte, list_all, slice_split}
 use Rattle.std.specs.Fmt.{decimal}
 use Rattle.kp_record.specs.Record.{AreBytes}
@@ -72,18 +72,31 @@ abbrev pub header_text : Header → List ℕ
 header_text header =
     spaced (codes "nodes" ∷ decimal header.count ∷ codes "segment" ∷ decimal header.segment ∷ codes "interval" ∷ decimal header.interval ∷ [])
 
+-- the verb of a call, and its fields
+abbrev pub words_of : Call → List ℕ × List (List ℕ)
+words_of (Elect node) = (codes "elect", decimal node ∷ [])
+words_of (Adopt node) = (codes "adopt", decimal node ∷ [])
+words_of (Append node time sender transactional values) = (
+  codes "append",
+  decimal node ∷ decimal time ∷ signed_text sender.producer ∷ signed_text sender.epoch ∷ signed_text sender.sequence ∷ kind_text transactional ∷ values_text values ∷ [],
+)
+words_of (Raw node bytes) = (codes "raw", decimal node ∷ hex_text bytes ∷ [])
+words_of (Mark node time producer epoch coordinator commit) =
+    (codes "mark", decimal node ∷ decimal time ∷ decimal producer ∷ decimal epoch ∷ decimal coordinator ∷ ending_text commit ∷ [])
+words_of (Raise node) = (codes "raise", decimal node ∷ [])
+words_of (Show node) = (codes "show", decimal node ∷ [])
+words_of (Read node from) = (codes "read", decimal node ∷ decimal from ∷ [])
+words_of (Committed node from) = (codes "committed", decimal node ∷ decimal from ∷ [])
+
+abbrev pub verb_text : Call → List ℕ
+verb_text call = (words_of call).0
+
+abbrev pub fields_text : Call → List ℕ
+fields_text call = spaced (words_of call).1
+
+-- A call's line is its verb, a space, and its fields.
 abbrev pub call_text : Call → List ℕ
-call_text (Elect node) = spaced (codes "elect" ∷ decimal node ∷ [])
-call_text (Adopt node) = spaced (codes "adopt" ∷ decimal node ∷ [])
-call_text (Append node time sender transactional values) =
-    spaced (codes "append" ∷ decimal node ∷ decimal time ∷ signed_text sender.producer ∷ signed_text sender.epoch ∷ signed_text sender.sequence ∷ kind_text transactional ∷ values_text values ∷ [])
-call_text (Raw node bytes) = spaced (codes "raw" ∷ decimal node ∷ hex_text bytes ∷ [])
-call_text (Mark node time producer epoch coordinator commit) =
-    spaced (codes "mark" ∷ decimal node ∷ decimal time ∷ decimal producer ∷ decimal epoch ∷ decimal coordinator ∷ ending_text commit ∷ [])
-call_text (Raise node) = spaced (codes "raise" ∷ decimal node ∷ [])
-call_text (Show node) = spaced (codes "show" ∷ decimal node ∷ [])
-call_text (Read node from) = spaced (codes "read" ∷ decimal node ∷ decimal from ∷ [])
-call_text (Committed node from) = spaced (codes "committed" ∷ decimal node ∷ decimal from ∷ [])
+call_text call = verb_text call ++ 32 ∷ fields_text call
 
 -- A byte of a value is a visible ASCII character other than the comma.
 abbrev pub is_value_byte : ℕ → Bool

@@ -5,6 +5,7 @@
 
 mod call;
 mod events;
+mod fields;
 mod hex;
 mod lines;
 mod run;

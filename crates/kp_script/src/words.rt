@@ -1,9 +1,10 @@
 //! Readers of the words of a line.
 
-ghost use Rattle.std.specs.Prelude.{◌≡◌, ◌≢◌, ℕ, ◌<◌, ◌^◌, List, ◌∷◌, ◌++◌, length, Option, IfSome, IfNone};
+ghost use Rattle.std.specs.Prelude.{◌≡◌, ◌≢◌, ℕ, ◌<◌, ◌≤◌, ◌^◌, List, ◌∷◌, ◌++◌, length, take, drop, Option, IfSome, IfNone};
 ghost use Rattle.std.specs.Fmt.{decimal};
+ghost use Rattle.std.specs.Str.Parse.{AllDigits, digits_value};
 ghost use Rattle.kp_script.specs.Call.{signed_text};
-ghost use Rattle.kp_script.specs.Read.{Lacks};
+ghost use Rattle.kp_script.specs.Read.{Lacks, BeginsWithNoDigit, SpellsNoNumber};
 
 /// What follows this text, which the bytes begin with.
 pub fn after<'a>(text: &[u8], bytes: &'a [u8]) -> Option<&'a [u8]>
@@ -28,21 +29,39 @@ pub fn split_first_at(separator: u8, bytes: &[u8]) -> Option<(&[u8], &[u8])>
     None
 }
 
-/// The number that the whole of these bytes spell.
-pub fn number(bytes: &[u8]) -> Option<u64>
-    ensures found { IfSome result (λ n. bytes.now ≡ decimal n) }
-    ensures none { IfNone result ((n : ℕ) → n < 2 ^ 64 → bytes.now ≢ decimal n) }
+/// The number that so many digits in front spell, and what follows them: there is one, and no zero stands in front of
+/// others.
+#[inline(always)]
+fn number_until(bytes: &[u8], digits: usize, value: u64) -> Option<(u64, &[u8])>
+    requires within { digits ≤ length bytes.now }
+    requires digits { AllDigits 10 (take digits bytes.now) }
+    requires value { value ≡ digits_value 10 (take digits bytes.now) }
+    requires rest { BeginsWithNoDigit (drop digits bytes.now) }
+    ensures found { IfSome result
+        (λ (n, rest). (bytes.now ≡ decimal n ++ rest.now) × BeginsWithNoDigit rest.now × (n < 2 ^ 64)) }
+    ensures none { IfNone result (SpellsNoNumber bytes.now) }
 {
-    if bytes.is_empty() {
+    if digits == 0 {
         return None;
     }
-    if bytes.len() > 1 && bytes[0] == b'0' {
+    if digits > 1 && bytes[0] == b'0' {
         return None;
     }
+    let (_, rest) = bytes.split_at(digits);
+    Some((value, rest))
+}
+
+/// The number in front of these bytes, and what follows its digits.
+#[inline(always)]
+fn leading_number(bytes: &[u8]) -> Option<(u64, &[u8])>
+    ensures found { IfSome result
+        (λ (n, rest). (bytes.now ≡ decimal n ++ rest.now) × BeginsWithNoDigit rest.now × (n < 2 ^ 64)) }
+    ensures none { IfNone result (SpellsNoNumber bytes.now) }
+{
     let mut value: u64 = 0;
-    for byte in bytes {
+    for (i, byte) in bytes.iter().enumerate() {
         if *byte < b'0' || *byte > b'9' {
-            return None;
+            return number_until(bytes, i, value);
         }
         let Some(shifted) = value.checked_mul(10) else {
             return None;
@@ -52,7 +71,7 @@ pub fn number(bytes: &[u8]) -> Option<u64>
         };
         value = next;
     }
-    Some(value)
+    number_until(bytes, bytes.len(), value)
 }
 
 /// The number below the limit that the whole of these bytes spell.
@@ -60,28 +79,36 @@ pub fn number_below(bytes: &[u8], limit: u64) -> Option<u64>
     ensures found { IfSome result (λ n. (bytes.now ≡ decimal n) × (n < limit)) }
     ensures none { IfNone result ((n : ℕ) → n < limit → bytes.now ≢ decimal n) }
 {
-    match number(bytes) {
-        Some(n) if n < limit => Some(n),
-        _ => None,
+    let Some((n, rest)) = leading_number(bytes) else {
+        return None;
+    };
+    if n >= limit {
+        return None;
     }
+    if rest.is_empty() { Some(n) } else { None }
 }
 
 /// The number below the limit that stands before the first space, and what follows the space.
+#[inline(always)]
 pub fn number_then(bytes: &[u8], limit: u64) -> Option<(u64, &[u8])>
     ensures found { IfSome result (λ found. (bytes.now ≡ decimal found.0 ++ 32 ∷ found.1.now) × (found.0 < limit)) }
     ensures none { IfNone result ((n : ℕ) (rest : List ℕ) → n < limit → bytes.now ≢ decimal n ++ 32 ∷ rest) }
 {
-    let Some((word, rest)) = split_first_at(b' ', bytes) else {
+    let Some((n, rest)) = leading_number(bytes) else {
         return None;
     };
-    match number_below(word, limit) {
-        Some(n) => Some((n, rest)),
+    if n >= limit {
+        return None;
+    }
+    match after(b" ", rest) {
+        Some(rest) => Some((n, rest)),
         None => None,
     }
 }
 
 /// The producer field that stands before the first space, and what follows the space: -1, which is none, or a number
 /// below the limit.
+#[inline(always)]
 pub fn signed_then(bytes: &[u8], limit: u64) -> Option<(Option<u64>, &[u8])>
     ensures found { IfSome result
         (λ found. (bytes.now ≡ signed_text found.0 ++ 32 ∷ found.1.now) × IfSome found.0 (λ n. n < limit)) }

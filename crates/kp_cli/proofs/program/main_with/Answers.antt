@@ -19,20 +19,29 @@ asked_mistaken texts words read kind is fails = subst (λ w. IsAsked texts w (Mi
 pub returns-in-Err : goal.returns-in-Err
 returns-in-Err g c = (Unread c.in-Err.refusal, search rules, (refl, c.refuse.ensures.told, c.refuse.ensures.status))
 
-pub returns-in-Ok-call_of : goal.returns-in-Ok-call_of
-returns-in-Ok-call_of g c = (
-  Asks c.in-Ok-call_of.call,
-  asked_call (λ all. map string_bytes all.items) c.args.words c.in-Ok.words c.in-Ok-call_of.call c.in-Ok.is
-      (subst (λ items. IsCallOf (subcommand_of kpart (map string_bytes items)) c.in-Ok-call_of.call) c.as_slice.ensures.value
-      c.in-Ok-call_of.ensures.call),
-  c.perform_call.ensures,
-)
-
-pub returns : goal.returns
-returns g c = (
+pub returns-in-Err-call_of : goal.returns-in-Err-call_of
+returns-in-Err-call_of g c = (
   Mistakes c.in-Err-call_of.error.kind,
   asked_mistaken (λ all. map string_bytes all.items) c.args.words c.in-Ok.words c.in-Err-call_of.error.kind c.in-Ok.is
       (subst (λ items. (c.in-Err-call_of.error.kind ≡ kinds.OutOfMemory) ⊎ IsAmong c.in-Err-call_of.error.kind (fault_of kpart (map string_bytes items)))
       c.as_slice.ensures.value c.in-Err-call_of.ensures.kinds),
   c.explain.ensures,
+)
+
+pub returns-in-Ok-open : goal.returns-in-Ok-open
+returns-in-Ok-open g c = (
+  Asks c.in-Ok-call_of.call,
+  asked_call (λ all. map string_bytes all.items) c.args.words c.in-Ok.words c.in-Ok-call_of.call c.in-Ok.is
+      (subst (λ items. IsCallOf (subcommand_of kpart (map string_bytes items)) c.in-Ok-call_of.call) c.as_slice.ensures.value
+      c.in-Ok-call_of.ensures.call),
+  search rules,
+)
+
+pub returns : goal.returns
+returns g c = (
+  Asks c.in-Ok-call_of.call,
+  asked_call (λ all. map string_bytes all.items) c.args.words c.in-Ok.words c.in-Ok-call_of.call c.in-Ok.is
+      (subst (λ items. IsCallOf (subcommand_of kpart (map string_bytes items)) c.in-Ok-call_of.call) c.as_slice.ensures.value
+      c.in-Ok-call_of.ensures.call),
+  search rules,
 )

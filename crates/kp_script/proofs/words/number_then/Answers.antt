@@ -1,12 +1,15 @@
-use Rattle.std.proofs.Common.{arith}
-use Rattle.kp_script.proofs.Numbers.{no_number, same_word}
+use Rattle.std.proofs.Common.{arith, ◌∷◌}
+use Rattle.kp_script.proofs.Numbers.{one_number}
 use Rattle.kp_script.proofs.words.number_then.Goals as goal
 
-pub returns-in_default-clause-none : goal.returns-in_default-clause-none
-returns-in_default-clause-none c = λ n rest below e. no_number c.args.bytes.now n rest c.in_default.ensures.none e
+pub returns-then-n-limit-clause-none : goal.returns-then-n-limit-clause-none
+returns-then-n-limit-clause-none c = λ n rest below e.
+    let found = c.in-Some.ensures.found in
+    let same = one_number c.args.bytes.now c.in-Some.n n c.in-Some.rest.now (32 ∷ rest) found.2 (omega arith) found.1 (λ r. omega (arith, r)) found.0 e in
+    omega (arith, same.0, c.if-n-limit.true)
 
 pub returns-in-None-clause-none : goal.returns-in-None-clause-none
 returns-in-None-clause-none c = λ n rest below e.
-    let parts = c.in-Some.ensures.found in
-    let same = same_word c.args.bytes.now c.in-Some.word.now c.in-Some.rest.now n rest (omega arith) parts.0 parts.1 e in
-    c.in-None.ensures.none n below same.0
+    let found = c.in-Some.ensures.found in
+    let same = one_number c.args.bytes.now c.in-Some.n n c.in-Some.rest.now (32 ∷ rest) found.2 (omega arith) found.1 (λ r. omega (arith, r)) found.0 e in
+    c.in-None.ensures.none rest same.1

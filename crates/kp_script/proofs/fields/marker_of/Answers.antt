@@ -1,7 +1,7 @@
 use Rattle.std.proofs.Common.{[], arith}
 use Rattle.kp_marker.specs.Marker.{commits}
 use Rattle.kp_script.proofs.Numbers.{same_field}
-use Rattle.kp_script.proofs.call.marker_of.Goals as goal
+use Rattle.kp_script.proofs.fields.marker_of.Goals as goal
 
 pub returns-in_default-number_then-clause-none : goal.returns-in_default-number_then-clause-none
 returns-in_default-number_then-clause-none c = λ marker range e.

@@ -1,6 +1,6 @@
 use Rattle.std.proofs.Common.{◌^◌, arith}
 use Rattle.kp_script.proofs.Senders.{same_signed}
-use Rattle.kp_script.proofs.call.sender_then.Goals as goal
+use Rattle.kp_script.proofs.fields.sender_then.Goals as goal
 
 pub returns-in_default-signed_then-clause-none : goal.returns-in_default-signed_then-clause-none
 returns-in_default-signed_then-clause-none c = λ sender rest is e.

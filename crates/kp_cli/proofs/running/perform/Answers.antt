@@ -1,0 +1,37 @@
+use Rattle.std.proofs.Common.{Ok, Err, refl, rules, sym, ap, subst}
+use Rattle.kp_types.specs.Devices.{device_of}
+use Rattle.kp_cli.specs.Perform.{Performs, faults_in}
+use Rattle.kp_cli.specs.declared.call.Call.{Call}
+use Rattle.kp_cli.proofs.Ending.{inspects_front}
+use Rattle.kp_cli.proofs.running.perform.Goals as goal
+
+pub returns-in-Ok-None : goal.returns-in-Ok-None
+returns-in-Ok-None g c = (
+  Ok 0,
+  subst (λ (call : Call). Performs call (g.R.Read.remaining (device_of c.args.reader.now)) (g.W.Write.contents (device_of c.args.out.now))
+      (g.W.Write.contents (device_of c.inspect.new.writer)) (Ok 0)) (sym c.in-Inspect.is) (c.in-Ok-None.field-0, sym (ap faults_in c.in-Ok-None.field-0-is), c.in-Ok-None.ensures.written),
+  search rules,
+  search rules,
+  refl,
+)
+
+pub returns-in-Ok-Some : goal.returns-in-Ok-Some
+returns-in-Ok-Some g c = (
+  Ok 1,
+  subst (λ (call : Call). Performs call (g.R.Read.remaining (device_of c.args.reader.now)) (g.W.Write.contents (device_of c.args.out.now))
+      (g.W.Write.contents (device_of c.inspect.new.writer)) (Ok 1)) (sym c.in-Inspect.is) (c.in-Ok-Some.field-0, sym (ap faults_in c.in-Ok-Some.field-0-is), c.in-Ok-Some.ensures.written),
+  search rules,
+  search rules,
+  refl,
+)
+
+pub returns-in-Err-inspect : goal.returns-in-Err-inspect
+returns-in-Err-inspect g c = (
+  Err c.in-Err-inspect.refusal,
+  subst (λ (call : Call). Performs call (g.R.Read.remaining (device_of c.args.reader.now)) (g.W.Write.contents (device_of c.args.out.now))
+      (g.W.Write.contents (device_of c.inspect.new.writer)) (Err c.in-Err-inspect.refusal)) (sym c.in-Inspect.is)
+      (inspects_front _ _ _ _ c.in-Err-inspect.refusal c.in-Err-inspect.ensures.only c.in-Err-inspect.ensures.front),
+  search rules,
+  search rules,
+  search rules,
+)
