@@ -265,11 +265,11 @@ fn push_aborted(text: &mut String, aborted: &[AbortedTransaction]) -> Result<(),
 pub(crate) fn push_tables(text: &mut String, log: &PartitionLog) -> Result<(), AllocError>
     ensures { OnOk result (TellsTables log.now (string_bytes text.old) (string_bytes text.new)) }
 {
-    let tables = log.tables();
-    push_runs(text, tables.segments().runs())?;
-    push_producers(text, tables.producers())?;
-    push_open(text, tables.transactions().open())?;
-    push_aborted(text, tables.transactions().aborted())?;
+    let tables = log.tables().all();
+    push_runs(text, tables.runs)?;
+    push_producers(text, tables.producers)?;
+    push_open(text, tables.transactions.open())?;
+    push_aborted(text, tables.transactions.aborted())?;
     writeln!(text, "end {}", log.end_offset())
 }
 

@@ -4,15 +4,15 @@ ghost use Rattle.std.specs.Prelude.{◌≡◌, ◌+◌, ◌<◌, ◌≤◌, ℕ,
 ghost use Rattle.std.specs.List.{AllByRecursion};
 ghost use Rattle.kp_types.specs.declared.limits.Limits.{Limits as LogLimits};
 ghost use Rattle.kp_model.specs.World.{start};
-ghost use Rattle.kp_model.specs.Event.{Act as ModelAct, Event as ModelEvent, Acts as ModelActs, Elect as ModelElect};
+ghost use Rattle.kp_model.specs.Event.{Event as ModelEvent, Elect as ModelElect};
 ghost use Rattle.kp_replica.specs.Set.{record_of};
 ghost use Rattle.kp_world.specs.Answers.{outcome_of};
-ghost use Rattle.kp_world.specs.Events.{AreEvents, HandsMarker, HasMarker, IsAct, IsEvent, node_of};
+ghost use Rattle.kp_world.specs.Events.{AreEvents, HasMarker, IsEvent, node_of};
 ghost use Rattle.kp_world.specs.Plays.{IsAnswered, IsReached};
 ghost use Rattle.kp_world.specs.Shown.{IsShown, LeadsOn};
 
 use crate::acting::act;
-use crate::event::{Act, Answer, Event, Stopped, Trace};
+use crate::event::{Answer, Event, Stopped, Trace};
 use kp_replica::{Record, Replica};
 use kp_types::{Limits, NodeId, Refusal};
 use std::alloc::{AllocError, Global};
@@ -61,24 +61,6 @@ impl World {
         Ok(Answer::Changed(changed))
     }
 
-    /// A node does this.
-    fn acts(
-        &mut self,
-        alloc: Global,
-        node: NodeId,
-        what: &Act,
-    ) -> Result<Result<Answer, Refusal>, AllocError>
-        requires node { node < length self.old.members }
-        requires marker { HandsMarker what.now }
-        ensures step { IfOk result (λ outcome. (limits : LogLimits) (a : ModelAct) → IsAct limits.max_batch what.now a
-            → LeadsOn limits self.old (ModelActs node a) outcome self.new) }
-        ensures err { OnErr result (self.new ≡ self.old) }
-        ensures count { length self.new.members ≡ length self.old.members }
-    {
-        let replica = &mut self.replicas[usize::from(node)];
-        act(alloc, &self.controller, replica, what)
-    }
-
     /// Makes the event happen. An `Err` says that its bytes couldn't be shared, and nothing has happened.
     fn step(&mut self, alloc: Global, event: &Event) -> Result<Result<Answer, Refusal>, AllocError>
         requires node { node_of event.now < length self.old.members }
@@ -90,7 +72,10 @@ impl World {
     {
         match event {
             Event::Elect { node } => Ok(self.elect(*node)),
-            Event::Acts { node, act } => self.acts(alloc, *node, act),
+            Event::Acts { node, act: what } => {
+                let replica = &mut self.replicas[usize::from(*node)];
+                act(alloc, &self.controller, replica, what)
+            }
         }
     }
 
