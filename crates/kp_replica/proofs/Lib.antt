@@ -1,4 +1,3 @@
-pub mod Numbers
 pub mod Calls
 pub mod Ups
 pub mod Elements

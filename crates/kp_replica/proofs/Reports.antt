@@ -1,11 +1,16 @@
--- Where no other node has reported, the leader knows its own end alone.
-use Rattle.std.proofs.Common.{◌≡◌, ℕ, zero, suc, ◌<◌, length, arith, List, [], ◌∷◌, Option, Some, None, refl, sym, subst, ap, ◌∙◌}
-use Rattle.std.specs.Prelude.{map, slice_index_or, max, unwrap_or}
-use Rattle.kp_model.specs.Log.{end_of}
-use Rattle.kp_model.specs.World.{Leading, Node, no_reports}
-use Rattle.kp_model.specs.Local.{least_end, raised, without_member}
+-- What nodes reported are boundaries of the leader's log, and so is the watermark that is raised to the least of them.
+use Rattle.std.proofs.Common.{◌≡◌, ◌⊎◌, ℕ, zero, suc, ◌≤◌, List, [], ◌∷◌, ◌++◌, Option, Some, None, Result, Ok, Err, refl, sym, subst, ap, ◌∙◌, inl, inr, arith}
+use Rattle.std.specs.Prelude.{slice_index_or, max, unwrap_or, IfSome, OnOk, OnErr}
+use Rattle.std.proofs.lemmas.Bool.{cases_lt}
+use Rattle.kp_types.specs.declared.refusal.Refusal.{Refusal}
+use Rattle.kp_model.specs.Log.{Batch, end_of, IsBoundary}
+use Rattle.kp_model.specs.World.{Leading, Mode, Down, Idle, Leads, Follows, no_reports}
+use Rattle.kp_insync.specs.Reports.{IsReported}
+use Rattle.kp_replica.specs.declared.replica.Receipt.{Receipt}
+use Rattle.kp_replica.specs.Member.{HasReports}
+use Rattle.kp_replica.proofs.Boundaries.{boundary_push, boundary_end}
 
-pub none_reported : (m : ℕ) → slice_index_or no_reports m None ≡ None
+none_reported : (m : ℕ) → slice_index_or no_reports m None ≡ None
 none_reported zero = refl
 none_reported (suc zero) = refl
 none_reported (suc (suc zero)) = refl
@@ -15,42 +20,39 @@ none_reported (suc (suc (suc (suc (suc zero))))) = refl
 none_reported (suc (suc (suc (suc (suc (suc zero)))))) = refl
 none_reported (suc (suc (suc (suc (suc (suc (suc n))))))) = refl
 
-abbrev least_of : ℕ → List ℕ → Option ℕ
-least_of end [] = Some end
-least_of end (m ∷ ms) = None
+-- a leader that has just begun has no reports
+pub none_has : (log : List Batch) (l : Leading) → l.reported ≡ no_reports → HasReports log (Leads l)
+none_has log l quiet = λ m end e.
+    let none : None ≡ Some end = sym (none_reported m) ∙ ap (λ (rs : List (Option ℕ)). slice_index_or rs m None) (sym quiet) ∙ e in
+    absurd cc
 
-least_known : (end : ℕ) (others : List ℕ) → least_end (Some end ∷ map (λ m. slice_index_or no_reports m None) others) ≡ least_of end others
-least_known end [] = refl
-least_known end (m ∷ ms) = rw (none_reported m) refl
+reports_push : (log : List Batch) (b : Batch) (mode : Mode) → HasReports log mode → HasReports (log ++ b ∷ []) mode
+reports_push log b Down h = tt
+reports_push log b Idle h = tt
+reports_push log b (Leads l) h = λ m end e. boundary_push log b end (h m end e)
+reports_push log b (Follows f) h = tt
 
-raised_by : (n : ℕ) (x : Node) (l : Leading) → l.reported ≡ no_reports → raised n x l ≡ max x.watermark (unwrap_or (least_of (end_of x.log) (without_member n l.isr)) 0)
-raised_by n x l quiet =
-    let others = without_member n l.isr in
-    let end = end_of x.log in
-    subst (λ (rs : List (Option ℕ)). max x.watermark (unwrap_or (least_end (Some end ∷ map (λ m. slice_index_or rs m None) others)) 0) ≡ max x.watermark (unwrap_or (least_of end others) 0))
-    (sym quiet) (ap (λ (o : Option ℕ). max x.watermark (unwrap_or o 0)) (least_known end others))
+-- after either answer to an append
+pub reports_after : (log new : List Batch) (b : Batch) (result : Result Receipt Refusal) (mode : Mode) → HasReports log mode → OnOk result (new ≡ log ++ b ∷ []) → OnErr result (new ≡ log) → HasReports new mode
+reports_after log new b (Ok receipt) mode h grown same = subst (λ (after : List Batch). HasReports after mode) (sym grown) (reports_push log b mode h)
+reports_after log new b (Err r) mode h grown same = subst (λ (after : List Batch). HasReports after mode) (sym same) h
 
--- a leader alone raises to its end
-pub raised_alone : (n : ℕ) (x : Node) (l : Leading) → l.reported ≡ no_reports → without_member n l.isr ≡ [] → raised n x l ≡ max x.watermark (end_of x.log)
-raised_alone n x l quiet alone =
-    raised_by n x l quiet ∙ ap (λ (others : List ℕ). max x.watermark (unwrap_or (least_of (end_of x.log) others) 0)) alone
+-- the least end, where it is known, is a boundary
+least_boundary : (log : List Batch) (l : Leading) (end least : ℕ) → HasReports log (Leads l) → end ≡ end_of log → (least ≡ end) ⊎ IsReported l.reported least → IsBoundary log least
+least_boundary log l end least reports at (inl own) = subst (IsBoundary log) (sym (own ∙ at)) (boundary_end log)
+least_boundary log l end least reports at (inr its) = reports its.0 least its.1
 
--- one among others that haven't reported stays
-some_left : (others : List ℕ) (end : ℕ) → 0 < length others → least_of end others ≡ None
-some_left [] end h = absurd (omega arith)
-some_left (m ∷ ms) end h = refl
-
-pub raised_among : (n : ℕ) (x : Node) (l : Leading) → l.reported ≡ no_reports → 0 < length (without_member n l.isr) → raised n x l ≡ x.watermark
-raised_among n x l quiet among =
-    raised_by n x l quiet ∙ ap (λ (o : Option ℕ). max x.watermark (unwrap_or o 0)) (some_left (without_member n l.isr) (end_of x.log) among) ∙ omega arith
-
-by_others : (n : ℕ) (x : Node) (l : Leading) (mark : ℕ) (others : List ℕ) → others ≡ without_member n l.isr → l.reported ≡ no_reports
-    → (without_member n l.isr ≡ [] → mark ≡ max x.watermark (end_of x.log)) → (0 < length (without_member n l.isr) → mark ≡ x.watermark) → raised n x l ≡ mark
-by_others n x l mark [] is quiet alone among = raised_alone n x l quiet (sym is) ∙ sym (alone (sym is))
-by_others n x l mark (m ∷ ms) is quiet alone among =
-    let some : 0 < length (without_member n l.isr) = subst (λ (others : List ℕ). 0 < length others) is (omega arith) in
-    raised_among n x l quiet some ∙ sym (among some)
-
-pub raised_either : (n : ℕ) (x : Node) (l : Leading) (mark : ℕ) → l.reported ≡ no_reports
-    → (without_member n l.isr ≡ [] → mark ≡ max x.watermark (end_of x.log)) → (0 < length (without_member n l.isr) → mark ≡ x.watermark) → raised n x l ≡ mark
-raised_either n x l mark = by_others n x l mark (without_member n l.isr) refl
+-- a watermark that is raised to it stays a boundary
+pub raised_boundary : (log : List Batch) (l : Leading) (watermark mark end : ℕ) (least : Option ℕ) → IsBoundary log watermark → HasReports log (Leads l) → end ≡ end_of log
+    → IfSome least (λ x. (x ≡ end) ⊎ IsReported l.reported x) → mark ≡ max watermark (unwrap_or least 0) → IsBoundary log mark × (watermark ≤ mark)
+raised_boundary log l watermark mark end None boundary reports at known raised =
+    let same : watermark ≡ mark = omega (arith, raised) in (subst (IsBoundary log) same boundary, omega (arith, same))
+raised_boundary log l watermark mark end (Some x) boundary reports at known raised =
+    elim (cases_lt watermark x) [
+      | inl below ↦
+          let same : x ≡ mark = omega (arith, below, raised) in
+          (subst (IsBoundary log) same (least_boundary log l end x reports at known), omega (arith, below, same))
+      | inr above ↦
+          let same : watermark ≡ mark = omega (arith, above, raised) in
+          (subst (IsBoundary log) same boundary, omega (arith, same))
+    ]

@@ -1,4 +1,3 @@
-pub mod Set
 pub mod Member
 pub mod Modes
 pub mod Kept

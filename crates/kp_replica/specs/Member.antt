@@ -1,8 +1,8 @@
 -- A node of the model with its number, and what it is that a call does.
-use Rattle.std.specs.Prelude.{◌≡◌, ℕ, ◌+◌, ◌<◌, ◌≤◌, ◌^◌, List, [], unwrap_or}
+use Rattle.std.specs.Prelude.{◌≡◌, ℕ, ◌+◌, ◌<◌, ◌≤◌, ◌^◌, List, [], Some, unwrap_or}
 use Rattle.kp_types.specs.declared.limits.Limits.{Limits}
-use Rattle.kp_model.specs.Log.{Batch}
-use Rattle.kp_model.specs.World.{LeaderAndIsr, Mode, Down, Idle, Leads, Follows, Node}
+use Rattle.kp_model.specs.Log.{Batch, IsBoundary}
+use Rattle.kp_model.specs.World.{LeaderAndIsr, Mode, Down, Idle, Leads, Follows, Node, report_of}
 use Rattle.kp_model.specs.Event.{Act, Reply}
 use Rattle.kp_model.specs.Local.{Local, becomes, last_epoch}
 
@@ -31,3 +31,10 @@ HasEpochs log Down = ⊥
 HasEpochs log Idle = log ≡ []
 HasEpochs log (Leads l) = (unwrap_or (last_epoch log) 0 ≤ l.epoch) × (l.epoch + 1 < 2 ^ 24)
 HasEpochs log (Follows f) = unwrap_or (last_epoch log) 0 ≤ f.epoch
+
+-- What a node reported to the leader is a boundary of the leader's log.
+abbrev pub HasReports : List Batch → Mode → Type 0
+HasReports log Down = Unit {0}
+HasReports log Idle = Unit {0}
+HasReports log (Leads l) = (m end : ℕ) → report_of l m ≡ Some end → IsBoundary log end
+HasReports log (Follows f) = Unit {0}

@@ -1,15 +1,13 @@
-//! One broker node: its log, its high watermark and its part in the replication. It stands on the log and
-//! on the model's definitions. Its contract says of each call which event of the definitions it is: the
-//! answer, the state before and the state after.
+//! One broker node: its log, its high watermark and its part in the replication. It stands on the log,
+//! on the controller's record, on what other nodes reported and on the model's definitions. Its contract says of each call
+//! which event of the definitions it is: the answer, the state before and the state after.
 #![tactic(auto)]
 
 ghost use Rattle.kp_replica.specs.Offers.{BytesAreAnOffer, OffersAreOne};
 
 mod producing;
-mod record;
 mod replica;
 
-pub use record::{Leader, NodeSet, Record};
 pub use replica::{Receipt, Replica, Role};
 
 /// All bytes hand in one thing, and only one: a batch, or the refusal of what they are. It costs nothing.

@@ -5,7 +5,7 @@ use Rattle.std.specs.Prelude.{codes}
 use Rattle.std.specs.List.{join_with_byte, flat_map, zip}
 use Rattle.std.specs.Fmt.{decimal}
 use Rattle.std.proofs.lemmas.Bool.{false≢true}
-use Rattle.kp_replica.specs.Set.{numbers_of}
+use Rattle.kp_control.specs.Set.{numbers_of}
 use Rattle.kp_world.specs.declared.event.Line.{Line}
 use Rattle.kp_world.specs.Answers.{line_of}
 use Rattle.kp_script.specs.Hex.{hex_digit, hex_text}

@@ -2,7 +2,7 @@
 
 ghost use Rattle.std.specs.Prelude.{◌≡◌, [], ◌∷◌, ◌++◌, length, map, OnOk, IfOk, string_bytes};
 ghost use Rattle.std.specs.Option.{option_map};
-ghost use Rattle.kp_replica.specs.Set.{leader_of, members_of, record_of};
+ghost use Rattle.kp_control.specs.Set.{leader_of, members_of, record_of};
 ghost use Rattle.kp_replica.specs.Replies.{role_reply, receipt_reply};
 ghost use Rattle.kp_world.specs.Answers.{line_of, answer_reply, outcome_of};
 ghost use Rattle.kp_script.specs.Call.{node_of};
@@ -11,7 +11,8 @@ ghost use Rattle.kp_script.specs.Hex.{hex_text};
 ghost use Rattle.kp_script.specs.Trace.{leader_text, line_text, lines_text, nodes_text, record_text, reply_text, outcome_text, trace_text};
 
 use crate::script::Line;
-use kp_replica::{Leader, NodeSet, Receipt, Record, Role};
+use kp_control::{Leader, LeaderAndIsr, NodeSet};
+use kp_replica::{Receipt, Role};
 use kp_types::{NodeId, Refusal};
 use kp_world::Answer;
 use std::alloc::{AllocError, Global};
@@ -87,7 +88,7 @@ fn push_leader(text: &mut String, leader: Option<Leader>) -> Result<(), AllocErr
 }
 
 /// Appends the controller's record.
-fn push_record(text: &mut String, controller: &Record) -> Result<(), AllocError>
+fn push_record(text: &mut String, controller: &LeaderAndIsr) -> Result<(), AllocError>
     ensures { OnOk result
         (string_bytes text.new ≡ string_bytes text.old ++ record_text (record_of controller.now)) }
 {

@@ -8,8 +8,9 @@ use crate::logs::{batch_of, told};
 use crate::script_tests::trace_of;
 use crate::shown::is;
 use bytes::Bytes;
+use kp_control::LeaderAndIsr;
 use kp_marker::{Kind, Marker};
-use kp_replica::{Receipt, Record, Replica};
+use kp_replica::{Receipt, Replica};
 use kp_types::{Limits, MAX_BATCH, NodeId, Refusal};
 use kp_world::{Act, Answer, Event, Stopped, Trace, run};
 use std::alloc::{AllocError, Global};
@@ -23,7 +24,7 @@ fn bytes_of(alloc: Global, word: &str) -> Result<Bytes, Refusal> {
 
 // Of one node: no leader yet, its election, its second one, and that of another node.
 fn elections(alloc: Global) -> Result<String, Refusal> {
-    let initial = Record::initial(1);
+    let initial = LeaderAndIsr::initial(1);
     let first = initial.elected(0)?;
     let outcomes = [
         Ok(Answer::Changed(initial)),
@@ -45,8 +46,8 @@ fn elects_only_a_node_in_sync(rt: HostRuntime) {
 }
 
 // Of two nodes, led by node 0.
-fn led() -> Result<Record, Refusal> {
-    Record::initial(2).elected(0)
+fn led() -> Result<LeaderAndIsr, Refusal> {
+    LeaderAndIsr::initial(2).elected(0)
 }
 
 // What a leader's watermark rises to, and where its log ends then.
@@ -72,7 +73,7 @@ const LIMITS: Limits = Limits {
 // What a leader's log tells after two batches.
 fn told_of_two(alloc: Global) -> Result<String, Refusal> {
     let mut node = Replica::new(alloc, 0, &LIMITS);
-    let _ = node.adopt(&Record::initial(1).elected(0)?)?;
+    let _ = node.adopt(&LeaderAndIsr::initial(1).elected(0)?)?;
     for _ in 0..2 {
         let _ = node.produce(bytes_of(alloc, "p10")?)?;
     }

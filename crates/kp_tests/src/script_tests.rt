@@ -1,7 +1,8 @@
 //! The text of a trace of several nodes, which no script has yet.
 
 use crate::shown::{is, unhex};
-use kp_replica::{Leader, NodeSet, Receipt, Record, Role};
+use kp_control::{Leader, LeaderAndIsr, NodeSet};
+use kp_replica::{Receipt, Role};
 use kp_script::{Call, Line, trace_text};
 use kp_types::Refusal;
 use kp_world::{Answer, Line as ReadRecord};
@@ -30,7 +31,7 @@ fn changed(leader: Option<Leader>, members: [bool; 7]) -> Result<Answer, Refusal
     if leader.is_some_and(|leader| leader.epoch > 16_777_214) {
         return Err(Refusal::RecordFull);
     }
-    Ok(Answer::Changed(Record {
+    Ok(Answer::Changed(LeaderAndIsr {
         leader,
         isr: NodeSet { members },
         version: 12,

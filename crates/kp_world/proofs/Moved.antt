@@ -8,16 +8,16 @@ use Rattle.kp_types.specs.declared.refusal.Refusal.{Refusal}
 use Rattle.kp_model.specs.Log.{end_of}
 use Rattle.kp_model.specs.Transactions.{stable}
 use Rattle.kp_model.specs.World.{LeaderAndIsr, Node, World, with_record}
-use Rattle.kp_model.specs.Event.{Act, Show, Elect, Acts, Reply, Changed, Shown}
+use Rattle.kp_model.specs.Event.{Act, Show, Elect, Acts, Changed, Shown}
 use Rattle.kp_model.specs.Local.{Effect, Local, LocalBy, Happens, cause, is_down, becomes, elected}
-use Rattle.kp_model.specs.Step.{NodeStep, ElectsBy, moved, told, IsGiven, elect_cause}
+use Rattle.kp_model.specs.Step.{ElectsBy, moved, told, IsGiven, elect_cause}
 use Rattle.kp_replica.specs.Member.{Member, DoesUnder}
-use Rattle.kp_replica.specs.Set.{record_of}
-use Rattle.kp_replica.specs.declared.record.Record.{Record}
+use Rattle.kp_control.specs.Set.{record_of}
+use Rattle.kp_control.specs.declared.record.LeaderAndIsr.{LeaderAndIsr as CodeRecord}
 use Rattle.kp_world.specs.Answers.{reply_of}
 use Rattle.kp_world.specs.declared.event.Answer.{Answer}
 use Rattle.kp_world.specs.declared.event.Answer.TheVariants as answers
-use Rattle.kp_world.specs.Shown.{IsNode, IsShown, KeepsReceipt, Leads, LeadsOn, Stage}
+use Rattle.kp_world.specs.Shown.{IsNode, KeepsReceipt, LeadsOn}
 
 -- node n as it is after the call, and the others as they were
 after : (limits : Limits) (n : ℕ) (m : Member) (members : List Member) (x : Node) (nodes : ℕ → Node) → n < length members → m.number ≡ n → m.limits ≡ limits → x ≡ m.state
@@ -66,7 +66,7 @@ acted limits n i c members x m act outcome same inside there given did receipt w
     }
 
 -- the controller's record changed by an election
-pub elected_on : (limits : Limits) (n : ℕ) (old new : Record) (members : List Member) → elect_cause (record_of old) n ≡ None → record_of new ≡ elected (record_of old) n
+pub elected_on : (limits : Limits) (n : ℕ) (old new : CodeRecord) (members : List Member) → elect_cause (record_of old) n ≡ None → record_of new ≡ elected (record_of old) n
     → LeadsOn limits (record { controller = record_of old; members = members }) (Elect n) (Ok (answers.Changed new)) (record { controller = record_of new; members = members })
 elected_on limits n old new members free is w shown =
     let c = record_of old in

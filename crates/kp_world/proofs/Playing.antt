@@ -1,7 +1,7 @@
 -- A run goes on, event by event.
 use Rattle.std.proofs.Common.{◌≡◌, ℕ, zero, suc, List, [], ◌∷◌, ◌++◌, Result, take, refl, sym, ap, ◌∙◌, subst}
 use Rattle.std.specs.Prelude.{map, reverse}
-use Rattle.std.proofs.lemmas.List.{append-nil, append_assoc, map-append, reverse-append}
+use Rattle.std.proofs.lemmas.List.{append-nil, map-append, reverse-append}
 use Rattle.kp_types.specs.declared.limits.Limits.{Limits}
 use Rattle.kp_types.specs.declared.refusal.Refusal.{Refusal}
 use Rattle.kp_model.specs.World.{start}
@@ -12,7 +12,7 @@ use Rattle.kp_world.specs.Events.{IsEvent, AreEvents}
 use Rattle.kp_world.specs.declared.event.Answer.{Answer}
 use Rattle.kp_world.specs.declared.event.Event.{Event as CodeEvent}
 use Rattle.kp_world.specs.Plays.{HaveReceipts, IsAnswered, IsReached}
-use Rattle.kp_world.specs.Shown.{HasReceipt, IsShown, Leads, LeadsOn, Stage}
+use Rattle.kp_world.specs.Shown.{HasReceipt, IsShown, LeadsOn, Stage}
 
 -- nothing has happened yet
 pub reached_none : (count : ℕ) (limits : Limits) (stage : Stage) → IsShown limits stage (start count) → IsReached count limits [] [] stage

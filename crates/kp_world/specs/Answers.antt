@@ -5,7 +5,7 @@ use Rattle.std.specs.Global.{Vec}
 use Rattle.kp_types.specs.declared.refusal.Refusal.{Refusal}
 use Rattle.kp_model.specs.Event.{Line as ModelLine, Reply, Refused, Changed as RecordChanged, MarkAt, Shown as StateShown, Lines as LinesRead, Outcome}
 use Rattle.kp_model.specs.Step.{told}
-use Rattle.kp_replica.specs.Set.{record_of}
+use Rattle.kp_control.specs.Set.{record_of}
 use Rattle.kp_replica.specs.Replies.{role_reply, receipt_reply}
 use Rattle.kp_world.specs.declared.event.Line.{Line}
 use Rattle.kp_world.specs.declared.event.Answer.{Answer}

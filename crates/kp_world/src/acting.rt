@@ -3,7 +3,7 @@
 ghost use Rattle.std.specs.Prelude.{◌≡◌, IfOk, List, Ok, OnErr};
 ghost use Rattle.kp_model.specs.Log.{Batch};
 ghost use Rattle.kp_model.specs.Event.{Act as ModelAct};
-ghost use Rattle.kp_replica.specs.Set.{record_of};
+ghost use Rattle.kp_control.specs.Set.{record_of};
 ghost use Rattle.kp_replica.specs.Member.{DoesUnder};
 ghost use Rattle.kp_model.specs.Event.{Show as ShowState};
 ghost use Rattle.kp_replica.specs.Member.{Does};
@@ -13,7 +13,8 @@ ghost use Rattle.kp_world.specs.Shown.{KeepsReceipt};
 
 use crate::event::{Act, Answer};
 use crate::read::{committed_lines, read_lines};
-use kp_replica::{Record, Replica};
+use kp_control::LeaderAndIsr;
+use kp_replica::Replica;
 use kp_types::Refusal;
 use std::alloc::{AllocError, Global};
 
@@ -34,7 +35,7 @@ fn shown(replica: &Replica) -> Answer
 /// happened. The cost is that of the `Replica`'s call, or of what is read.
 pub(crate) fn act(
     alloc: Global,
-    controller: &Record,
+    controller: &LeaderAndIsr,
     replica: &mut Replica,
     act: &Act,
 ) -> Result<Result<Answer, Refusal>, AllocError>

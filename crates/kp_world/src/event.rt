@@ -1,8 +1,9 @@
 //! What may happen, and what is answered.
 
 use bytes::Bytes;
+use kp_control::LeaderAndIsr;
 use kp_marker::Marker;
-use kp_replica::{Receipt, Record, Role};
+use kp_replica::{Receipt, Role};
 use kp_types::{NodeId, Offset, Refusal};
 
 /// One atomic action of one actor: of the controller, or of a node. (Kafka replication design.)
@@ -47,7 +48,7 @@ pub struct Line {
 #[derive(Drop)]
 pub enum Answer {
     /// The controller's record has changed to this.
-    Changed(Record),
+    Changed(LeaderAndIsr),
     Adopted(Role),
     Appended(Receipt),
     /// The high watermark.

@@ -5,7 +5,7 @@ ghost use Rattle.std.specs.List.{AllByRecursion};
 ghost use Rattle.kp_types.specs.declared.limits.Limits.{Limits as LogLimits};
 ghost use Rattle.kp_model.specs.World.{start};
 ghost use Rattle.kp_model.specs.Event.{Event as ModelEvent, Elect as ModelElect};
-ghost use Rattle.kp_replica.specs.Set.{record_of};
+ghost use Rattle.kp_control.specs.Set.{record_of};
 ghost use Rattle.kp_world.specs.Answers.{outcome_of};
 ghost use Rattle.kp_world.specs.Events.{AreEvents, HasMarker, IsEvent, node_of};
 ghost use Rattle.kp_world.specs.Plays.{IsAnswered, IsReached};
@@ -13,7 +13,8 @@ ghost use Rattle.kp_world.specs.Shown.{IsShown, LeadsOn};
 
 use crate::acting::act;
 use crate::event::{Answer, Event, Stopped, Trace};
-use kp_replica::{Record, Replica};
+use kp_control::LeaderAndIsr;
+use kp_replica::Replica;
 use kp_types::{Limits, NodeId, Refusal};
 use std::alloc::{AllocError, Global};
 use std::marker::Model;
@@ -21,12 +22,12 @@ use std::marker::Model;
 /// All nodes of one partition, by their numbers, and the controller's record.
 #[derive(Drop)]
 pub struct World {
-    controller: Record,
+    controller: LeaderAndIsr,
     replicas: Vec<Replica>,
 }
 
 impl Model for World {
-    ghost use Rattle.kp_replica.specs.Set.{record_of};
+    ghost use Rattle.kp_control.specs.Set.{record_of};
     ghost use Rattle.kp_world.specs.Shown.{Stage};
 
     ghost Value = { Stage };
@@ -46,7 +47,7 @@ impl World {
             replicas.push(Replica::new(alloc, number, limits))?;
         }
         Ok(World {
-            controller: Record::initial(count),
+            controller: LeaderAndIsr::initial(count),
             replicas,
         })
     }

@@ -1,5 +1,5 @@
 use Rattle.std.proofs.Common.{◌≡◌, ◌∷◌, ◌++◌, string_bytes, ℕ, ◌+◌, List, [], take, refl, sym, ap, ◌∙◌, arith, append-nil, lit<}
-use Rattle.kp_replica.specs.Set.{numbers_of}
+use Rattle.kp_control.specs.Set.{numbers_of}
 use Rattle.kp_script.specs.Trace.{nodes_text}
 use Rattle.kp_script.proofs.Tracing.{grown, nodes_more, separator_of, separator_none, separator_some, some_after, is_none, numbers_taken, numbers_passed}
 use Rattle.kp_script.proofs.trace.push_nodes.Goals as goal

@@ -8,7 +8,7 @@ use Rattle.kp_model.specs.Log.{Batch}
 use Rattle.kp_model.specs.World.{LeaderAndIsr}
 use Rattle.kp_replica.specs.Member.{DoesUnder, Member}
 use Rattle.kp_replica.specs.Replies.{IsOffer, IsReceiptOf, IsReceiptOfBody, body_of, mark_of, mark_reply, receipt_reply, role_reply}
-use Rattle.kp_replica.specs.Set.{record_of}
+use Rattle.kp_control.specs.Set.{record_of}
 use Rattle.kp_replica.specs.declared.replica.Receipt.{Receipt}
 use Rattle.kp_replica.specs.declared.replica.Role.{Role}
 use Rattle.kp_world.specs.Answers.{lines_reply, reply_of}

@@ -1,4 +1,4 @@
-use Rattle.std.proofs.Common.{◌≡◌, ℕ, ◌<◌, List, [], Result, take, sym, subst}
+use Rattle.std.proofs.Common.{ℕ, ◌<◌, List, [], Result, take, sym, subst}
 use Rattle.std.specs.List.{AllByRecursion}
 use Rattle.kp_types.specs.declared.refusal.Refusal.{Refusal}
 use Rattle.kp_world.specs.Events.{node_of}

@@ -1,9 +1,10 @@
-use Rattle.std.proofs.Common.{ℕ, Bool, refl, ap, subst, sym}
+use Rattle.std.proofs.Common.{ℕ, List, Option, Bool, refl, ap, subst, sym}
 use Rattle.std.specs.Option.{option_map}
 use Rattle.kp_types.specs.declared.refusal.Refusal.TheVariants as refusals
-use Rattle.kp_model.specs.World.{Leads, Follows, no_reports}
+use Rattle.kp_model.specs.Log.{end_of}
+use Rattle.kp_model.specs.World.{Leads, Follows}
 use Rattle.kp_model.specs.Event.{Adopt, Refused, NowLeads, NowFollows}
-use Rattle.kp_replica.specs.Set.{record_of, leader_of}
+use Rattle.kp_control.specs.Set.{record_of, leader_of}
 use Rattle.kp_replica.specs.Member.{Member, DoesUnder}
 use Rattle.kp_replica.specs.Kept.{member_of}
 use Rattle.kp_replica.proofs.Calls.{stale, adopted_leads, adopted_follows}
@@ -23,10 +24,11 @@ returns-then-node-self c =
     let m = member_of c.self.inside in
     let l = leader_of c.in-Some.leader in
     let done = adopted_leads r m.number m.state l (ap (option_map leader_of) c.in-Some.ensures.1) (is_up c.self.inside.mode) c.in-Some.ensures.0 c.if-node-self.true in
-    let P : Member → ℕ → Type 0 =
-    λ x s. DoesUnder r x (record m { state = record m.state { mode = Leads (record { epoch = l.epoch; isr = r.isr; version = r.version; start = s; reported = no_reports }) } }) Adopt (NowLeads l.epoch s) in
-    subst (λ (x : Member). P x c.end_offset-start.result) c.self.view_is
-    (subst (λ (s : ℕ). P m s) (sym c.end_offset-start.ensures.value) (done, (refl, refl)))
+    let P : Member → ℕ → List (Option ℕ) → Type 0 =
+    λ x s rs. DoesUnder r x (record m { state = record m.state { mode = Leads (record { epoch = l.epoch; isr = r.isr; version = r.version; start = s; reported = rs }) } }) Adopt (NowLeads l.epoch s) in
+    subst (λ (x : Member). P x c.end_offset-start.result c.new.result) c.self.view_is
+    (subst (λ (s : ℕ). P m s c.new.result) (sym c.end_offset-start.ensures.value)
+    (subst (λ (rs : List (Option ℕ)). P m (end_of m.state.log) rs) (sym c.new.ensures) (done, (refl, refl))))
 
 pub returns : goal.returns
 returns c =

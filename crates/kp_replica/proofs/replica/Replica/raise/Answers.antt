@@ -1,16 +1,18 @@
-use Rattle.std.proofs.Common.{◌≡◌, arith, ℕ, List, refl, ap, subst, sym, ◌∙◌}
+use Rattle.std.proofs.Common.{◌≡◌, arith, ℕ, List, Option, refl, ap, subst, sym, ◌∙◌}
 use Rattle.kp_types.specs.declared.refusal.Refusal.TheVariants as refusals
-use Rattle.kp_model.specs.Log.{Batch, IsBoundary}
-use Rattle.kp_model.specs.Local.{without_member}
+use Rattle.kp_model.specs.Log.{Batch, IsBoundary, end_of}
+use Rattle.kp_model.specs.World.{Mode, Leads}
+use Rattle.kp_model.specs.Local.{raised, least_end}
+use Rattle.kp_insync.specs.Reports.{ends_over}
+use Rattle.std.specs.Prelude.{max, unwrap_or}
 use Rattle.kp_log.specs.Partition.{Partition}
-use Rattle.std.specs.Prelude.{max}
 use Rattle.kp_model.specs.Event.{Raise, Refused, MarkAt}
-use Rattle.kp_replica.specs.Member.{Member, Does, HasEpochs}
+use Rattle.kp_replica.specs.Member.{Member, Does, HasEpochs, HasReports}
 use Rattle.kp_replica.specs.Modes.{mode_of, leading_of}
 use Rattle.kp_replica.specs.Kept.{member_of}
-use Rattle.kp_replica.proofs.Boundaries.{AreAbove, above_left, raised_boundary}
+use Rattle.kp_replica.proofs.Boundaries.{AreAbove, above_left}
 use Rattle.kp_replica.proofs.Calls.{was_refused, raises}
-use Rattle.kp_replica.proofs.Reports.{raised_either}
+use Rattle.kp_replica.proofs.Reports.{raised_boundary}
 use Rattle.kp_replica.proofs.Ups.{leads_not}
 use Rattle.kp_replica.proofs.replica.Replica.raise.Goals as goal
 
@@ -23,16 +25,19 @@ returns-in_default c =
 pub invariant_of-self : goal.invariant_of-self
 invariant_of-self c =
     let m = member_of c.self.inside in
-    let log = m.state.log in
-    let mark = c.raised-watermark.result in
-    let same : log ≡ c.settle.new.log.log = ap (λ (p : Partition). p.log) (sym c.settle.ensures.same_log) in
-    let raised = raised_boundary (without_member m.number (leading_of c.in-Leads.leading).isr) log m.state.watermark mark c.self.invariant.boundary
-    (λ e. c.raised-watermark.ensures.alone e ∙ ap (λ (end : ℕ). max m.state.watermark end) c.end_offset-end.ensures.value) c.raised-watermark.ensures.among in
+    let l = leading_of c.in-Leads.leading in
+    let mark = c.max-watermark.result in
+    let same : m.state.log ≡ c.settle.new.log.log = ap (λ (p : Partition). p.log) (sym c.settle.ensures.same_log) in
+    let reports : HasReports m.state.log (Leads l) = subst (λ (k : Mode). HasReports m.state.log k) (ap mode_of c.in-Leads.is) c.self.invariant.reports in
+    let raised = raised_boundary m.state.log l m.state.watermark mark c.end_offset-end.result c.least_end-least.result c.self.invariant.boundary reports
+    c.end_offset-end.ensures.value c.least_end-least.ensures.known
+    (c.max-watermark.ensures ∙ ap (λ (o : ℕ). max m.state.watermark o) c.unwrap_or.ensures) in
     record {
       entries = c.settle.ensures.kept;
       unsettled = subst (AreAbove mark) (sym c.settle.ensures.left) (above_left mark c.self.inside.entries);
-      epochs = subst (λ (l : List Batch). HasEpochs l m.state.mode) same c.self.invariant.epochs;
-      boundary = subst (λ (l : List Batch). IsBoundary l mark) same raised.0;
+      epochs = subst (λ (log : List Batch). HasEpochs log m.state.mode) same c.self.invariant.epochs;
+      reports = subst (λ (log : List Batch). HasReports log m.state.mode) same c.self.invariant.reports;
+      boundary = subst (λ (log : List Batch). IsBoundary log mark) same raised.0;
       settled = c.settle.ensures.reached raised.0 (omega (arith, c.self.invariant.settled, raised.1));
     }
 
@@ -40,10 +45,13 @@ pub returns : goal.returns
 returns c =
     let m = member_of c.self.inside in
     let l = leading_of c.in-Leads.leading in
-    let mark = c.raised-watermark.result in
-    let is = raised_either m.number m.state l mark refl
-    (λ e. c.raised-watermark.ensures.alone e ∙ ap (λ (end : ℕ). max m.state.watermark end) c.end_offset-end.ensures.value)
-    c.raised-watermark.ensures.among in
+    let mark = c.max-watermark.result in
+    let over : ℕ → Option ℕ = λ end. least_end (ends_over l.isr m.number end l.reported) in
+    let least : c.least_end-least.result ≡ over (end_of m.state.log) =
+    c.least_end-least.ensures.least ∙ ap over c.end_offset-end.ensures.value in
+    let is : raised m.number m.state l ≡ mark =
+    sym (c.max-watermark.ensures
+    ∙ ap (λ (o : ℕ). max m.state.watermark o) (c.unwrap_or.ensures ∙ ap (λ (o : Option ℕ). unwrap_or o 0) least)) in
     let P : Member → Partition → Type 0 =
     λ x p. Does x (record { number = m.number; limits = p.limits; state = record m.state { log = p.log; watermark = mark } }) Raise (MarkAt mark) in
     subst (λ (x : Member). P x c.settle.new.log) c.self.view_is

@@ -1,8 +1,8 @@
 use Rattle.std.proofs.Common.{Ok, subst}
 use Rattle.kp_model.specs.Event.{Elect}
 use Rattle.kp_model.specs.Step.{elect_cause}
-use Rattle.kp_replica.specs.Set.{record_of}
-use Rattle.kp_replica.specs.declared.record.Record.{Record}
+use Rattle.kp_control.specs.Set.{record_of}
+use Rattle.kp_control.specs.declared.record.LeaderAndIsr.{LeaderAndIsr}
 use Rattle.kp_world.specs.declared.event.Answer.TheVariants as answers
 use Rattle.kp_world.specs.Shown.{LeadsOn, Stage}
 use Rattle.kp_world.proofs.Moved.{elected_on, only_free}
@@ -15,4 +15,4 @@ returns-clause-step c = λ limits.
     let new : Stage = record { controller = record_of changed; members = c.self.inside.replicas.items } in
     subst (λ (stage : Stage). LeadsOn limits stage (Elect c.args.node) (Ok (answers.Changed changed)) new) c.self.view_is
     (elected_on limits c.args.node old changed c.self.inside.replicas.items
-    (only_free Record (elect_cause (record_of old) c.args.node) changed c.in_ok-changed.ensures.refused) c.in_ok-changed.ensures.elected)
+    (only_free LeaderAndIsr (elect_cause (record_of old) c.args.node) changed c.in_ok-changed.ensures.refused) c.in_ok-changed.ensures.elected)

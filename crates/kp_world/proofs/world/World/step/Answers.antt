@@ -4,7 +4,7 @@ use Rattle.kp_types.specs.declared.limits.Limits.{Limits}
 use Rattle.kp_model.specs.Event as model
 use Rattle.kp_model.specs.World.{Message}
 use Rattle.kp_model.specs.Step.{IsGiven}
-use Rattle.kp_replica.specs.Set.{record_of}
+use Rattle.kp_control.specs.Set.{record_of}
 use Rattle.kp_world.specs.Events.{IsAct, IsEvent, node_of}
 use Rattle.kp_world.specs.Shown.{LeadsOn, Stage}
 use Rattle.kp_world.specs.declared.event.Act.{Act}

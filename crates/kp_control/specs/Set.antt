@@ -2,10 +2,10 @@
 use Rattle.std.specs.Prelude.{ℕ, Bool, List, map}
 use Rattle.std.specs.List.{filter, enumerate_from}
 use Rattle.std.specs.Option.{option_map}
-use Rattle.kp_model.specs.World.{Leader as ModelLeader, LeaderAndIsr}
-use Rattle.kp_replica.specs.declared.record.NodeSet.{NodeSet}
-use Rattle.kp_replica.specs.declared.record.Leader.{Leader}
-use Rattle.kp_replica.specs.declared.record.Record.{Record}
+use Rattle.kp_model.specs.World.{Leader as ModelLeader, LeaderAndIsr as ModelRecord}
+use Rattle.kp_control.specs.declared.record.NodeSet.{NodeSet}
+use Rattle.kp_control.specs.declared.record.Leader.{Leader}
+use Rattle.kp_control.specs.declared.record.LeaderAndIsr.{LeaderAndIsr}
 
 -- the numbers whose place in the list is set, counted from the first number on
 abbrev pub numbers_of : ℕ → List Bool → List ℕ
@@ -18,5 +18,5 @@ members_of set = numbers_of 0 set.members
 abbrev pub leader_of : Leader → ModelLeader
 leader_of l = record { node = l.node; epoch = l.epoch }
 
-abbrev pub record_of : Record → LeaderAndIsr
+abbrev pub record_of : LeaderAndIsr → ModelRecord
 record_of r = record { leader = option_map leader_of r.leader; isr = members_of r.isr; version = r.version }

@@ -1,6 +1,6 @@
 //! The controller's record: who leads in which epoch, and who is in sync.
 
-ghost use Rattle.std.specs.Prelude.{◌≡◌, ◌+◌, ◌<◌, ◌≤◌, ◌^◌, not, length, IfOk};
+ghost use Rattle.std.specs.Prelude.{◌≡◌, ◌+◌, ◌<◌, ◌≤◌, ◌^◌, IfOk};
 ghost use Rattle.std.specs.Option.{ForSome};
 
 use kp_types::{Epoch, GREATEST_EPOCH, GREATEST_VERSION, NodeId, Refusal};
@@ -13,10 +13,10 @@ pub struct NodeSet {
 }
 
 impl NodeSet {
-    ghost use Rattle.std.specs.Prelude.{◌≡◌, ◌≤◌, ◌<◌, [], length, MatchBool};
+    ghost use Rattle.std.specs.Prelude.{◌≡◌, ◌≤◌};
     ghost use Rattle.std.specs.List.{range_with_len};
-    ghost use Rattle.kp_model.specs.Local.{is_member, without_member};
-    ghost use Rattle.kp_replica.specs.Set.{members_of};
+    ghost use Rattle.kp_model.specs.Local.{is_member};
+    ghost use Rattle.kp_control.specs.Set.{members_of};
 
     /// The nodes 0 to `count` - 1.
     pub fn first(count: NodeId) -> NodeSet
@@ -45,20 +45,6 @@ impl NodeSet {
             .copied()
             .unwrap_or(false)
     }
-
-    /// Whether it has a node other than this one.
-    pub(crate) fn has_others(&self, node: NodeId) -> bool
-        ensures { MatchBool result (0 < length (without_member node (members_of self.now)))
-            (without_member node (members_of self.now) ≡ []) }
-    {
-        let members = self.members.as_slice();
-        for (place, member) in members.iter().enumerate() {
-            if *member && place != usize::from(node) {
-                return true;
-            }
-        }
-        false
-    }
 }
 
 /// Who leads, in which leader epoch.
@@ -70,7 +56,7 @@ pub struct Leader {
 
 /// The controller's record. Every change raises its version. (Kafka replication design.)
 #[derive(Clone, Copy, Debug, PartialEq, Eq)]
-pub struct Record {
+pub struct LeaderAndIsr {
     /// None before the first election.
     pub leader: Option<Leader>,
     /// The in-sync replicas.
@@ -79,20 +65,20 @@ pub struct Record {
     ghost lawful: { ForSome leader (λ l. l.epoch + 1 < 2 ^ 24) },
 }
 
-impl Record {
+impl LeaderAndIsr {
     ghost use Rattle.std.specs.Prelude.{◌≡◌, ◌≤◌, IfOk};
     ghost use Rattle.kp_types.specs.Causes.{IsRefusedOnlyBy};
     ghost use Rattle.kp_model.specs.World.{initial};
     ghost use Rattle.kp_model.specs.Local.{elected};
     ghost use Rattle.kp_model.specs.Step.{elect_cause};
-    ghost use Rattle.kp_replica.specs.Set.{record_of};
+    ghost use Rattle.kp_control.specs.Set.{record_of};
 
     /// The record before the first election: no leader, all nodes in sync, version 0.
-    pub fn initial(count: NodeId) -> Record
+    pub fn initial(count: NodeId) -> LeaderAndIsr
         requires { count ≤ 7 }
         ensures { record_of result ≡ initial count }
     {
-        Record {
+        LeaderAndIsr {
             leader: None,
             isr: NodeSet::first(count),
             version: 0,
@@ -101,7 +87,7 @@ impl Record {
 
     /// The record after this node's election, which takes the next epoch. F21 where the node isn't in sync,
     /// F24 where epoch or version is at its greatest.
-    pub fn elected(&self, node: NodeId) -> Result<Record, Refusal>
+    pub fn elected(&self, node: NodeId) -> Result<LeaderAndIsr, Refusal>
         ensures refused { IsRefusedOnlyBy (elect_cause (record_of self.now) node) result }
         ensures elected { IfOk result (λ changed. record_of changed ≡ elected (record_of self.now) node) }
     {
@@ -115,7 +101,7 @@ impl Record {
         if epoch > GREATEST_EPOCH || self.version >= GREATEST_VERSION {
             return Err(Refusal::RecordFull);
         }
-        Ok(Record {
+        Ok(LeaderAndIsr {
             leader: Some(Leader { node, epoch }),
             isr: self.isr,
             version: self.version + 1,

@@ -1,9 +1,9 @@
 use Rattle.std.proofs.Common.{ℕ, Bool, Option, false, get_or, sym, ap, ◌∙◌, arith, zero-add}
 use Rattle.std.specs.Option.{unwrap_or}
 use Rattle.kp_model.specs.Local.{is_member}
-use Rattle.kp_replica.specs.Set.{members_of}
-use Rattle.kp_replica.proofs.Numbers.{has_at}
-use Rattle.kp_replica.proofs.record.NodeSet.contains.Goals as goal
+use Rattle.kp_control.specs.Set.{members_of}
+use Rattle.kp_control.proofs.Numbers.{has_at}
+use Rattle.kp_control.proofs.record.NodeSet.contains.Goals as goal
 
 pub returns : goal.returns
 returns c =

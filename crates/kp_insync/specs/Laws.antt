@@ -1,0 +1,16 @@
+-- Reports and ends are those of the definitions.
+use Rattle.std.specs.Prelude.{◌≡◌, ℕ, true, List}
+use Rattle.kp_model.specs.Log.{Batch, end_of}
+use Rattle.kp_model.specs.World.{Leading, Request}
+use Rattle.kp_model.specs.Local.{reported_after, known_ends}
+use Rattle.kp_insync.specs.Reports.{with_report, ends_over}
+
+-- A leader keeps a fetch request's offset as its sender's report.
+abbrev pub ReportsAreKept : Type 0
+ReportsAreKept =
+    (l : Leading) (r : Request) → r.fetching ≡ true → reported_after l r ≡ with_report l.reported r.from (end_of r.log)
+
+-- A leader knows the ends over its in-sync set, its own log's among them.
+abbrev pub EndsAreKnown : Type 0
+EndsAreKnown =
+    (n : ℕ) (log : List Batch) (l : Leading) → known_ends n log l ≡ ends_over l.isr n (end_of log) l.reported

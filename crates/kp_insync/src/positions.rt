@@ -1,0 +1,69 @@
+//! The log ends that nodes reported.
+
+use kp_control::NodeSet;
+use kp_types::{NodeId, Offset};
+use std::marker::Model;
+
+/// The log end that each other node reported in one leadership, by the node's number: 7 optional numbers, and no memory of
+/// the heap.
+#[derive(Clone, Copy)]
+pub struct Positions {
+    ends: [Option<Offset>; 7],
+}
+
+impl Model for Positions {
+    ghost use Rattle.std.specs.Prelude.{◌≡◌, ℕ, List, Option, length};
+    ghost use Rattle.kp_model.specs.World.{most_nodes};
+
+    ghost Value = { List (Option ℕ) };
+
+    ghost view = { λ p. p.ends };
+
+    ghost invariant = { λ p. length p.ends ≡ most_nodes };
+
+    ghost inverse = { λ reported. record { ends = reported } };
+}
+
+impl Positions {
+    ghost use Rattle.std.specs.Prelude.{◌≡◌, ◌⊎◌, ℕ, Some, IfSome};
+    ghost use Rattle.kp_control.specs.Set.{members_of};
+    ghost use Rattle.kp_model.specs.World.{no_reports};
+    ghost use Rattle.kp_model.specs.Local.{least_end};
+    ghost use Rattle.kp_insync.specs.Reports.{with_report, ends_over, IsReported};
+
+    /// None has reported yet.
+    pub fn new() -> Positions
+        ensures { result ≡ no_reports }
+    {
+        Positions { ends: [None; 7] }
+    }
+
+    /// The node reports that its log ends at this offset: the greatest that it reported is kept. A number that no node has,
+    /// from 7 on, changes nothing.
+    pub fn report(&mut self, node: NodeId, end: Offset)
+        ensures { self.new ≡ with_report self.old node end }
+    {
+        let place = usize::from(node);
+        if place < self.ends.len() {
+            let greatest = self.ends[place].unwrap_or(0).max(end);
+            self.ends[place] = Some(greatest);
+        }
+    }
+
+    /// The least log end over the set, where the own log ends at `end`: none where another member has not reported. It is
+    /// the own end or one that was reported. The own end counts also where the set has not the own node. One pass over 7.
+    pub fn least_end(&self, set: &NodeSet, own: NodeId, end: Offset) -> Option<Offset>
+        ensures least { result ≡ least_end (ends_over (members_of set.now) own end self.now) }
+        ensures known { IfSome result (λ least. (least ≡ end) ⊎ IsReported self.now least) }
+    {
+        let mut least = end;
+        let members = set.members.as_slice();
+        for (place, member) in members.iter().enumerate() {
+            if *member && place != usize::from(own) {
+                let reported = self.ends.get(place).copied().flatten()?;
+                least = least.min(reported);
+            }
+        }
+        Some(least)
+    }
+}
