@@ -13,10 +13,11 @@ use Rattle.kp_model.specs.Producers.{content_of, is_of, producer_of}
 use Rattle.kp_model.specs.Transactions.{is_abort, is_marker_of, stable}
 use Rattle.kp_model.specs.Visible.{is_commit, is_visible, records_in, visible}
 use Rattle.kp_visible.specs.Laws.{IsAbortedIn, IsCommittedIn, Spans, ending_of}
-use Rattle.kp_visible.proofs.Lists.{splits, all_weaker, all_filter, all_find, all_flat_map, filter_split, find-append}
+use Rattle.kp_visible.proofs.Lists.{splits, all_flat_map, filter_split}
 use Rattle.kp_visible.proofs.Places.{IsApart, apart_filter, each_apart, log_apart}
 use Rattle.kp_visible.proofs.Rising.{offsets_within, record_at, records_rise}
 use Rattle.kp_visible.proofs.Showing.{commit_or_abort, visible_at}
+use Rattle.kp_types.proofs.Elements.{all_weaker, all_filter, find-append, all_find}
 
 -- ---- aborted records are hidden
 

@@ -14,10 +14,11 @@ use Rattle.kp_model.specs.Producers.{content_of}
 use Rattle.kp_model.specs.Transactions.{Aborted, aborted_by, aborted_in}
 use Rattle.kp_visible.specs.Filter.{covers, decides, ends_above, hides, shows, shows_at}
 use Rattle.kp_visible.specs.Near.{back_from, ended_by, place_from, shown_from}
-use Rattle.kp_visible.proofs.Lists.{all_weaker, find_behind, none_found}
+use Rattle.kp_visible.proofs.Lists.{find_behind}
 use Rattle.kp_visible.proofs.Places.{Apart, log_apart}
 use Rattle.kp_visible.proofs.Rising.{Rises, rises_lower, rises_sorted}
 use Rattle.kp_visible.proofs.Entries.{entry_is}
+use Rattle.kp_types.proofs.Elements.{all_weaker, none_found}
 
 -- ---- the list is cut
 

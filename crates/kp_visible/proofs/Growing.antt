@@ -14,12 +14,13 @@ use Rattle.kp_model.specs.Producers.{content_of, producer_of}
 use Rattle.kp_model.specs.Transactions.{Open, is_abort, is_marker_of, is_some_number, is_transactional_of, open_of, open_in, opened_by, stable}
 use Rattle.kp_model.specs.Visible.{is_commit, is_visible, records_in, visible}
 use Rattle.kp_visible.specs.Laws.{IsAbortedIn, Spans, ending_of}
-use Rattle.kp_visible.proofs.Lists.{Splits, splits, all_weaker, all_both, all_filter, all_filter_map, all_flat_map, all_front, all_here, all_itself, filter_agree_on, filter_all, filter_none, find-append, none_passes}
+use Rattle.kp_visible.proofs.Lists.{Splits, splits, all_filter_map, all_flat_map, all_here, filter_all, filter_none, none_passes}
 use Rattle.kp_visible.proofs.Places.{Apart, IsApart, all_from, all_take, apart_filter, around, each_apart, from_split, log_apart}
 use Rattle.kp_visible.proofs.Opening.{Opening, opening}
 use Rattle.kp_visible.proofs.Stability.{stable_before, stable_within}
 use Rattle.kp_visible.proofs.Showing.{commit_or_abort, visible_at}
 use Rattle.kp_visible.proofs.Consumers.{ending_at, found_marks, outside}
+use Rattle.kp_types.proofs.Elements.{all_weaker, all_both, all_front, all_filter, filter_agree_on, all_itself, find-append}
 
 -- ---- aborted records were hidden
 

@@ -8,10 +8,11 @@ use Rattle.std.proofs.lemmas.List.Elements.{filter_map-append}
 use Rattle.kp_model.specs.Log.{Batch, below, next_offset}
 use Rattle.kp_model.specs.Producers.{content_of}
 use Rattle.kp_model.specs.Transactions.{Aborted, aborted_by, aborted_in, is_abort, is_marker_of, open_of, stable}
-use Rattle.kp_visible.proofs.Lists.{all_weaker, all_front, all_filter_map, all_find, all_splits, Splits, find_behind, none_found}
+use Rattle.kp_visible.proofs.Lists.{all_filter_map, all_splits, Splits, find_behind}
 use Rattle.kp_visible.proofs.Places.{Apart, all_from, around, below_split}
 use Rattle.kp_visible.proofs.Since.{opens_behind}
 use Rattle.kp_visible.proofs.Entries.{entry_is, entry_marks, has_entry}
+use Rattle.kp_types.proofs.Elements.{all_weaker, all_front, none_found, all_find}
 
 -- the producer's, and its marker stands above the offset
 abbrev pub own_above : ℕ → ℕ → Aborted → Bool

@@ -1,52 +1,19 @@
 -- Elements of lists: what is true of each, which are found first, and what stands in front of one and behind it.
-use Rattle.std.proofs.Common.{◌≡◌, ℕ, zero, suc, ◌<◌, Bool, true, false, cond, List, [], ◌∷◌, ◌++◌, length, get_or, Option, Some, None, refl, sym, ap, ◌∙◌, subst, arith, inl, inr}
+use Rattle.std.proofs.Common.{◌≡◌, ℕ, zero, suc, ◌<◌, Bool, true, false, List, [], ◌∷◌, ◌++◌, length, get_or, Option, Some, None, refl, sym, ap, ◌∙◌, subst, arith, inl, inr}
 use Rattle.std.specs.Prelude.{Contains}
 use Rattle.std.specs.List.{AllByRecursion, filter, filter_map, find, flat_map}
-use Rattle.std.specs.Option.{option_or}
 use Rattle.std.proofs.lemmas.Bool.{cases_Bool}
-use Rattle.std.proofs.lemmas.List.Elements.{All-contains_itself, recursion_from_All}
+use Rattle.kp_types.proofs.Elements.{all_weaker, all_append, find-append, chosen_more}
 
 -- ---- what is true of each element
-
-pub all_weaker : {X : Type 0} (P Q : X → Type 0) → ((x : X) → P x → Q x) → (xs : List X) → AllByRecursion P xs → AllByRecursion Q xs
-all_weaker P Q f [] h = tt
-all_weaker P Q f (x ∷ xs) h = (f x h.0, all_weaker P Q f xs h.1)
-
-pub all_both : {X : Type 0} (P Q : X → Type 0) (xs : List X) → AllByRecursion P xs → AllByRecursion Q xs → AllByRecursion (λ x. P x × Q x) xs
-all_both P Q [] h k = tt
-all_both P Q (x ∷ xs) h k = ((h.0, k.0), all_both P Q xs h.1 k.1)
-
-pub all_append : {X : Type 0} (P : X → Type 0) (xs ys : List X) → AllByRecursion P xs → AllByRecursion P ys → AllByRecursion P (xs ++ ys)
-all_append P [] ys h k = k
-all_append P (x ∷ xs) ys h k = (h.0, all_append P xs ys h.1 k)
-
-pub all_front : {X : Type 0} (P : X → Type 0) (xs ys : List X) → AllByRecursion P (xs ++ ys) → AllByRecursion P xs
-all_front P [] ys h = tt
-all_front P (x ∷ xs) ys h = (h.0, all_front P xs ys h.1)
-
-pub all_behind : {X : Type 0} (P : X → Type 0) (xs ys : List X) → AllByRecursion P (xs ++ ys) → AllByRecursion P ys
-all_behind P [] ys h = h
-all_behind P (x ∷ xs) ys h = all_behind P xs ys h.1
 
 pub all_here : {X : Type 0} (P : X → Type 0) (front back : List X) (x : X) → AllByRecursion P (front ++ x ∷ back) → P x
 all_here P [] back x h = h.0
 all_here P (y ∷ ys) back x h = all_here P ys back x h.1
 
-pub all_filter : {X : Type 0} (p : X → Bool) (P : X → Type 0) (xs : List X) → AllByRecursion P xs → AllByRecursion (λ x. P x × (p x ≡ true)) (filter p xs)
-all_filter p P [] h = tt
-all_filter p P (x ∷ xs) h = elim (cases_Bool (p x)) [
-  | inl t ↦ rw t ((h.0, t), all_filter p P xs h.1)
-  | inr f ↦ rw f (all_filter p P xs h.1)
-]
-
 pub all_flat_map : {X Y : Type 0} (f : X → List Y) (P : X → Type 0) (Q : Y → Type 0) → ((x : X) → P x → AllByRecursion Q (f x)) → (xs : List X) → AllByRecursion P xs → AllByRecursion Q (flat_map f xs)
 all_flat_map f P Q h [] all = tt
 all_flat_map f P Q h (x ∷ xs) all = all_append Q (f x) (flat_map f xs) (h x all.0) (all_flat_map f P Q h xs all.1)
-
-pub filter_agree_on : {X : Type 0} (P : X → Type 0) (p q : X → Bool) → ((x : X) → P x → p x ≡ q x) → (xs : List X) → AllByRecursion P xs → filter p xs ≡ filter q xs
-filter_agree_on P p q h [] all = refl
-filter_agree_on {X = X} P p q h (x ∷ xs) all =
-    ap (λ (b : Bool). cond b (x ∷ filter p xs) (filter p xs)) (h x all.0) ∙ ap (λ (l : List X). cond (q x) (x ∷ l) l) (filter_agree_on P p q h xs all.1)
 
 pub filter_all : {X : Type 0} (p : X → Bool) (xs : List X) → AllByRecursion (λ x. p x ≡ true) xs → filter p xs ≡ xs
 filter_all p [] all = refl
@@ -56,28 +23,13 @@ pub filter_none : {X : Type 0} (p : X → Bool) (xs : List X) → AllByRecursion
 filter_none p [] all = refl
 filter_none p (x ∷ xs) all = rw all.0 (filter_none p xs all.1)
 
--- a list has each of its elements
-pub all_itself : {X : Type 0} (xs : List X) → AllByRecursion (Contains xs) xs
-all_itself xs = recursion_from_All (Contains xs) xs (All-contains_itself xs)
-
 -- ---- the first that passes
-
-pub none_found : {X : Type 0} (p : X → Bool) (xs : List X) → AllByRecursion (λ x. p x ≡ false) xs → find p xs ≡ None
-none_found p [] h = refl
-none_found p (x ∷ xs) h = rw h.0 (none_found p xs h.1)
 
 pub none_passes : {X : Type 0} (p : X → Bool) (xs : List X) → find p xs ≡ None → AllByRecursion (λ x. p x ≡ false) xs
 none_passes p [] e = tt
 none_passes p (x ∷ xs) e = elim (cases_Bool (p x)) [
   | inl t ↦ let found : Some x ≡ None = rw t at e in absurd cc
   | inr f ↦ (f, none_passes p xs (rw f at e))
-]
-
-pub find-append : {X : Type 0} (p : X → Bool) (xs ys : List X) → find p (xs ++ ys) ≡ option_or (find p xs) (find p ys)
-find-append p [] ys = refl
-find-append p (x ∷ xs) ys = elim (cases_Bool (p x)) [
-  | inl t ↦ rw t refl
-  | inr f ↦ rw f (find-append p xs ys)
 ]
 
 pub find_behind : {X : Type 0} (p : X → Bool) (xs ys : List X) → find p xs ≡ None → find p (xs ++ ys) ≡ find p ys
@@ -103,21 +55,7 @@ found_first {X = X} p (y ∷ ys) x e = elim (cases_Bool (p y)) [
       record { front = y ∷ rest.front; back = rest.back; is = ap (λ (l : List X). y ∷ l) rest.is; passes = rest.passes; before = (f, rest.before) }
 ]
 
-pub all_find : {X : Type 0} (p : X → Bool) (P : X → Type 0) (xs : List X) (y : X) → AllByRecursion P xs → find p xs ≡ Some y → P y × (p y ≡ true)
-all_find p P [] y h e = absurd cc
-all_find p P (x ∷ xs) y h e = elim (cases_Bool (p x)) [
-  | inl t ↦
-      let found : Some x ≡ Some y = rw t at e in
-      let same : x ≡ y = cc in
-      subst (λ z. P z × (p z ≡ true)) same (h.0, t)
-  | inr f ↦ all_find p P xs y h.1 (rw f at e)
-]
-
 -- ---- answers for each element
-
-chosen_more : {X Y : Type 0} (f : X → Option Y) (Q : Y → Type 0) (x : X) (xs : List X) (o : Option Y) → f x ≡ o → ((y : Y) → o ≡ Some y → Q y) → AllByRecursion Q (filter_map f xs) → AllByRecursion Q (filter_map f (x ∷ xs))
-chosen_more f Q x xs None e here rest = rw e rest
-chosen_more f Q x xs (Some y) e here rest = rw e (here y refl, rest)
 
 -- what is true of each answer that an element gives
 pub all_filter_map : {X Y : Type 0} (f : X → Option Y) (P : X → Type 0) (Q : Y → Type 0) → ((x : X) (y : Y) → P x → f x ≡ Some y → Q y) → (xs : List X) → AllByRecursion P xs → AllByRecursion Q (filter_map f xs)

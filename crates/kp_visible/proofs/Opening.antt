@@ -5,8 +5,9 @@ use Rattle.std.specs.Option.{option_map}
 use Rattle.std.proofs.lemmas.Bool.{cases_Bool}
 use Rattle.kp_model.specs.Log.{Batch}
 use Rattle.kp_model.specs.Transactions.{is_marker_of, is_transactional_of, since_marker, open_of}
-use Rattle.kp_visible.proofs.Lists.{all_append, all_behind, found_first}
+use Rattle.kp_visible.proofs.Lists.{found_first}
 use Rattle.kp_visible.proofs.Since.{since_push}
+use Rattle.kp_types.proofs.Elements.{all_append, all_behind}
 
 -- the batches since the producer's last marker are the log's last ones, and none is a marker of the producer's
 record Newest (producer : ℕ) (log : List Batch) : Type 0 where

@@ -4,7 +4,8 @@ use Rattle.std.specs.List.{AllByRecursion, filter}
 use Rattle.std.proofs.lemmas.Bool.{cases_Bool, le-leb, lt-leb}
 use Rattle.kp_model.specs.Log.{Batch, width, next_offset, Follow, IsLog, below, from_offset}
 use Rattle.std.proofs.lemmas.List.Elements.{filter-append}
-use Rattle.kp_visible.proofs.Lists.{Splits, all_append, all_weaker, all_both, filter_all, filter_none}
+use Rattle.kp_visible.proofs.Lists.{Splits, filter_all, filter_none}
+use Rattle.kp_types.proofs.Elements.{all_weaker, all_both, all_append}
 
 -- the batches stand apart from this offset on, each behind the one in front of it, and each takes some offset
 abbrev pub Apart : ℕ → List Batch → Type 0

@@ -7,8 +7,8 @@ use Rattle.kp_batch.specs.Batch.{records_of}
 use Rattle.kp_record.specs.Record.{Record}
 use Rattle.kp_model.specs.Log.{Batch, next_offset}
 use Rattle.kp_model.specs.Visible.{records_in}
-use Rattle.kp_visible.proofs.Lists.{all_weaker}
 use Rattle.kp_visible.proofs.Places.{Apart}
+use Rattle.kp_types.proofs.Elements.{all_weaker}
 
 -- each number is above the one in front of it, and at least this one
 abbrev pub Rises : {X : Type 0} → (X → ℕ) → ℕ → List X → Type 0

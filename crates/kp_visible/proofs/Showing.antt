@@ -10,12 +10,13 @@ use Rattle.kp_model.specs.Producers.{content_of, producer_of, is_of}
 use Rattle.kp_model.specs.Transactions.{aborted_in, is_abort, is_marker_of, is_transactional_of, stable}
 use Rattle.kp_model.specs.Visible.{is_commit, is_visible, records_in, visible}
 use Rattle.kp_visible.specs.Filter.{hides, shows, shows_at}
-use Rattle.kp_visible.proofs.Lists.{Splits, splits, found_first, none_passes, all_here, all_filter, all_itself, all_weaker, all_append, filter_agree_on}
+use Rattle.kp_visible.proofs.Lists.{Splits, splits, found_first, none_passes, all_here}
 use Rattle.kp_visible.proofs.Places.{Apart, around, from_split, log_apart}
 use Rattle.kp_visible.proofs.Since.{opens_at}
 use Rattle.kp_visible.proofs.Holding.{IsPassed, abort_holds, commit_holds_nothing, held}
 use Rattle.kp_visible.proofs.Stability.{stable_within, stable_before}
 use Rattle.kp_visible.proofs.Stopping.{aborted_stable, hides_held}
+use Rattle.kp_types.proofs.Elements.{all_weaker, all_append, all_filter, filter_agree_on, all_itself}
 
 -- a marker is a commit or an abort
 pub commit_or_abort : (content : Content) → is_marker content ≡ true → is_commit content ≡ not (is_abort content)

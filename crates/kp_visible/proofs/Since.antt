@@ -7,7 +7,8 @@ use Rattle.std.proofs.lemmas.List.{reverse-append}
 use Rattle.std.proofs.lemmas.List.Sums.{take_while-cons}
 use Rattle.kp_model.specs.Log.{Batch}
 use Rattle.kp_model.specs.Transactions.{is_marker_of, is_transactional_of, since_marker, open_of}
-use Rattle.kp_visible.proofs.Lists.{all_append, all_front, all_here, all_find, find-append}
+use Rattle.kp_visible.proofs.Lists.{all_here}
+use Rattle.kp_types.proofs.Elements.{all_append, all_front, find-append, all_find}
 
 -- ---- the batches since the last marker
 

@@ -8,9 +8,10 @@ use Rattle.kp_model.specs.Log.{Batch, below, next_offset}
 use Rattle.kp_model.specs.Producers.{content_of, producer_of, is_of}
 use Rattle.kp_batch.specs.Batch.{is_transactional}
 use Rattle.kp_model.specs.Transactions.{Open, is_marker_of, is_transactional_of, is_some_number, open_of, open_in, opened_by, stable}
-use Rattle.kp_visible.proofs.Lists.{all_weaker, all_filter, all_filter_map, all_chosen, filter_split}
+use Rattle.kp_visible.proofs.Lists.{all_filter_map, all_chosen, filter_split}
 use Rattle.kp_visible.proofs.Places.{Apart, all_take, around}
 use Rattle.kp_visible.proofs.Since.{opens_at}
+use Rattle.kp_types.proofs.Elements.{all_weaker, all_filter}
 
 -- ---- the least of some numbers
 

@@ -6,12 +6,13 @@ use Rattle.std.proofs.lemmas.Bool.{cases_Bool, leb-true, leb-false, ltb-true}
 use Rattle.kp_model.specs.Log.{Batch, IsLog, below, next_offset}
 use Rattle.kp_model.specs.Transactions.{Aborted, aborted_by, aborted_in, open_of, stable}
 use Rattle.kp_visible.specs.Filter.{hides}
-use Rattle.kp_visible.proofs.Lists.{Splits, all_filter_map, all_here, all_splits, all_weaker}
+use Rattle.kp_visible.proofs.Lists.{Splits, all_filter_map, all_here, all_splits}
 use Rattle.kp_visible.proofs.Places.{Apart, IsApart, apart_filter, around, below_split, each_apart, log_apart, upto_split}
 use Rattle.kp_visible.proofs.Entries.{IsEntry, entry_is}
 use Rattle.kp_visible.proofs.Opening.{Opening, opening}
 use Rattle.kp_visible.proofs.Stability.{stable_before, stable_within}
 use Rattle.kp_visible.proofs.Holding.{held, none_held}
+use Rattle.kp_types.proofs.Elements.{all_weaker}
 
 -- each begins no lower than any in front of it left the last stable offset
 abbrev pub BeginsStable : List Aborted → Type 0

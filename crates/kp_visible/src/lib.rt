@@ -39,10 +39,13 @@ pub fn committed_records<'a>(
     requires { AllByRecursion (λ w. next_offset (logged w) ≤ 2 ^ 62) batches.now }
     ensures by_list { IsNonDecreasingBy (λ a. a.marker) aborted.now
         → committed_left result ≡ records_in (filter (shows aborted.now) (map logged batches.now)) }
-    ensures committed { (log : List LogBatch) → (high_watermark : ℕ) → IsLog log → aborted.now ≡ aborted_in log
-        → AllByRecursion (λ b. Contains log b × (next_offset b ≤ stable log high_watermark)) (map logged batches.now)
+    ensures committed { (log : List LogBatch) → (high_watermark : ℕ) → IsLog log
+        → aborted.now ≡ aborted_in log
+        → AllByRecursion (λ b. Contains log b
+        × (next_offset b ≤ stable log high_watermark)) (map logged batches.now)
         → committed_left result ≡ records_in (filter (is_visible log) (map logged batches.now)) }
-    ensures whole { (log : List LogBatch) → (high_watermark : ℕ) → IsLog log → aborted.now ≡ aborted_in log
+    ensures whole { (log : List LogBatch) → (high_watermark : ℕ) → IsLog log
+        → aborted.now ≡ aborted_in log
         → map logged batches.now ≡ below (stable log high_watermark) log
         → committed_left result ≡ visible log high_watermark }
 {

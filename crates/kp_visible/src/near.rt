@@ -20,7 +20,8 @@ impl<'a> Nearby<'a> {
     pub(crate) fn search(aborted: &'a [AbortedTransaction], offset: Offset) -> Nearby<'a>
         ensures list { result.aborted.now ≡ aborted.now }
         ensures found { IsNonDecreasingBy (λ a. a.marker) aborted.now
-            → IsPartitionPoint (λ a. a.marker ≤ offset) (λ a. offset < a.marker) aborted.now result.place }
+            → IsPartitionPoint (λ a. a.marker ≤ offset) (λ a.
+            offset < a.marker) aborted.now result.place }
     {
         let place = aborted.partition_point(|ended| ended.marker <= offset);
         Nearby { aborted, place }
