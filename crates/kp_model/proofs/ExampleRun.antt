@@ -15,24 +15,24 @@ use Rattle.kp_model.specs.Run.{Run, extend, held}
 use Rattle.kp_model.proofs.Steps.{happened, was_refused}
 
 -- an action that happens, and one that is refused
-abbrev did : (w : World) (n : ℕ) (act : Act) (e : Effect) → n < w.count → IsGiven w.messages act → cause w.controller n (w.nodes n) act ≡ None → Happens w.controller n (w.nodes n) act e
+abbrev pub did : (w : World) (n : ℕ) (act : Act) (e : Effect) → n < w.count → IsGiven w.messages act → cause w.controller n (w.nodes n) act ≡ None → Happens w.controller n (w.nodes n) act e
     → NodeStep w n act (answered w.messages e) (moved w n e)
 did w n act e counted given free h =
     record { counted = counted; given = given; effect = e; local = happened w.controller n (w.nodes n) act e free h; outcome_is = refl; new_is = refl }
 
-abbrev body : Body
+abbrev pub body : Body
 body = record { base_time = 10; content = Plain (record { time = 10; key = None; value = Some (0x61 ∷ []); headers = [] } ∷ []) }
 
-abbrev batch : Batch
+abbrev pub batch : Batch
 batch = record { base = 0; epoch = 0; body = body }
 
-abbrev leader : List (Option ℕ) → Leading
+abbrev pub leader : List (Option ℕ) → Leading
 leader reported = record { epoch = 0; isr = 0 ∷ 1 ∷ []; version = 1; start = 0; reported = reported }
 
 abbrev follower : Mode
 follower = Follows (record { leader = 0; epoch = 0; fetching = true })
 
-abbrev node : List Batch → ℕ → Mode → Node
+abbrev pub node : List Batch → ℕ → Mode → Node
 node log watermark mode = record { log = log; watermark = watermark; checkpoint = 0; life = 0; mode = mode }
 
 abbrev ask : List Batch → Request
@@ -42,7 +42,7 @@ ask log = record { from = 1; to = 0; life = 0; epoch = 0; fetching = true; log =
 abbrev w1 : World
 w1 = record (start 2) { controller = elected (start 2).controller 0 }
 
-e1 : Step (start 2) (Elect 0) (told (Changed w1.controller)) w1
+pub e1 : Step (start 2) (Elect 0) (told (Changed w1.controller)) w1
 e1 = (refl, refl)
 
 -- adopt 0, adopt 1
@@ -52,7 +52,7 @@ a2 = becomes w1.controller (node [] 0 (Leads (leader no_reports))) (NowLeads 0 0
 abbrev w2 : World
 w2 = moved w1 0 a2
 
-e2 : Step w1 (Acts 0 Adopt) (told (NowLeads 0 0)) w2
+pub e2 : Step w1 (Acts 0 Adopt) (told (NowLeads 0 0)) w2
 e2 = did w1 0 Adopt a2 (omega arith) tt refl refl
 
 abbrev a3 : Effect
@@ -61,7 +61,7 @@ a3 = becomes w2.controller (node [] 0 follower) (NowFollows 0 0 true)
 abbrev w3 : World
 w3 = moved w2 1 a3
 
-e3 : Step w2 (Acts 1 Adopt) (told (NowFollows 0 0 true)) w3
+pub e3 : Step w2 (Acts 1 Adopt) (told (NowFollows 0 0 true)) w3
 e3 = did w2 1 Adopt a3 (omega arith) tt refl refl
 
 -- what no leader does, bytes that are no batch, and a number that no message has
@@ -71,11 +71,11 @@ e3_raise = record { counted = omega arith; given = tt; effect = _; local = was_r
 e3_fault : cause w3.controller 0 (w3.nodes 0) (Produce (Err refusals.BadCrc)) ≡ Some refusals.BadCrc
 e3_fault = refl
 
-e3_number : Step w3 (Deliver 0 5) (told (Refused refusals.StaleAnswer)) w3
+e3_number : Step w3 (Deliver 5) (told (Refused refusals.StaleAnswer)) w3
 e3_number = (refl, refl)
 
 -- produce at 0
-lawful : IsBody body
+pub lawful : IsBody body
 unfolding size_of covered record_spelling record_fields records_spelling varint varint_within sized sized_or_null
 lawful =
     record {
@@ -92,18 +92,18 @@ a4 = becomes w3.controller (node (batch ∷ []) 0 (Leads (leader no_reports))) (
 abbrev w4 : World
 w4 = moved w3 0 a4
 
-e4 : Step w3 (Acts 0 (Produce (Ok body))) (told (At 0)) w4
+pub e4 : Step w3 (Acts 0 (Produce (Ok body))) (told (At 0)) w4
 unfolding admit
 e4 = did w3 0 (Produce (Ok body)) a4 (omega arith) tt refl (lawful, refl)
 
--- ask 1, deliver 0 to node 0, deliver 1 to node 1
+-- ask 1, deliver 0 (to node 0, whom it asks), deliver 1 (to node 1, which asked)
 abbrev a5 : Effect
 a5 = sends w4.controller (node [] 0 follower) (Asks (ask [])) (AsksFrom 0)
 
 abbrev w5 : World
 w5 = moved w4 1 a5
 
-e5 : Step w4 (Acts 1 Ask) (record { reply = AsksFrom 0; number = Some 0 }) w5
+pub e5 : Step w4 (Acts 1 Ask) (record { reply = AsksFrom 0; number = Some 0 }) w5
 e5 = did w4 1 Ask a5 (omega arith) tt refl refl
 
 abbrev a6 : Effect
@@ -114,16 +114,16 @@ a6 =
 abbrev w6 : World
 w6 = moved w5 0 a6
 
-e6 : Step w5 (Deliver 0 0) (record { reply = SentBatches 1 0; number = Some 1 }) w6
+pub e6 : Step w5 (Deliver 0) (record { reply = SentBatches 1 0; number = Some 1 }) w6
 e6 = did w5 0 (Receive (Asks (ask []))) a6 (omega arith) (0, refl) refl refl
 
 abbrev a7 : Effect
 a7 = becomes w6.controller (node (batch ∷ []) 0 follower) (Took 1 0)
 
-abbrev w7 : World
+abbrev pub w7 : World
 w7 = moved w6 1 a7
 
-e7 : Step w6 (Deliver 1 1) (told (Took 1 0)) w7
+pub e7 : Step w6 (Deliver 1) (told (Took 1 0)) w7
 e7 = did w6 1 (Receive (Answers (record { request = ask []; log = batch ∷ []; watermark = 0 }))) a7 (omega arith) (1, refl) refl refl
 
 -- ask 1 again, deliver 2, raise 0: the batch is committed
@@ -147,7 +147,7 @@ a9 =
 abbrev w9 : World
 w9 = moved w8 0 a9
 
-e9 : Step w8 (Deliver 0 2) (record { reply = SentBatches 0 0; number = Some 3 }) w9
+e9 : Step w8 (Deliver 2) (record { reply = SentBatches 0 0; number = Some 3 }) w9
 e9 = did w8 0 (Receive (Asks (ask (batch ∷ [])))) a9 (omega arith) (2, refl) refl refl
 
 abbrev a10 : Effect
@@ -168,19 +168,19 @@ adopted =
     extend (extend (extend none (Elect 0) (told (Changed w1.controller)) w1 e1) (Acts 0 Adopt) (told (NowLeads 0 0)) w2 e2)
     (Acts 1 Adopt) (told (NowFollows 0 0 true)) w3 e3
 
-abbrev taken : Run 2
+abbrev pub taken : Run 2
 taken =
     extend
     (extend
     (extend (extend adopted (Acts 0 (Produce (Ok body))) (told (At 0)) w4 e4) (Acts 1 Ask) (record { reply = AsksFrom 0; number = Some 0 }) w5 e5)
-    (Deliver 0 0) (record { reply = SentBatches 1 0; number = Some 1 }) w6 e6)
-    (Deliver 1 1) (told (Took 1 0)) w7 e7
+    (Deliver 0) (record { reply = SentBatches 1 0; number = Some 1 }) w6 e6)
+    (Deliver 1) (told (Took 1 0)) w7 e7
 
 whole : Run 2
 whole =
     extend
     (extend (extend taken (Acts 1 Ask) (record { reply = AsksFrom 1; number = Some 2 }) w8 e8)
-    (Deliver 0 2) (record { reply = SentBatches 0 0; number = Some 3 }) w9 e9)
+    (Deliver 2) (record { reply = SentBatches 0 0; number = Some 3 }) w9 e9)
     (Acts 0 Raise) (told (MarkAt 1)) w10 e10
 
 committed : held (w10.nodes 0) ≡ batch ∷ []

@@ -6,8 +6,7 @@ use Rattle.kp_record.specs.Varint.{varint, varint_within, sized, sized_or_null}
 use Rattle.kp_batch.specs.Batch.{Content, Plain, Produced, Marker, size_of, covered}
 use Rattle.kp_model.specs.Log.{Batch, end_of, size}
 use Rattle.kp_model.specs.Indexes.{offset_entries, time_entries}
-use Rattle.kp_model.specs.Epochs.{epoch_cache, end_for}
-use Rattle.kp_model.specs.Reconcile.{cut_place}
+use Rattle.kp_model.specs.Epochs.{epoch_cache, end_for, cut_place}
 use Rattle.kp_model.specs.Lookups.{offset_for_time}
 use Rattle.kp_model.specs.Producers.{producer_in}
 use Rattle.kp_model.specs.Transactions.{open_of, open_in, aborted_in, stable}
@@ -62,6 +61,10 @@ asked_zero = refl
 asked_nine : end_for leader_log 9 ≡ Some (4, 7)
 unfolding leader_log at many end_for
 asked_nine = refl
+
+asked_of_nothing : end_for [] 3 ≡ None
+unfolding end_for
+asked_of_nothing = refl
 
 -- ---- producers: six batches of one record, sequences 0 to 5
 
@@ -147,6 +150,15 @@ first_cut = refl
 second_cut : cut_place (take 1 follower_log) (Some (1, 3)) ≡ (3, true)
 unfolding follower_log at many cut_place end_for
 second_cut = refl
+
+-- of an empty log nothing is left to cut; where the leader has no epoch so low, all goes
+empty_cut : cut_place [] (Some (2, 5)) ≡ (0, true)
+unfolding cut_place end_for
+empty_cut = refl
+
+whole_cut : cut_place follower_log None ≡ (0, true)
+unfolding follower_log at many cut_place
+whole_cut = refl
 
 -- ---- look-ups: a transaction at time 10, a plain record at time 30, an abort marker at time 20
 

@@ -12,14 +12,14 @@ use Rattle.kp_model.specs.Admission.{Admission, Append, Duplicate, Refused as No
 use Rattle.kp_model.specs.World.{Leader, Leading, Following, Mode, Down, Idle, Leads, Follows, Node, Request, Answer, Message, Asks, Answers, World, no_reports, with_record, with_node, with_message}
 use Rattle.kp_model.specs.Event.{Act, Adopt, Produce, Mark, Ask, Receive, Raise, Join, Leave, Checkpoint, Stop, Restart, Show, Read, Committed, Event, Reply, Outcome, NowLeads, NowFollows, Took, Cut, Refused}
 use Rattle.kp_model.specs.Local
-use Rattle.kp_model.specs.Local.{Effect, becomes, cause, Happens, LacksMemory, LacksMemoryFor, next_epoch, under, Adopts, Appends, Produces, Marks, Receives, Accepts, Serves, Takes, TakesSome, Cuts, Alters, piece, grown, mark_taken, take_cause, cut_cause, serve_cause, has_epoch, marker_body, is_empty, is_down, is_news, mode_epoch, asked, answer, raised, elected, altered, with_member, without_member, is_member, join_cause, leave_cause, unless_leads}
+use Rattle.kp_model.specs.Local.{Effect, cause, Happens, LacksMemory, LacksMemoryFor, next_epoch, Adopts, Appends, Produces, Marks, Receives, Accepts, Serves, Takes, TakesSome, Cuts, Alters, piece, grown, mark_taken, take_cause, cut_cause, serve_cause, has_epoch, marker_body, is_empty, is_down, is_news, mode_epoch, asked, answer, raised, elected, altered, with_member, without_member, is_member, join_cause, leave_cause}
 use Rattle.kp_model.specs.Step.{Step, moved, IsGiven, elect_cause}
 use Rattle.kp_model.proofs.Beginnings.{Begins-refl, Begins-nil, Begins-append, Begins-trans}
-use Rattle.kp_model.proofs.Steps.{passed, where_leads, where_follows, leads_cause, step_cases, becoming, staying, sending, altering, with_node_same, moved_becomes, each_sent}
+use Rattle.kp_model.proofs.Steps.{where_leads, where_follows, leads_cause, step_cases, becoming, staying, sending, altering, with_node_same, moved_becomes, each_sent}
 use Rattle.kp_model.proofs.SoundLogs.{elections_of}
 use Rattle.kp_model.proofs.Ledger.{IsMade}
 use Rattle.kp_model.proofs.Kin
-use Rattle.kp_model.proofs.Kin.{History, IsKept, ModeIsKept, MessageIsKept, Expects, same_log, re_recorded, elect_kept, take_kept, take_some_kept, cut_kept, grown_made, cut_facts, has_epoch_is, empty_is}
+use Rattle.kp_model.proofs.Kin.{History, IsKept, ModeIsKept, MessageIsKept, same_log, re_recorded, elect_kept, take_kept, take_some_kept, cut_kept, grown_made, cut_facts, has_epoch_is, empty_is}
 use Rattle.kp_model.proofs.Held.{Sets, IsIn, Sent, IsHeld, answer_has, cut_holds}
 use Rattle.kp_model.proofs.HeldNodes.{NodeChange, changed_held, committed_after}
 use Rattle.kp_model.proofs.HeldSteps.{goes_down, restarts, marks_change, follows_now, takes, cuts}
@@ -31,6 +31,7 @@ use Rattle.kp_model.proofs.Members.{with_member_cases, with_member_keeps, withou
 use Rattle.kp_model.proofs.HeldOnto.{AllKept, Onto, onto_same, node_onto, led_same, led_follows}
 use Rattle.kp_model.proofs.HeldAppend.{append_onto}
 use Rattle.kp_model.proofs.HeldLeads.{lead_onto}
+use Rattle.kp_types.proofs.Causes.{passed}
 
 module _ (w : World) (g : History) (t : Sets) (a : AllKept w g t) where
   -- a message is sent, and no node changes
@@ -155,7 +156,7 @@ module _ (w : World) (g : History) (t : Sets) (a : AllKept w g t) where
 
     -- ---- cut
 
-    last_election : (epoch : ℕ) → has_epoch w.controller (Some epoch) ≡ true → elections_of w ≡ epoch + 1
+    pub last_election : (epoch : ℕ) → has_epoch w.controller (Some epoch) ≡ true → elections_of w ≡ epoch + 1
     last_election epoch e = by_leader w.controller.leader refl
       where
         by_leader : (o : Option Leader) → w.controller.leader ≡ o → elections_of w ≡ epoch + 1

@@ -12,13 +12,15 @@ use Rattle.kp_model.specs.Admission.{Admission, Append, Duplicate, Refused as No
 use Rattle.kp_model.specs.World.{Leader, LeaderAndIsr, Leading, Following, Mode, Down, Idle, Leads, Follows, Node, Request, Answer, Message, Asks, Answers, World, no_reports, start, with_record, with_node, with_message}
 use Rattle.kp_model.specs.Event.{Act, Adopt, Produce, Mark, Ask, Receive, Raise, Join, Leave, Checkpoint, Stop, Restart, Show, Read, Committed, Event, Reply, Outcome, NowLeads, NowFollows}
 use Rattle.kp_model.specs.Local
-use Rattle.kp_model.specs.Local.{Effect, becomes, cause, Happens, LacksMemory, next_epoch, stamped, under, Adopts, Appends, Produces, Marks, Receives, Accepts, Serves, Takes, TakesSome, Cuts, Alters, piece, grown, expects, take_cause, cut_cause, serve_cause, reconciles, has_epoch, mode_epoch, marker_body, LacksMemoryFor, is_empty, elected, altered}
+use Rattle.kp_model.specs.Local.{Effect, becomes, cause, Happens, LacksMemory, next_epoch, stamped, Adopts, Appends, Produces, Marks, Receives, Accepts, Serves, Takes, TakesSome, Cuts, Alters, piece, grown, expects, take_cause, cut_cause, serve_cause, reconciles, last_epoch, has_epoch, mode_epoch, marker_body, LacksMemoryFor, is_empty, elected, altered}
 use Rattle.kp_model.specs.Step.{Step, moved, IsGiven}
 use Rattle.kp_model.proofs.Beginnings.{Begins-refl, Begins-nil, Begins-append, Begins-trans, Begins-after}
 use Rattle.kp_model.proofs.Logs.{IsLog-push}
-use Rattle.kp_model.proofs.Steps.{passed, where_leads, where_follows, leads_cause, step_cases, becoming, staying, sending, altering, each_sent, each_append, each_weaker}
+use Rattle.kp_model.proofs.Steps.{where_leads, where_follows, leads_cause, step_cases, becoming, staying, sending, altering, each_sent}
 use Rattle.kp_model.proofs.SoundLogs.{AllBelow, all_below, last_below, mode_bound, WorldIsSound, elections_of, take_facts}
 use Rattle.kp_model.proofs.Ledger.{Ledger, IsMade, Grows, made_later, made_begins, made_push, with_log, with_log_at, with_log_other, with_log_grows, grown_begins}
+use Rattle.kp_types.proofs.Elements.{all_weaker, all_append}
+use Rattle.kp_types.proofs.Causes.{passed}
 
 -- what the leaders made, and who they were, by epoch
 pub record History : Type 0 where
@@ -91,7 +93,7 @@ pub sent : (w : World) (g : History) (m : Message) → IsKept w g → MessageIsK
 sent w g m h p =
     record {
       nodes = h.nodes;
-      messages = each_append (MessageIsKept g) w.messages (m ∷ []) h.messages (p, tt);
+      messages = all_append (MessageIsKept g) w.messages (m ∷ []) h.messages (p, tt);
       made = h.made;
       logs = h.logs;
       bounded = h.bounded;
@@ -193,7 +195,7 @@ grown_kept w g n e x h mode p =
             mode = mode_other g e x.log m n (w.nodes m).log (w.nodes m).mode p.leads ne p.made (h.nodes m).mode;
           })
           (record { made = p.agrees; mode = mode });
-      messages = each_weaker (MessageIsKept g) (MessageIsKept after) (message_later g ledger grows) w.messages h.messages;
+      messages = all_weaker (MessageIsKept g) (MessageIsKept after) (message_later g ledger grows) w.messages h.messages;
       made = each_epoch g.ledger e x.log (λ k log. IsMade ledger log) p.agrees (λ k ne. made_later g.ledger ledger (g.ledger k) grows (h.made k));
       logs = each_epoch g.ledger e x.log (λ k log. IsLog log) p.lawful (λ k ne. h.logs k);
       bounded = each_epoch g.ledger e x.log (λ k log. AllBelow (k + 1) log) p.bounded (λ k ne. h.bounded k);
@@ -243,7 +245,7 @@ appended w g n l body e s lawful h =
       had = Begins-append x.log (b ∷ []);
       agrees = made_push g.ledger l.epoch x.log b refl below mode.0 (h.nodes n).made;
       lawful = IsLog-push x.log b sound.log refl (omega arith) lawful;
-      bounded = each_append (λ c. c.epoch < l.epoch + 1) x.log (b ∷ []) below (omega arith, tt);
+      bounded = all_append (λ c. c.epoch < l.epoch + 1) x.log (b ∷ []) below (omega arith, tt);
       elected = omega (arith, bound, sound.within);
       leads = mode.1;
     }
@@ -400,7 +402,7 @@ cut_facts w n a f e c =
     let up = passed _ _ _ c in
     let recorded = passed _ _ _ up.1 in
     let own = passed _ _ _ recorded.1 in
-    let all : reconciles n (w.nodes n) a.request (Follows f) ≡ true = subst (λ (m : Mode). reconciles n (w.nodes n) a.request m ≡ true) e (not-false _ own.0) in
+    let all : reconciles n (w.nodes n) a.request.from a.request.life a.request.epoch (last_epoch a.request.log) (Follows f) ≡ true = subst (λ (m : Mode). reconciles n (w.nodes n) a.request.from a.request.life a.request.epoch (last_epoch a.request.log) m ≡ true) e (not-false _ own.0) in
     let but_last = and_parts _ _ all in
     let but_life = and_parts _ _ but_last.0 in
     let but_epoch = and_parts _ _ but_life.0 in

@@ -10,10 +10,10 @@ use Rattle.kp_model.specs.Admission.{Admission, Append, Duplicate, Refused as No
 use Rattle.kp_model.specs.World.{Leader, LeaderAndIsr, Leading, Following, Mode, Down, Idle, Leads, Follows, Node, Request, Answer, Message, Asks, Answers, World, start, with_record, no_reports, report_of, IsSent}
 use Rattle.kp_model.specs.Event.{Act, Adopt, Produce, Mark, Ask, Receive, Raise, Join, Leave, Checkpoint, Stop, Restart, Show, Read, Committed, Event, Reply, Outcome, NowLeads, NowFollows}
 use Rattle.kp_model.specs.Local
-use Rattle.kp_model.specs.Local.{Effect, becomes, cause, Happens, LacksMemory, LacksMemoryFor, Adopts, Appends, Produces, Marks, Accepts, Receives, Serves, Cuts, Alters, marker_body, with_member, without_member, is_member, is_empty, join_cause, leave_cause, next_epoch, elected, cannot_elect, greatest_epoch, greatest_version}
+use Rattle.kp_model.specs.Local.{Effect, becomes, cause, Happens, LacksMemory, LacksMemoryFor, Adopts, Appends, Produces, Marks, Accepts, Receives, Serves, Cuts, Alters, marker_body, with_member, without_member, is_empty, join_cause, leave_cause, next_epoch, elected, greatest_epoch, greatest_version}
 use Rattle.kp_model.specs.Step.{Step, moved, IsGiven, Rise, IsInRange, elect_cause}
 use Rattle.kp_model.specs.Run.{Moment, IsRun, Run, now, worlds, IsOf}
-use Rattle.kp_model.proofs.Steps.{passed, where_leads, where_follows, leads_cause, step_cases, each_sent, each_append}
+use Rattle.kp_model.proofs.Steps.{where_leads, where_follows, leads_cause, step_cases, each_sent}
 use Rattle.kp_model.proofs.Runs.{among_each}
 use Rattle.kp_model.proofs.RunLaws.{step_onward}
 use Rattle.kp_model.proofs.Kin.{with_node_each}
@@ -24,6 +24,8 @@ use Rattle.kp_model.proofs.Members.{in_cases, named, same_version, caught_up}
 use Rattle.kp_model.proofs.HeldLeads.{replicate_each}
 use Rattle.kp_model.proofs.HeldEvents.{isr_is}
 use Rattle.kp_model.proofs.HeldRuns.{run_is_held}
+use Rattle.kp_types.proofs.Elements.{all_append}
+use Rattle.kp_types.proofs.Causes.{passed}
 
 -- ---- rising lists
 
@@ -92,7 +94,7 @@ moved_in_range : (count : ℕ) (w : World) (n : ℕ) (e : Effect) → WorldIsInR
 moved_in_range count w n e h f =
     record {
       controller = f.controller;
-      messages = each_append (MessageIsInRange count) w.messages e.sent h.messages f.sent;
+      messages = all_append (MessageIsInRange count) w.messages e.sent h.messages f.sent;
       nodes = with_node_each (λ m y. ModeIsInRange count y.mode) w.nodes n e.node (λ m ne. h.nodes m) f.mode;
     }
 

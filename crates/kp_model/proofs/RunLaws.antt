@@ -10,6 +10,7 @@ use Rattle.kp_model.specs.Local
 use Rattle.kp_model.specs.Local.{Effect, Happens, LacksMemory, LacksMemoryFor, Adopts, Appends, Produces, Marks, Accepts, Receives, Serves, Cuts, Alters, marker_body}
 use Rattle.kp_model.specs.Step.{Step}
 use Rattle.kp_model.specs.Run.{Moment, IsRun, Run, now, worlds, last, extend, Among, IsOf, WasAppended}
+use Rattle.kp_model.specs.Laws.{RunsGoOn}
 use Rattle.kp_model.proofs.Steps.{where_leads, where_follows, step_cases}
 
 -- the record stays, or its version rises
@@ -117,7 +118,7 @@ start_among count (m ∷ past) = inr (start_among count past)
 pub start_is_of : (count : ℕ) (r : Run count) → IsOf (start count) r
 start_is_of count r = start_among count r.moments
 
-now_among : (count : ℕ) (moments : List Moment) → Among (now count moments) (worlds count moments)
+pub now_among : (count : ℕ) (moments : List Moment) → Among (now count moments) (worlds count moments)
 now_among count [] = inl refl
 now_among count (m ∷ past) = inl refl
 
@@ -148,6 +149,9 @@ versions count (m ∷ past) r w a =
 
 pub one_record : (count : ℕ) (r : Run count) (w : World) → IsOf w r → (w.controller ≡ (last r).controller) ⊎ (w.controller.version < (last r).controller.version)
 one_record count r w a = elim (versions count r.moments r.is_run w a) [ inl same ↦ inl (sym same) | inr less ↦ inr less ]
+
+pub runs_go_on : RunsGoOn
+runs_go_on count r event outcome new s = (extend r event outcome new s, refl)
 
 -- what was appended in a run was appended in each longer one
 pub appended_later : (count : ℕ) (r : Run count) (event : Event) (outcome : Outcome) (new : World) (s : Step (last r) event outcome new) (b : Batch) → WasAppended r b → WasAppended (extend r event outcome new s) b

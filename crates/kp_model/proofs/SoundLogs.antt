@@ -1,7 +1,7 @@
 -- Each log of each world of a run is a log, and no leader epoch in it is above its node's.
 use Rattle.std.proofs.Common.{◌≡◌, ℕ, ◌+◌, ◌-◌, ◌<◌, ◌≤◌, Bool, true, false, cond, eqb, ltb, leb, List, [], ◌∷◌, ◌++◌, Option, Some, None, Result, Ok, Err, refl, sym, ap, subst, append_assoc, append-nil, arith, inl, inr}
 use Rattle.std.specs.Prelude.{map, unwrap_or, is_some}
-use Rattle.std.specs.List.{AllByRecursion, last_or, filter}
+use Rattle.std.specs.List.{AllByRecursion, last_or}
 use Rattle.std.proofs.lemmas.Bool.{cond_both, cases_Bool, ltb-false, and_parts, not-false, eqb-true}
 use Rattle.kp_types.specs.declared.refusal.Refusal.{Refusal}
 use Rattle.kp_batch.specs.Batch.{Body, IsBody}
@@ -11,11 +11,13 @@ use Rattle.kp_model.specs.Admission.{Admission, Append, Duplicate, Refused as No
 use Rattle.kp_model.specs.World.{Leader, Leading, Following, Mode, Down, Idle, Leads, Follows, Node, Request, Answer, Message, Asks, Answers, World, start, with_record, with_node, with_message}
 use Rattle.kp_model.specs.Event.{Act, Adopt, Produce, Mark, Ask, Receive, Raise, Join, Leave, Checkpoint, Stop, Restart, Show, Read, Committed, Event, Reply, Outcome}
 use Rattle.kp_model.specs.Local
-use Rattle.kp_model.specs.Local.{Effect, becomes, sends, cause, Happens, LacksMemory, next_epoch, last_epoch, stamped, under, Adopts, Appends, Produces, Marks, Receives, Accepts, Serves, Takes, TakesSome, Cuts, Alters, piece, at_least_one, fitting, fetch_bytes, cannot_follow, grown, expects, take_cause, serve_cause, unless_leads, marker_body, LacksMemoryFor, elected, altered}
+use Rattle.kp_model.specs.Local.{Effect, cause, Happens, LacksMemory, next_epoch, last_epoch, stamped, under, Adopts, Appends, Produces, Marks, Receives, Accepts, Serves, Takes, TakesSome, Cuts, Alters, piece, at_least_one, fitting, fetch_bytes, cannot_follow, grown, expects, take_cause, serve_cause, marker_body, LacksMemoryFor, elected, altered}
 use Rattle.kp_model.specs.Step.{Step, moved, IsGiven}
 use Rattle.kp_model.proofs.Beginnings.{Begins-after}
 use Rattle.kp_model.proofs.Logs.{last_epoch_or, IsLog-begins, IsLog-push}
-use Rattle.kp_model.proofs.Steps.{passed, where_leads, where_follows, leads_cause, with_node_keeps, step_cases, becoming, staying, sending, altering, each_sent, each_append, each_front, each_weaker}
+use Rattle.kp_model.proofs.Steps.{where_leads, where_follows, leads_cause, with_node_keeps, step_cases, becoming, staying, sending, altering, each_sent}
+use Rattle.kp_types.proofs.Elements.{all_weaker, all_append, all_front, all_kept}
+use Rattle.kp_types.proofs.Causes.{passed}
 
 -- ---- epochs below a bound
 
@@ -23,7 +25,7 @@ abbrev pub AllBelow : ℕ → List Batch → Type 0
 AllBelow bound log = AllByRecursion (λ b. b.epoch < bound) log
 
 pub below_later : (low high : ℕ) (log : List Batch) → low ≤ high → AllBelow low log → AllBelow high log
-below_later low high log l h = each_weaker (λ b. b.epoch < low) (λ b. b.epoch < high) (λ b p. omega arith) log h
+below_later low high log l h = all_weaker (λ b. b.epoch < low) (λ b. b.epoch < high) (λ b p. omega arith) log h
 
 pub last_below : (epoch bound : ℕ) (log : List Batch) → epoch < bound → AllBelow bound log → last_epoch_or epoch log < bound
 last_below epoch bound [] e h = e
@@ -39,11 +41,6 @@ last_epoch_is (b ∷ bs) = ap (λ (o : Option ℕ). unwrap_or o 0) (last_epoch_s
 
 -- ---- a piece of a log
 
-each_filter : {A : Type 0} (P : A → Type 0) (test : A → Bool) (xs : List A) → AllByRecursion P xs → AllByRecursion P (filter test xs)
-each_filter P test [] h = tt
-each_filter P test (x ∷ xs) h =
-    cond_both (test x) (x ∷ filter test xs) (filter test xs) (AllByRecursion P) (λ e. (h.0, each_filter P test xs h.1)) (λ e. each_filter P test xs h.1)
-
 each_fitting : (P : Batch → Type 0) (room : ℕ) (bs : List Batch) → AllByRecursion P bs → AllByRecursion P (fitting room bs)
 each_fitting P room [] h = tt
 each_fitting P room (b ∷ bs) h =
@@ -54,7 +51,7 @@ each_at_least_one P [] h = tt
 each_at_least_one P (b ∷ bs) h = (h.0, each_fitting P (fetch_bytes - size b) bs h.1)
 
 pub each_piece : (P : Batch → Type 0) (log : List Batch) (r : Request) → AllByRecursion P log → AllByRecursion P (piece log r)
-each_piece P log r h = each_at_least_one P (from_offset (end_of r.log) log) (each_filter P (λ b. leb (end_of r.log) b.base) log h)
+each_piece P log r h = each_at_least_one P (from_offset (end_of r.log) log) (all_kept P (λ b. leb (end_of r.log) b.base) log h)
 
 pub Follow-bodies : (offset epoch : ℕ) (log : List Batch) → Follow offset epoch log → AllByRecursion (λ b. IsBody b.body) log
 Follow-bodies offset epoch [] h = tt
@@ -138,7 +135,7 @@ pub changed : (w : World) (n : ℕ) (x : Node) → WorldIsSound w → NodeIsSoun
 changed w n x h p = record { nodes = with_node_keeps (NodeIsSound (elections_of w)) w.nodes n x h.nodes p; messages = h.messages }
 
 sent : (w : World) (m : Message) → WorldIsSound w → MessageIsSound m → WorldIsSound (with_message w m)
-sent w m h p = record { nodes = h.nodes; messages = each_append MessageIsSound w.messages (m ∷ []) h.messages (p, tt) }
+sent w m h p = record { nodes = h.nodes; messages = all_append MessageIsSound w.messages (m ∷ []) h.messages (p, tt) }
 
 -- ---- each kind of event
 
@@ -175,7 +172,7 @@ stamp_keeps elections x l body e h lawful =
     let last = last_below 0 (l.epoch + 1) x.log (omega arith) below in
     record {
       log = IsLog-push x.log b h.log refl (omega arith) lawful;
-      epochs = each_append (λ c. c.epoch < mode_bound elections x.mode) x.log (b ∷ []) h.epochs (omega (arith, bound), tt);
+      epochs = all_append (λ c. c.epoch < mode_bound elections x.mode) x.log (b ∷ []) h.epochs (omega (arith, bound), tt);
       within = h.within;
     }
 
@@ -238,7 +235,7 @@ grown_is_sound elections x a h g c =
     let bound = expects_mode elections x a x.mode facts.expected in
     record {
       log = can_follow x.log (piece a.log a.request) h.log (each_piece (λ b. IsBody b.body) a.log a.request (Follow-bodies 0 0 a.log g.log)) facts.follows;
-      epochs = each_append (λ b. b.epoch < mode_bound elections x.mode) x.log (piece a.log a.request) h.epochs
+      epochs = all_append (λ b. b.epoch < mode_bound elections x.mode) x.log (piece a.log a.request) h.epochs
           (each_piece (λ b. b.epoch < mode_bound elections x.mode) a.log a.request (below_later (a.request.epoch + 1) (mode_bound elections x.mode) a.log (omega (arith, bound)) g.epochs));
       within = h.within;
     }
@@ -263,7 +260,7 @@ take_some_keeps w n a f c h g t =
     }))
   where
     below_front : (bound : ℕ) (front log : List Batch) → Begins front log → AllBelow bound log → AllBelow bound front
-    below_front bound front log p h = each_front (λ b. b.epoch < bound) front p.rest (subst (AllBelow bound) (sym p.is) h)
+    below_front bound front log p h = all_front (λ b. b.epoch < bound) front p.rest (subst (AllBelow bound) (sym p.is) h)
 
 cut_keeps : (w : World) (n : ℕ) (a : Answer) (effect : Effect) (f : Following) → (w.nodes n).mode ≡ Follows f → WorldIsSound w → Cuts w.controller (w.nodes n) a effect f → WorldIsSound (moved w n effect)
 cut_keeps w n a effect f e h c =
@@ -274,7 +271,7 @@ cut_keeps w n a effect f e h c =
     becoming WorldIsSound w n effect _ _ c.effect_is
     (changed w n _ h (record {
       log = IsLog-begins c.begins sound.log;
-      epochs = each_front (λ b. b.epoch < f.epoch + 1) c.left c.begins.rest (subst (AllBelow (f.epoch + 1)) (sym c.begins.is) below);
+      epochs = all_front (λ b. b.epoch < f.epoch + 1) c.left c.begins.rest (subst (AllBelow (f.epoch + 1)) (sym c.begins.is) below);
       within = omega (arith, bound, sound.within);
     }))
 

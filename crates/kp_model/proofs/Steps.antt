@@ -1,18 +1,13 @@
 -- What is known of a step that isn't refused.
-use Rattle.std.proofs.Common.{◌≡◌, ◌⊎◌, ℕ, zero, suc, ◌<◌, Bool, true, false, cond, eqb, List, [], ◌∷◌, ◌++◌, Option, Some, None, refl, sym, ap, ◌∙◌, subst, append-nil, inl, inr}
+use Rattle.std.proofs.Common.{◌≡◌, ◌⊎◌, ℕ, zero, suc, ◌<◌, Bool, true, false, cond, eqb, List, [], ◌∷◌, Option, Some, None, refl, sym, ap, ◌∙◌, subst, append-nil, inl, inr}
 use Rattle.std.specs.Prelude.{slice_get}
 use Rattle.std.specs.List.{AllByRecursion}
 use Rattle.kp_types.specs.declared.refusal.Refusal.{Refusal}
 use Rattle.std.proofs.lemmas.Bool.{cond_both, eqb-true}
-use Rattle.kp_model.specs.World.{LeaderAndIsr, Leading, Following, Mode, Down, Idle, Leads, Follows, Node, Message, World, with_record, with_node, with_message, IsSent}
+use Rattle.kp_model.specs.World.{LeaderAndIsr, Leading, Following, Mode, Down, Idle, Leads, Follows, Node, Message, World, with_record, with_node, with_message, addressee, IsSent}
 use Rattle.kp_model.specs.Event.{Act, Receive, Event, Elect, Acts, Deliver, Reply, Refused, Outcome}
 use Rattle.kp_model.specs.Local.{Effect, becomes, sends, Local, LocalBy, Happens, LacksMemory, cause, unless_leads, WhereLeads, WhereFollows, elected}
 use Rattle.kp_model.specs.Step.{Step, NodeStep, Delivers, ElectsBy, elect_cause, moved, IsGiven}
-
--- a test that didn't refuse
-pub passed : (t : Bool) (r : Refusal) (others : Option Refusal) → cond t (Some r) others ≡ None → (t ≡ false) × (others ≡ None)
-passed true r others e = absurd cc
-passed false r others e = (refl, e)
 
 -- where only a leader acts
 pub where_leads : (mode : Mode) (P : Leading → Type 0) → WhereLeads mode P → (l : Leading) × (mode ≡ Leads l) × P l
@@ -99,11 +94,11 @@ step_cases w (Elect n) outcome new s = by_cause (elect_cause w.controller n) ref
     by_cause (Some r) e h = inl h.1
     by_cause None e h = inr (inl (record { node = n; free = e; new_is = h.1 }))
 step_cases w (Acts n act) outcome new s = node_cases w n act outcome new s
-step_cases w (Deliver n number) outcome new s = by_message (slice_get w.messages number) s
+step_cases w (Deliver number) outcome new s = by_message (slice_get w.messages number) s
   where
-    by_message : (o : Option Message) → Delivers w n o outcome new → Cases w new
+    by_message : (o : Option Message) → Delivers w o outcome new → Cases w new
     by_message None h = inl h.1
-    by_message (Some m) h = node_cases w n (Receive m) outcome new h
+    by_message (Some m) h = node_cases w (addressee m) (Receive m) outcome new h
 
 -- ---- how a step is made
 
@@ -125,18 +120,6 @@ pub each_at : {A : Type 0} (P : A → Type 0) (xs : List A) (k : ℕ) (x : A) �
 each_at P [] k x h e = absurd cc
 each_at P (y ∷ ys) zero x h e = let same : y ≡ x = cc in subst P same h.0
 each_at P (y ∷ ys) (suc k) x h e = each_at P ys k x h.1 e
-
-pub each_append : {A : Type 0} (P : A → Type 0) (xs ys : List A) → AllByRecursion P xs → AllByRecursion P ys → AllByRecursion P (xs ++ ys)
-each_append P [] ys h g = g
-each_append P (x ∷ xs) ys h g = (h.0, each_append P xs ys h.1 g)
-
-pub each_front : {A : Type 0} (P : A → Type 0) (xs ys : List A) → AllByRecursion P (xs ++ ys) → AllByRecursion P xs
-each_front P [] ys h = tt
-each_front P (x ∷ xs) ys h = (h.0, each_front P xs ys h.1)
-
-pub each_weaker : {A : Type 0} (P Q : A → Type 0) → ((x : A) → P x → Q x) → (xs : List A) → AllByRecursion P xs → AllByRecursion Q xs
-each_weaker P Q f [] h = tt
-each_weaker P Q f (x ∷ xs) h = (f x h.0, each_weaker P Q f xs h.1)
 
 -- what holds of each message that was sent
 pub each_sent : (P : Message → Type 0) (ms : List Message) (m : Message) → AllByRecursion P ms → IsSent ms m → P m

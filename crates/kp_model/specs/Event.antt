@@ -23,12 +23,12 @@ pub data Act : Type 0 where
   Read : (from : ℕ) → Act
   Committed : (from : ℕ) → Act
 
--- Each event is one atomic action of one actor: of the controller, or of node n. A message may be named
--- by its number.
+-- Each event is one atomic action of one actor: of the controller, or of node n. A message is delivered by its
+-- number alone: the message itself says to whom it goes.
 pub data Event : Type 0 where
   Elect : (n : ℕ) → Event
   Acts : (n : ℕ) → Act → Event
-  Deliver : (n number : ℕ) → Event
+  Deliver : (number : ℕ) → Event
 
 -- one read record: its offset and its value
 pub record Line : Type 0 where

@@ -91,13 +91,7 @@ abbrev pub initial : ℕ → LeaderAndIsr
 initial count = record { leader = None; isr = range_with_len 0 count; version = 0 }
 
 abbrev pub start : ℕ → World
-start count =
-    record {
-      count = count;
-      controller = initial count;
-      nodes = λ n. fresh;
-      messages = [];
-    }
+start count = record { count = count; controller = initial count; nodes = λ n. fresh; messages = [] }
 
 -- the world with another record, another state of node n, or one more message
 abbrev pub with_record : World → LeaderAndIsr → World
@@ -108,6 +102,16 @@ with_node w n x = record w { nodes = λ m. if m == n then x else w.nodes m }
 
 abbrev pub with_message : World → Message → World
 with_message w m = record w { messages = w.messages ++ m ∷ [] }
+
+-- whose message it is
+abbrev pub sender : Message → ℕ
+sender (Asks r) = r.from
+sender (Answers a) = a.request.to
+
+-- and to whom it goes: a request to the leader that its sender follows, an answer to the sender of its request
+abbrev pub addressee : Message → ℕ
+addressee (Asks r) = r.to
+addressee (Answers a) = a.request.from
 
 -- the message has been sent: it has a number
 abbrev pub IsSent : List Message → Message → Type 0
