@@ -4,5 +4,6 @@
 #![tactic(auto)]
 
 mod record;
+mod word;
 
 pub use record::{Leader, LeaderAndIsr, NodeSet};

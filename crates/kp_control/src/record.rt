@@ -13,7 +13,7 @@ pub struct NodeSet {
 }
 
 impl NodeSet {
-    ghost use Rattle.std.specs.Prelude.{◌≡◌, ◌≤◌};
+    ghost use Rattle.std.specs.Prelude.{◌≡◌, ◌<◌, ◌≤◌, IsTrue};
     ghost use Rattle.std.specs.List.{range_with_len};
     ghost use Rattle.kp_model.specs.Local.{is_member};
     ghost use Rattle.kp_control.specs.Set.{members_of};
@@ -38,7 +38,8 @@ impl NodeSet {
 
     /// Whether the node is in it.
     pub fn contains(&self, node: NodeId) -> bool
-        ensures { result ≡ is_member node (members_of self.now) }
+        ensures value { result ≡ is_member node (members_of self.now) }
+        ensures within { IsTrue result → node < 7 }
     {
         self.members
             .get(usize::from(node))
@@ -63,6 +64,8 @@ pub struct LeaderAndIsr {
     pub isr: NodeSet,
     pub version: u32,
     ghost lawful: { ForSome leader (λ l. l.epoch + 1 < 2 ^ 24) },
+    ghost numbered: { ForSome leader (λ l. l.node < 7) },
+    ghost counted: { version < 2 ^ 28 },
 }
 
 impl LeaderAndIsr {
@@ -89,7 +92,8 @@ impl LeaderAndIsr {
     /// F24 where epoch or version is at its greatest.
     pub fn elected(&self, node: NodeId) -> Result<LeaderAndIsr, Refusal>
         ensures refused { IsRefusedOnlyBy (elect_cause (record_of self.now) node) result }
-        ensures elected { IfOk result (λ changed. record_of changed ≡ elected (record_of self.now) node) }
+        ensures elected { IfOk result (λ changed. record_of changed
+            ≡ elected (record_of self.now) node) }
     {
         if !self.isr.contains(node) {
             return Err(Refusal::NotInSync);

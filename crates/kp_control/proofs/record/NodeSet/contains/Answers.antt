@@ -5,8 +5,8 @@ use Rattle.kp_control.specs.Set.{members_of}
 use Rattle.kp_control.proofs.Numbers.{has_at}
 use Rattle.kp_control.proofs.record.NodeSet.contains.Goals as goal
 
-pub returns : goal.returns
-returns c =
+pub returns-clause-value : goal.returns-clause-value
+returns-clause-value c =
     let places = c.args.self.now.members in
     c.unwrap_or.ensures ∙ ap (λ (o : Option Bool). unwrap_or o false) c.copied.ensures
     ∙ c.get.ensures.lookup.4 (omega arith) false ∙ ap (λ (k : ℕ). get_or places k false) c.from.ensures

@@ -1,0 +1,98 @@
+//! The controller's record as one word.
+
+ghost use Rattle.std.specs.Prelude.{◌≡◌, ◌<◌, ◌^◌, length, IfSome, MatchOption};
+ghost use Rattle.kp_model.specs.World.{most_nodes, LeaderAndIsr as ModelRecord};
+ghost use Rattle.kp_model.specs.Step.{IsInRange};
+ghost use Rattle.kp_control.specs.Set.{members_of, record_of};
+ghost use Rattle.kp_control.specs.Word.{packed, set_field};
+
+use crate::record::{Leader, LeaderAndIsr, NodeSet};
+use kp_types::{Epoch, NodeId};
+
+const NO_LEADER: u64 = 15;
+
+impl NodeSet {
+    /// A bit for each node of the set, that of node 0 the lowest.
+    fn bits(&self) -> u64
+        ensures value { result ≡ set_field (members_of self.now) }
+        ensures small { result < 128 }
+    {
+        let [zero, one, two, three, four, five, six] = self.members;
+        u64::from(zero)
+            + 2 * u64::from(one)
+            + 4 * u64::from(two)
+            + 8 * u64::from(three)
+            + 16 * u64::from(four)
+            + 32 * u64::from(five)
+            + 64 * u64::from(six)
+    }
+
+    /// The set that has these bits, below 128.
+    fn of_bits(bits: u64) -> NodeSet
+        requires { bits < 128 }
+        ensures value { set_field (members_of result) ≡ bits }
+        ensures seven { length result.members ≡ 7 }
+    {
+        NodeSet {
+            members: [
+                bits % 2 == 1,
+                bits / 2 % 2 == 1,
+                bits / 4 % 2 == 1,
+                bits / 8 % 2 == 1,
+                bits / 16 % 2 == 1,
+                bits / 32 % 2 == 1,
+                bits / 64 % 2 == 1,
+            ],
+        }
+    }
+}
+
+impl LeaderAndIsr {
+    /// The record as one word: bits 63 to 60 have the leader, 15 for none; bits 59 to 52 the in-sync replicas, bit 52 + n
+    /// for node n; bits 51 to 28 the leader epoch and 1, 0 for none; bits 27 to 0 the version. (Own rule.)
+    pub fn pack(&self) -> u64
+        ensures { result ≡ packed (record_of self.now) }
+    {
+        let (leader, epoch) = match self.leader {
+            None => (NO_LEADER, 0),
+            Some(leader) => (u64::from(leader.node), u64::from(leader.epoch) + 1),
+        };
+        let fields = epoch + 0x100_0000 * (self.isr.bits() + 0x100 * leader);
+        u64::from(self.version) + 0x1000_0000 * fields
+    }
+
+    /// The record whose word this is; none where it is no record's.
+    pub fn unpack(word: u64) -> Option<LeaderAndIsr>
+        ensures packed { IfSome result (λ r. packed (record_of r) ≡ word) }
+        ensures read { (r : ModelRecord) → IsInRange most_nodes r → packed r ≡ word
+            → MatchOption result ⊥ (λ known. record_of known ≡ r) }
+    {
+        let version = (word % 0x1000_0000) as u32;
+        let after = word / 0x1000_0000 % 0x100_0000;
+        let bits = word / 0x10_0000_0000_0000 % 0x100;
+        let node = word / 0x1000_0000_0000_0000;
+        if bits >= 128 {
+            return None;
+        }
+        let isr = NodeSet::of_bits(bits);
+        if node == NO_LEADER && after == 0 {
+            return Some(LeaderAndIsr {
+                leader: None,
+                isr,
+                version,
+            });
+        }
+        if node >= 7 || after == 0 {
+            return None;
+        }
+        let leader = Some(Leader {
+            node: node as NodeId,
+            epoch: (after - 1) as Epoch,
+        });
+        Some(LeaderAndIsr {
+            leader,
+            isr,
+            version,
+        })
+    }
+}
