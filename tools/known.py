@@ -92,6 +92,7 @@ batch 512 size 512 base 1 last 1 epoch 0 time 20 producer -1 -1 -1 data
 segment 00000000000000000000.log 1024
 offset 1 512
 time 20 1
+epoch 0 0
 end 2
 status 0
 """,
@@ -101,6 +102,7 @@ batch 512 size 513 base 1 last 1 epoch 0 time 20 producer -1 -1 -1 data
 segment 00000000000000000000.log 512
 time 10 0
 segment 00000000000000000001.log 513
+epoch 0 0
 end 2
 status 0
 """,
@@ -111,6 +113,7 @@ batch 138 size 78 base 2 last 2 epoch 0 time 20 producer 5 0 -1 abort 7
 segment 00000000000000000000.log 216
 offset 2 138
 time 30 1
+epoch 0 0
 producer 5 0 7 0-0@0
 aborted 5 0 2 3
 end 3

@@ -8,18 +8,19 @@ use Rattle.kp_types.specs.Texts.{refusal_text}
 use Rattle.kp_types.specs.Devices.{Tells}
 use Rattle.kp_types.specs.declared.counted.Counted.{Counted}
 use Rattle.kp_script.specs.Script.{IsFaultAt}
-use Rattle.kp_script.specs.Transcript.{largest_batch, Writes, WritesFront}
+use Rattle.kp_script.specs.Transcript.{largest_batch, Writes, WritesFirst, WritesFront}
 use Rattle.kp_inspect.specs.Inspected.{Writes as WritesDump, WritesFront as WritesDumpFront}
 use Rattle.kp_cli.specs.declared.call.Call.{Call}
 use Rattle.kp_cli.specs.declared.call.Call.TheVariants.{Run, Inspect}
 
 -- What running a script leaves on standard output, where the input is known: with an answer the trace, with a
--- fault of the script nothing, and a beginning of the trace where a device failed or a growth was refused.
+-- fault of the script nothing, a beginning of the trace where a device failed, and where a growth was refused the lines of
+-- the first events, which begin it too.
 abbrev pub RunsScript : Option (List ℕ) → Option (List ℕ) → Option (List ℕ) → Result ℕ Refusal → Type 0
 RunsScript input old new (Ok refused) = Writes input old new refused
 RunsScript input old new (Err (refusals.BadScript line)) = IfSome input (λ bytes. IsFaultAt bytes line) × Keeps old new
 RunsScript input old new (Err refusals.Device) = WritesFront input old new
-RunsScript input old new (Err refusals.Memory) = WritesFront input old new
+RunsScript input old new (Err refusals.Memory) = WritesFirst input old new × WritesFront input old new
 RunsScript input old new (Err _) = ⊥
 
 -- how many fault lines a dump has

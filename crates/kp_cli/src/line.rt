@@ -54,7 +54,8 @@ fn interval_argument<'a>(alloc: Global) -> Arg<'a>
 }
 
 fn run_command<'a>(alloc: Global) -> Result<Command<'a>, AllocError>
-    ensures { IfOk result (λ command. (app_of command ≡ run_app) × ((out-Command command).has_globals ≡ false)) }
+    ensures { IfOk result (λ command. (app_of command ≡ run_app)
+        × ((out-Command command).has_globals ≡ false)) }
 {
     let command = Command::new(alloc, "run")
         .about("Runs a script and prints its trace")
@@ -90,7 +91,8 @@ fn whole_command<'a>(alloc: Global) -> Result<Command<'a>, AllocError>
 
 /// The matches that clap has for `words`, of which the first is the program's name.
 fn matches_of<'a, S: AsStr>(alloc: Global, words: &'a [S]) -> Result<ArgMatches<'a>, Error>
-    ensures matches { IfOk result (λ m. subcommand_rows_of m ≡ subcommand_of kpart (map S.text words.entry.now)) }
+    ensures matches { IfOk result (λ m. subcommand_rows_of m
+        ≡ subcommand_of kpart (map S.text words.entry.now)) }
     ensures kinds { FailsBy (fault_of kpart (map S.text words.entry.now)) result }
 {
     let command = whole_command(alloc)?;

@@ -7,12 +7,14 @@ use Rattle.std.proofs.lemmas.List.Folds.{flat_map-map}
 use Rattle.kp_batch.specs.Batch.{Written, size_of}
 use Rattle.kp_model.specs.Log.{logged, size, bytes, next_offset, end_of}
 use Rattle.kp_segment.specs.Segmented.{Segmented}
-use Rattle.kp_segment.specs.Shown.{Shown, AreRunsOf, run_shows, segment_shows}
-use Rattle.kp_segment.specs.declared.run.Run.{Run}
-use Rattle.kp_inspect.specs.Dump.{line, batch_line, batch_lines, segment_lines, producer_line, open_line, aborted_line}
+use Rattle.kp_segment.specs.Shown.{Shown, ShowSegmentsOf, kept_shows, segment_shows}
+use Rattle.kp_segment.specs.declared.segment.Segment.{Segment}
+use Rattle.kp_inspect.specs.Dump.{epoch_line, line, batch_line, batch_lines, segment_lines, producer_line, open_line, aborted_line}
 use Rattle.kp_model.specs.Producers.{Producer}
 use Rattle.kp_model.specs.Transactions.{Open, Aborted, open_in, aborted_in}
 use Rattle.kp_log.specs.Partition.{Partition, segmented}
+use Rattle.kp_model.specs.Epochs.{epoch_cache}
+use Rattle.kp_epochs.specs.Cache.{Cache, AreEpochsOf}
 use Rattle.kp_producers.specs.Table.{Table, AreProducersOf}
 use Rattle.kp_inspect.specs.Texts.{shown_lines, TellsTables}
 
@@ -58,16 +60,23 @@ five_joined before first second third fourth after a b c d e one two three four 
     ∙ ap (λ (t : List ℕ). t ++ e) (append_assoc before (a ++ b) (c ++ d))
     ∙ append_assoc before (a ++ b ++ (c ++ d)) e
 
-pub tables_told : (s : Partition) (t : Segmented) (runs : List Run) (table : Table) (opening : List Open) (aborted : List Aborted)
-    (before segments producers opened done after : List ℕ) (end : ℕ) → t ≡ segmented s → AreRunsOf t.limits t.log runs → AreProducersOf s.log table
-    → opening ≡ open_in s.log → aborted ≡ aborted_in s.log → segments ≡ before ++ flat_map shown_lines (map run_shows runs)
-    → producers ≡ segments ++ flat_map producer_line table → opened ≡ producers ++ flat_map open_line opening → done ≡ opened ++ flat_map aborted_line aborted
+-- and one more before them
+six_joined : (before first noted second third fourth after a f b c d e : List ℕ) → first ≡ before ++ a → noted ≡ first ++ f → second ≡ noted ++ b → third ≡ second ++ c
+    → fourth ≡ third ++ d → after ≡ fourth ++ e → after ≡ before ++ (a ++ f ++ b ++ (c ++ d) ++ e)
+six_joined before first noted second third fourth after a f b c d e one more two three four five =
+    five_joined before noted second third fourth after (a ++ f) b c d e (more ∙ ap (λ (t : List ℕ). t ++ f) one ∙ append_assoc before a f) two three four five
+
+pub tables_told : (s : Partition) (t : Segmented) (shows : List Segment) (epochs : Cache) (table : Table) (opening : List Open) (aborted : List Aborted)
+    (before segments noted producers opened done after : List ℕ) (end : ℕ) → t ≡ segmented s → ShowSegmentsOf t.limits t.log shows → AreEpochsOf s.log epochs → AreProducersOf s.log table
+    → opening ≡ open_in s.log → aborted ≡ aborted_in s.log → segments ≡ before ++ flat_map shown_lines (map kept_shows shows)
+    → noted ≡ segments ++ flat_map epoch_line epochs → producers ≡ noted ++ flat_map producer_line table → opened ≡ producers ++ flat_map open_line opening → done ≡ opened ++ flat_map aborted_line aborted
     → after ≡ done ++ line (codes "end" ∷ decimal end ∷ []) → end ≡ end_of s.log → TellsTables s before after
-tables_told s t runs table opening aborted before segments producers opened done after end same are kept opens aborts grown told more ended last ends =
-    let are : AreRunsOf s.limits s.log runs = subst (λ (x : Segmented). AreRunsOf x.limits x.log runs) same are in
-    let shown : flat_map shown_lines (map run_shows runs) ≡ flat_map segment_lines are.segments =
+tables_told s t shows epochs table opening aborted before segments noted producers opened done after end same are cached holds opens aborts grown noting told more ended last ends =
+    let are : ShowSegmentsOf s.limits s.log shows = subst (λ (x : Segmented). ShowSegmentsOf x.limits x.log shows) same are in
+    let shown : flat_map shown_lines (map kept_shows shows) ≡ flat_map segment_lines are.segments =
     ap (λ (l : List Shown). flat_map shown_lines l) are.shown ∙ flat_map-map shown_lines segment_shows are.segments in
     let tables : segments ≡ before ++ flat_map segment_lines are.segments = grown ∙ ap (λ (t : List ℕ). before ++ t) shown in
+    let caching : noted ≡ segments ++ flat_map epoch_line (epoch_cache s.log) = noting ∙ ap (λ (l : Cache). segments ++ flat_map epoch_line l) cached in
     let begun : opened ≡ producers ++ flat_map open_line (open_in s.log) = more ∙ ap (λ (l : List Open). producers ++ flat_map open_line l) opens in
     let ended : done ≡ opened ++ flat_map aborted_line (aborted_in s.log) = ended ∙ ap (λ (l : List Aborted). opened ++ flat_map aborted_line l) aborts in
     let closed : after ≡ done ++ line (codes "end" ∷ decimal (end_of s.log) ∷ []) = last ∙ ap (λ (n : ℕ). done ++ line (codes "end" ∷ decimal n ∷ [])) ends in
@@ -75,10 +84,10 @@ tables_told s t runs table opening aborted before segments producers opened done
       segments = are.segments;
       tables = are.lawful;
       producers = table;
-      kept = kept;
-      grown = five_joined before segments producers opened done after (flat_map segment_lines are.segments) (flat_map producer_line table)
+      kept = holds;
+      grown = six_joined before segments noted producers opened done after (flat_map segment_lines are.segments) (flat_map epoch_line (epoch_cache s.log)) (flat_map producer_line table)
           (flat_map open_line (open_in s.log)) (flat_map aborted_line (aborted_in s.log)) (line (codes "end" ∷ decimal (end_of s.log) ∷ []))
-          tables told begun ended closed;
+          tables caching told begun ended closed;
     }
 
 -- one producer more

@@ -7,6 +7,7 @@ use Rattle.kp_types.specs.Texts.{refusal_text}
 use Rattle.kp_batch.specs.Batch.{Content, Plain, Produced, Marker, max_time}
 use Rattle.kp_batch.specs.Producer.{producer_of, producer_epoch_of, sequence_of}
 use Rattle.kp_model.specs.Log.{Batch, size, bytes, last_offset, end_of}
+use Rattle.kp_model.specs.Epochs.{epoch_cache}
 use Rattle.kp_model.specs.Indexes.{run_base}
 use Rattle.kp_model.specs.Tables.{Segment}
 use Rattle.kp_model.specs.Producers.{Kept, Producer}
@@ -69,6 +70,10 @@ segment_text base size offsets times =
 abbrev pub segment_lines : Segment → List ℕ
 segment_lines s = segment_text (run_base s.batches) (bytes s.batches) s.offsets s.times
 
+-- an epoch that has a batch, and its first offset
+abbrev pub epoch_line : ℕ × ℕ → List ℕ
+epoch_line entry = line (codes "epoch" ∷ decimal entry.0 ∷ decimal entry.1 ∷ [])
+
 -- a kept batch of a producer: its first and last sequence, and its base offset
 abbrev pub kept_text : Kept → List ℕ
 kept_text kept = decimal kept.first ++ 45 ∷ decimal kept.last ++ 64 ∷ decimal kept.base
@@ -101,7 +106,8 @@ transaction_lines log = flat_map open_line (open_in log) ++ flat_map aborted_lin
 -- the tables that the log builds, and its end
 abbrev pub table_lines : List Segment → Table → List Batch → List ℕ
 table_lines segments producers log =
-    flat_map segment_lines segments ++ flat_map producer_line producers ++ transaction_lines log
+    flat_map segment_lines segments ++ flat_map epoch_line (epoch_cache log)
+    ++ flat_map producer_line producers ++ transaction_lines log
     ++ line (codes "end" ∷ decimal (end_of log) ∷ [])
 
 -- the first fault, and the byte at which the faulty batch begins

@@ -10,7 +10,7 @@ use Rattle.kp_inspect.specs.Dump.{table_lines, segment_text, ending_text}
 use Rattle.kp_inspect.specs.declared.text.Contents.{Contents}
 use Rattle.kp_inspect.specs.declared.text.Contents.TheVariants.{Data, Transactional, Ending}
 
--- the lines of a segment, by what its run shows
+-- the lines of a segment, by what it shows
 abbrev pub shown_lines : Shown → List ℕ
 shown_lines s = segment_text s.base s.size s.offsets s.times
 

@@ -21,7 +21,8 @@ struct Dump {
 
 /// The dump of the bytes. F33.
 fn dump_of(alloc: Global, input: Vec<u8>, limits: &Limits) -> Result<Dump, Refusal>
-    ensures told { IfOk result (λ dump. IsDump limits.now input.items (string_bytes dump.text) dump.fault) }
+    ensures told { IfOk result (λ dump.
+        IsDump limits.now input.items (string_bytes dump.text) dump.fault) }
     ensures only { IfErr result (λ refusal. refusal ≡ Memory) }
 {
     let bytes = Bytes::from_vec(input)?;

@@ -3,18 +3,19 @@
 ghost use Rattle.std.specs.Prelude.{◌≡◌, Some, ◌∷◌, ◌<◌, ◌≤◌, ◌^◌, ◌++◌, map, OnOk, IfOk, string_bytes};
 ghost use Rattle.std.specs.List.{AllByRecursion, flat_map};
 ghost use Rattle.kp_model.specs.Log.{logged, bytes, end_of, next_offset};
-ghost use Rattle.kp_segment.specs.Shown.{run_shows, offset_pair, time_pair};
-ghost use Rattle.kp_inspect.specs.Dump.{batch_line, batch_lines, fault_line, field_text, kind_text, offset_line, time_line};
+ghost use Rattle.kp_segment.specs.Shown.{kept_shows, offset_pair, time_pair};
+ghost use Rattle.kp_inspect.specs.Dump.{epoch_line, batch_line, batch_lines, fault_line, field_text, kind_text, offset_line, time_line};
 ghost use Rattle.kp_inspect.specs.Dump.{kept_text, coordinator_text, producer_line, open_line, aborted_line};
 ghost use Rattle.kp_txns.specs.Open.{open_left};
 ghost use Rattle.kp_inspect.specs.Texts.{shown_lines, contents_text, TellsTables};
 
 use kp_batch::Batch;
+use kp_epochs::EpochEntry;
 use kp_log::PartitionLog;
 use kp_marker::{Kind, Marker, read_marker};
 use kp_offset_index::OffsetEntry;
 use kp_producers::{KeptBatch, ProducerState, Producers};
-use kp_segment::Run;
+use kp_segment::Segment;
 use kp_time_index::TimeEntry;
 use kp_txns::{AbortedTransaction, OpenTransactions};
 use kp_types::{Offset, Refusal};
@@ -97,7 +98,8 @@ impl fmt::Display for Contents {
 /// Appends the line of a batch that begins at this byte of the log.
 fn push_batch(text: &mut String, position: usize, batch: &Batch) -> Result<(), AllocError>
     requires { next_offset (logged batch.now) ≤ 2 ^ 62 }
-    ensures { OnOk result (string_bytes text.new ≡ string_bytes text.old ++ batch_line position (logged batch.now)) }
+    ensures { OnOk result (string_bytes text.new
+        ≡ string_bytes text.old ++ batch_line position (logged batch.now)) }
 {
     let size = batch.size();
     let base = batch.base_offset();
@@ -126,7 +128,8 @@ fn push_batch(text: &mut String, position: usize, batch: &Batch) -> Result<(), A
 pub(crate) fn push_batches(text: &mut String, batches: &[Batch]) -> Result<usize, AllocError>
     requires placed { AllByRecursion (λ w. next_offset (logged w) ≤ 2 ^ 62) batches.now }
     requires fits { bytes (map logged batches.now) < 2 ^ 64 }
-    ensures told { OnOk result (string_bytes text.new ≡ string_bytes text.old ++ batch_lines 0 (map logged batches.now)) }
+    ensures told { OnOk result (string_bytes text.new
+        ≡ string_bytes text.old ++ batch_lines 0 (map logged batches.now)) }
     ensures size { IfOk result (λ position. position ≡ bytes (map logged batches.now)) }
 {
     let mut position = 0;
@@ -141,7 +144,8 @@ pub(crate) fn push_batches(text: &mut String, batches: &[Batch]) -> Result<usize
 
 /// Appends the entries of an offset index.
 fn push_offsets(text: &mut String, entries: &[OffsetEntry]) -> Result<(), AllocError>
-    ensures { OnOk result (string_bytes text.new ≡ string_bytes text.old ++ flat_map offset_line (map offset_pair entries.now)) }
+    ensures { OnOk result (string_bytes text.new
+        ≡ string_bytes text.old ++ flat_map offset_line (map offset_pair entries.now)) }
 {
     for entry in entries {
         writeln!(text, "offset {} {}", entry.relative_offset, entry.position)?;
@@ -151,7 +155,8 @@ fn push_offsets(text: &mut String, entries: &[OffsetEntry]) -> Result<(), AllocE
 
 /// Appends the entries of a time index.
 fn push_times(text: &mut String, entries: &[TimeEntry]) -> Result<(), AllocError>
-    ensures { OnOk result (string_bytes text.new ≡ string_bytes text.old ++ flat_map time_line (map time_pair entries.now)) }
+    ensures { OnOk result (string_bytes text.new
+        ≡ string_bytes text.old ++ flat_map time_line (map time_pair entries.now)) }
 {
     for entry in entries {
         writeln!(text, "time {} {}", entry.timestamp, entry.relative_offset)?;
@@ -160,27 +165,41 @@ fn push_times(text: &mut String, entries: &[TimeEntry]) -> Result<(), AllocError
 }
 
 /// Appends the lines of a segment.
-fn push_run(text: &mut String, run: &Run) -> Result<(), AllocError>
-    ensures { OnOk result (string_bytes text.new ≡ string_bytes text.old ++ shown_lines (run_shows run.now)) }
+fn push_segment(text: &mut String, segment: &Segment) -> Result<(), AllocError>
+    ensures { OnOk result (string_bytes text.new
+        ≡ string_bytes text.old ++ shown_lines (kept_shows segment.now)) }
 {
-    writeln!(text, "segment {} {}", run.name(), run.size())?;
-    push_offsets(text, run.offset_index().entries())?;
-    push_times(text, run.time_index().entries())
+    writeln!(text, "segment {} {}", segment.name(), segment.size())?;
+    push_offsets(text, segment.offset_index().entries())?;
+    push_times(text, segment.time_index().entries())
 }
 
 /// Appends the lines of the segments.
-fn push_runs(text: &mut String, runs: &[Run]) -> Result<(), AllocError>
-    ensures { OnOk result (string_bytes text.new ≡ string_bytes text.old ++ flat_map shown_lines (map run_shows runs.now)) }
+fn push_segments(text: &mut String, segments: &[Segment]) -> Result<(), AllocError>
+    ensures { OnOk result (string_bytes text.new
+        ≡ string_bytes text.old ++ flat_map shown_lines (map kept_shows segments.now)) }
 {
-    for run in runs {
-        push_run(text, run)?;
+    for segment in segments {
+        push_segment(text, segment)?;
+    }
+    Ok(())
+}
+
+/// Appends the lines of the leader epochs.
+fn push_epochs(text: &mut String, entries: &[EpochEntry]) -> Result<(), AllocError>
+    ensures { OnOk result (string_bytes text.new
+        ≡ string_bytes text.old ++ flat_map epoch_line entries.now) }
+{
+    for entry in entries {
+        writeln!(text, "epoch {} {}", entry.epoch(), entry.start())?;
     }
     Ok(())
 }
 
 /// Appends a kept batch of a producer, with a space before it.
 fn push_kept(text: &mut String, kept: &KeptBatch) -> Result<(), AllocError>
-    ensures { OnOk result (string_bytes text.new ≡ string_bytes text.old ++ 32 ∷ kept_text kept.now) }
+    ensures { OnOk result (string_bytes text.new
+        ≡ string_bytes text.old ++ 32 ∷ kept_text kept.now) }
 {
     let first = kept.first_sequence();
     let last = kept.last_sequence();
@@ -190,7 +209,8 @@ fn push_kept(text: &mut String, kept: &KeptBatch) -> Result<(), AllocError>
 
 /// Appends the kept batches of a producer, each with a space before it.
 fn push_recent(text: &mut String, recent: &[KeptBatch]) -> Result<(), AllocError>
-    ensures { OnOk result (string_bytes text.new ≡ string_bytes text.old ++ flat_map (λ kept. 32 ∷ kept_text kept) recent.now) }
+    ensures { OnOk result (string_bytes text.new
+        ≡ string_bytes text.old ++ flat_map (λ kept. 32 ∷ kept_text kept) recent.now) }
 {
     for kept in recent {
         push_kept(text, kept)?;
@@ -200,7 +220,8 @@ fn push_recent(text: &mut String, recent: &[KeptBatch]) -> Result<(), AllocError
 
 /// Appends the coordinator epoch of a producer's last marker, a dash where it has none.
 fn push_coordinator(text: &mut String, coordinator: Option<u32>) -> Result<(), AllocError>
-    ensures { OnOk result (string_bytes text.new ≡ string_bytes text.old ++ coordinator_text coordinator) }
+    ensures { OnOk result (string_bytes text.new
+        ≡ string_bytes text.old ++ coordinator_text coordinator) }
 {
     match coordinator {
         Some(epoch) => write!(text, "{epoch}"),
@@ -210,7 +231,8 @@ fn push_coordinator(text: &mut String, coordinator: Option<u32>) -> Result<(), A
 
 /// Appends the line of a producer.
 fn push_producer(text: &mut String, producer: u64, state: &ProducerState) -> Result<(), AllocError>
-    ensures { OnOk result (string_bytes text.new ≡ string_bytes text.old ++ producer_line (producer, state.now)) }
+    ensures { OnOk result (string_bytes text.new
+        ≡ string_bytes text.old ++ producer_line (producer, state.now)) }
 {
     write!(text, "producer {producer} {} ", state.epoch())?;
     push_coordinator(text, state.coordinator_epoch())?;
@@ -220,7 +242,8 @@ fn push_producer(text: &mut String, producer: u64, state: &ProducerState) -> Res
 
 /// Appends the lines of the producers.
 fn push_producers(text: &mut String, producers: &Producers) -> Result<(), AllocError>
-    ensures { OnOk result (string_bytes text.new ≡ string_bytes text.old ++ flat_map producer_line producers.now) }
+    ensures { OnOk result (string_bytes text.new
+        ≡ string_bytes text.old ++ flat_map producer_line producers.now) }
 {
     for (producer, state) in producers.all() {
         push_producer(text, *producer, state)?;
@@ -230,7 +253,8 @@ fn push_producers(text: &mut String, producers: &Producers) -> Result<(), AllocE
 
 /// Appends the lines of the open transactions.
 fn push_open(text: &mut String, transactions: OpenTransactions<'_>) -> Result<(), AllocError>
-    ensures { OnOk result (string_bytes text.new ≡ string_bytes text.old ++ flat_map open_line (open_left transactions.entry)) }
+    ensures { OnOk result (string_bytes text.new
+        ≡ string_bytes text.old ++ flat_map open_line (open_left transactions.entry)) }
 {
     for transaction in transactions {
         writeln!(text, "open {} {}", transaction.producer, transaction.first)?;
@@ -240,7 +264,8 @@ fn push_open(text: &mut String, transactions: OpenTransactions<'_>) -> Result<()
 
 /// Appends the line of an aborted transaction.
 fn push_abort(text: &mut String, transaction: &AbortedTransaction) -> Result<(), AllocError>
-    ensures { OnOk result (string_bytes text.new ≡ string_bytes text.old ++ aborted_line transaction.now) }
+    ensures { OnOk result (string_bytes text.new
+        ≡ string_bytes text.old ++ aborted_line transaction.now) }
 {
     let AbortedTransaction {
         producer,
@@ -253,7 +278,8 @@ fn push_abort(text: &mut String, transaction: &AbortedTransaction) -> Result<(),
 
 /// Appends the lines of the aborted transactions.
 fn push_aborted(text: &mut String, aborted: &[AbortedTransaction]) -> Result<(), AllocError>
-    ensures { OnOk result (string_bytes text.new ≡ string_bytes text.old ++ flat_map aborted_line aborted.now) }
+    ensures { OnOk result (string_bytes text.new
+        ≡ string_bytes text.old ++ flat_map aborted_line aborted.now) }
 {
     for transaction in aborted {
         push_abort(text, transaction)?;
@@ -266,7 +292,8 @@ pub(crate) fn push_tables(text: &mut String, log: &PartitionLog) -> Result<(), A
     ensures { OnOk result (TellsTables log.now (string_bytes text.old) (string_bytes text.new)) }
 {
     let tables = log.tables().all();
-    push_runs(text, tables.runs)?;
+    push_segments(text, tables.segments)?;
+    push_epochs(text, tables.epochs.entries())?;
     push_producers(text, tables.producers)?;
     push_open(text, tables.transactions.open())?;
     push_aborted(text, tables.transactions.aborted())?;
@@ -279,7 +306,8 @@ pub(crate) fn push_fault(
     refusal: Refusal,
     position: usize,
 ) -> Result<(), AllocError>
-    ensures { OnOk result (string_bytes text.new ≡ string_bytes text.old ++ fault_line refusal position) }
+    ensures { OnOk result (string_bytes text.new
+        ≡ string_bytes text.old ++ fault_line refusal position) }
 {
     writeln!(text, "fault {refusal} at {position}")
 }

@@ -1,24 +1,12 @@
 -- What it takes that a node did something.
-use Rattle.std.proofs.Common.{◌≡◌, ℕ, Bool, true, false, cond, eqb, Option, Some, None, refl, sym, ap, subst, inl, inr}
-use Rattle.kp_types.specs.declared.refusal.Refusal.{Refusal}
+use Rattle.std.proofs.Common.{◌≡◌, ℕ, Bool, true, false, cond, eqb, Option, Some, None, refl, sym, ap, subst}
 use Rattle.kp_types.specs.declared.refusal.Refusal.TheVariants as refusals
 use Rattle.std.proofs.lemmas.Bool.{eq-eqb, ne_eqb}
 use Rattle.kp_model.specs.Log.{end_of}
 use Rattle.kp_model.specs.World.{Leader, LeaderAndIsr, Leading, Mode, Leads, Follows, Node, no_reports}
-use Rattle.kp_model.specs.Event.{Act, Adopt, Raise, Refused, NowLeads, NowFollows, MarkAt}
-use Rattle.kp_model.specs.Local.{Effect, Local, LocalBy, Happens, LacksMemory, cause, becomes, is_down, is_news, is_empty, under, Adopts, WhereLeads, Raises, raised}
-
-pub happened : (c : LeaderAndIsr) (n : ℕ) (x : Node) (act : Act) (e : Effect) → cause c n x act ≡ None → Happens c n x act e → Local c n x act e
-unfolding Local
-happened c n x act e free h = subst (λ (o : Option Refusal). LocalBy o c n x act e) (sym free) (inl h)
-
-pub lacked_memory : (c : LeaderAndIsr) (n : ℕ) (x : Node) (act : Act) (e : Effect) → cause c n x act ≡ None → LacksMemory c x act e → Local c n x act e
-unfolding Local
-lacked_memory c n x act e free h = subst (λ (o : Option Refusal). LocalBy o c n x act e) (sym free) (inr h)
-
-pub was_refused : (c : LeaderAndIsr) (n : ℕ) (x : Node) (act : Act) (refusal : Refusal) → cause c n x act ≡ Some refusal → Local c n x act (becomes c x (Refused refusal))
-unfolding Local
-was_refused c n x act refusal held = subst (λ (o : Option Refusal). LocalBy o c n x act (becomes c x (Refused refusal))) (sym held) refl
+use Rattle.kp_model.specs.Event.{Adopt, Raise, Refused, NowLeads, NowFollows, MarkAt}
+use Rattle.kp_model.specs.Local.{Effect, Local, cause, becomes, is_down, is_news, is_empty, under, Adopts, WhereLeads, Raises, raised}
+use Rattle.kp_model.proofs.Steps.{happened, was_refused}
 
 -- ---- adopt
 

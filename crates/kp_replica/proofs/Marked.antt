@@ -21,8 +21,8 @@ use Rattle.kp_admit.specs.declared.admitting.Admission.{Admission as Answer}
 use Rattle.kp_admit.specs.declared.admitting.Admission.TheVariants as answers
 use Rattle.kp_replica.specs.declared.replica.Receipt.{Receipt}
 use Rattle.kp_replica.specs.Replies.{IsNamedBy, IsReceiptOfBody, receipt_reply, mark_of, body_of}
-use Rattle.kp_replica.proofs.Calls.{lacked_memory, was_refused}
 use Rattle.kp_replica.proofs.Produced.{same_cause, answered_by_log}
+use Rattle.kp_model.proofs.Steps.{lacked_memory, was_refused}
 
 -- ---- admission
 

@@ -14,7 +14,8 @@ use Rattle.kp_model.specs.Producers.{Producer, Kept, content_of, is_of, has_prod
 use Rattle.kp_model.specs.Transactions.{open_of}
 use Rattle.kp_model.specs.Admission.{Append, Duplicate, Refused, admit, admit_content, of_known, in_turn, from_zero, same_sequences, next_sequence}
 use Rattle.kp_replica.specs.Replies.{Claim, claim_of}
-use Rattle.kp_replica.proofs.Elements.{all_weaker, all_both, all_reverse, all_filter, all_take_while, all_take, all_filter_map, all_itself, all_find}
+use Rattle.kp_replica.proofs.Elements.{all_reverse, all_take_while, all_take, all_filter_map}
+use Rattle.kp_types.proofs.Elements.{all_weaker, all_both, all_filter, all_itself, all_find}
 
 -- ---- each batch of a log is the one at its base offset
 

@@ -4,7 +4,8 @@ use Rattle.kp_types.specs.declared.limits.Limits.{Limits}
 use Rattle.kp_model.specs.Log.{Batch, IsBoundary}
 use Rattle.kp_model.specs.World.{LeaderAndIsr, Mode, Down, Idle, Leads, Follows, Node, report_of}
 use Rattle.kp_model.specs.Event.{Act, Reply}
-use Rattle.kp_model.specs.Local.{Local, becomes, last_epoch}
+use Rattle.kp_model.specs.Local.{last_epoch}
+use Rattle.kp_model.specs.Calls.{DoesUnder as NodeDoesUnder}
 
 -- a node's number, the limits of its log, and its state
 pub record Member : Type 0 where
@@ -18,8 +19,7 @@ IsSameNode old new = (new.number ≡ old.number) × (new.limits ≡ old.limits)
 
 -- Under this record of the controller the node did this, replied so, and became what it is now.
 abbrev pub DoesUnder : LeaderAndIsr → Member → Member → Act → Reply → Type 0
-DoesUnder controller old new act reply =
-    Local controller old.number old.state act (becomes controller new.state reply) × IsSameNode old new
+DoesUnder controller old new act reply = NodeDoesUnder controller old.number old.state new.state act reply × IsSameNode old new
 
 -- The node did this, whatever the controller's record was.
 abbrev pub Does : Member → Member → Act → Reply → Type 0

@@ -23,9 +23,9 @@ abbrev pub receipt_reply : Result Receipt Refusal → Reply
 receipt_reply (Ok receipt) = if receipt.duplicate then DuplicateOf receipt.base else At receipt.base
 receipt_reply (Err refusal) = Refused refusal
 
-abbrev pub mark_reply : Result ℕ Refusal → Reply
-mark_reply (Ok watermark) = MarkAt watermark
-mark_reply (Err refusal) = Refused refusal
+abbrev pub watermark_reply : Result ℕ Refusal → Reply
+watermark_reply (Ok watermark) = MarkAt watermark
+watermark_reply (Err refusal) = Refused refusal
 
 -- What the bytes hand in: the batch that they are, or their first fault.
 abbrev pub IsOffer : ℕ → List ℕ → Result Body Refusal → Type 0

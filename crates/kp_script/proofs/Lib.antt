@@ -16,3 +16,4 @@ pub mod Sizes
 pub mod Offers
 pub mod Appending
 pub mod Apart
+pub mod Played

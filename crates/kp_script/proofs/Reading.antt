@@ -23,10 +23,6 @@ pub record Progress (bytes : List ℕ) (header : Header) (items : List Line) (nu
   pub calls : AllByRecursion (λ call. IsCall header.count call.1) (map seen_line items)
   pub few : length items ≤ 1000000
 
-all_push : {X : Type 0} (P : X → Type 0) (xs : List X) (x : X) → AllByRecursion P xs → P x → AllByRecursion P (xs ++ x ∷ [])
-all_push P [] x all here = (here, tt)
-all_push P (y ∷ ys) x all here = (all.0, all_push P ys x all.1 here)
-
 all_last : {X : Type 0} (P : X → Type 0) (xs : List X) (x : X) → AllByRecursion P (xs ++ x ∷ []) → P x
 all_last P [] x all = all.0
 all_last P (y ∷ ys) x all = all_last P ys x all.1

@@ -1,30 +1,19 @@
 -- How many bytes a batch of a line's values has at most.
-use Rattle.std.proofs.Common.{◌≡◌, ℕ, zero, suc, ◌+◌, ◌*◌, ◌/◌, ◌%◌, ◌<◌, ◌≤◌, ltb, List, [], ◌∷◌, length, length-append, map, ap, arith}
-use Rattle.std.proofs.lemmas.Bool.{cond_both}
-use Rattle.kp_record.specs.Varint.{varint, varint_within, sized, sized_or_null}
+use Rattle.std.proofs.Common.{◌≡◌, ℕ, suc, ◌+◌, ◌*◌, ◌<◌, ◌≤◌, List, [], ◌∷◌, length, length-append, map, ap, arith}
+use Rattle.kp_record.specs.Varint.{sized, sized_or_null}
 use Rattle.kp_record.specs.Record.{record_fields, record_spelling, records_spelling}
 use Rattle.kp_script.specs.Call.{values_text, pieces}
 use Rattle.kp_script.specs.Told.{plain_record}
 use Rattle.kp_script.proofs.Values.{pieces_back, some_piece}
-
-within_length : (more n : ℕ) → length (varint_within more n) ≤ suc more
-unfolding varint_within
-within_length zero n = omega arith
-within_length (suc more) n =
-    cond_both (ltb n 128) (n ∷ []) ((128 + n % 128) ∷ varint_within more (n / 128)) (λ (l : List ℕ). length l ≤ suc (suc more))
-    (λ small. omega arith) (λ large. let rest = within_length more (n / 128) in omega arith)
-
-varint_length : (n : ℕ) → length (varint n) ≤ 10
-unfolding varint
-varint_length n = within_length 9 n
+use Rattle.kp_record.proofs.GroupCounts.{varint_short}
 
 sized_length : (bytes : List ℕ) → length (sized bytes) ≤ 10 + length bytes
 unfolding sized
-sized_length bytes = let size = varint_length (2 * length bytes) in simp length-append (omega arith)
+sized_length bytes = let size = varint_short (2 * length bytes) in simp length-append (omega arith)
 
 fields_length : (time place : ℕ) (value : List ℕ) → length (record_fields time place (plain_record time value)) ≤ 51 + length value
 unfolding record_fields sized_or_null
-fields_length time place value = simp length-append (omega (arith, varint_length, sized_length))
+fields_length time place value = simp length-append (omega (arith, varint_short, sized_length))
 
 record_length : (time place : ℕ) (value : List ℕ) → length (record_spelling time place (plain_record time value)) ≤ 61 + length value
 unfolding record_spelling

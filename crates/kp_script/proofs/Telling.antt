@@ -37,7 +37,7 @@ AreEvents-length max [] (d ∷ es) h = absurd h
 AreEvents-length max (x ∷ events) [] h = absurd h
 AreEvents-length max (x ∷ events) (d ∷ es) h = ap suc (AreEvents-length max events es h.1)
 
-AreTold-length : (max : ℕ) (calls : List Call) (es : List Event) → AreTold max calls es → length calls ≡ length es
+pub AreTold-length : (max : ℕ) (calls : List Call) (es : List Event) → AreTold max calls es → length calls ≡ length es
 AreTold-length max [] [] h = refl
 AreTold-length max [] (d ∷ es) h = absurd h
 AreTold-length max (x ∷ calls) [] h = absurd h
@@ -46,10 +46,6 @@ AreTold-length max (x ∷ calls) (d ∷ es) h = ap suc (AreTold-length max calls
 -- each call tells one event
 pub one_for_each : (max : ℕ) (calls : List Call) (events : List CodeEvent) → TellsAll max calls events → length events ≡ length calls
 one_for_each max calls events all = AreEvents-length max events all.es all.are ∙ sym (AreTold-length max calls all.es all.told)
-
-pub each_push : {A : Type 0} (P : A → Type 0) (xs : List A) (x : A) → AllByRecursion P xs → P x → AllByRecursion P (xs ++ x ∷ [])
-each_push P [] x h p = (p, tt)
-each_push P (y ∷ xs) x h p = (h.0, each_push P xs x h.1 p)
 
 -- the call of a line at its place
 pub each_at_line : (count : ℕ) (lines : List Line) (k : ℕ) (d : Line) → AllByRecursion (λ call. IsCall count call.1) (map seen_line lines) → k < length lines → IsCall count (seen_line (get_or lines k d)).1

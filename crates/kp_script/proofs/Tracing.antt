@@ -1,13 +1,14 @@
 -- Laws of a text that grows word by word.
-use Rattle.std.proofs.Common.{◌≡◌, ℕ, suc, ◌+◌, ◌<◌, ◌/◌, ◌%◌, Bool, true, false, List, [], ◌∷◌, ◌++◌, length, map, take, length-take-le, get_or, refl, sym, ap, ◌∙◌, arith, append_assoc, append-nil, add-zero}
+use Rattle.std.proofs.Common.{◌≡◌, ℕ, suc, cond, ◌+◌, ◌<◌, ◌/◌, ◌%◌, Bool, true, false, List, [], ◌∷◌, ◌++◌, length, map, take, length-take-le, get_or, refl, sym, ap, ◌∙◌, arith, append_assoc, append-nil, add-zero}
 use Rattle.std.proofs.lemmas.List.{take_more, length-map, map-append}
-use Rattle.std.specs.Prelude.{codes}
+use Rattle.std.specs.Prelude.{codes, is_ok, OnOk, Result, Ok, Err}
 use Rattle.std.specs.List.{join_with_byte, flat_map, zip}
 use Rattle.std.specs.Fmt.{decimal}
 use Rattle.std.proofs.lemmas.Bool.{false≢true}
 use Rattle.kp_control.specs.Set.{numbers_of}
-use Rattle.kp_world.specs.declared.event.Line.{Line}
+use Rattle.kp_world.specs.declared.event.ReadRecord.{ReadRecord}
 use Rattle.kp_world.specs.Answers.{line_of}
+use Rattle.kp_script.specs.Call.{spaced}
 use Rattle.kp_script.specs.Hex.{hex_digit, hex_text}
 use Rattle.kp_script.specs.Trace.{line_text, lines_text, nodes_text, trace_line, trace_text}
 use Rattle.kp_model.specs.Event.{Outcome}
@@ -17,6 +18,15 @@ use Rattle.std.proofs.lemmas.List.Concat.{flat_map-append}
 pub grown : (was now base xs ys whole : List ℕ) → now ≡ was ++ ys → was ≡ base ++ xs → whole ≡ xs ++ ys → now ≡ base ++ whole
 grown was now base xs ys whole p q w =
     p ∙ ap (λ (t : List ℕ). t ++ ys) q ∙ append_assoc base xs ys ∙ ap (λ (rest : List ℕ). base ++ rest) (sym w)
+
+-- what holds after a call that went well
+pub on_ok : {T E P Q : Type 0} (r : Result T E) → OnOk r P → (P → Q) → OnOk r Q
+on_ok (Ok x) p f = f p
+on_ok (Err e) p f = tt
+
+pub on_items : {T E P : Type 0} (r : Result T E) (now then else_then : List ℕ) → now ≡ cond (is_ok r) then else_then → (now ≡ then → P) → OnOk r P
+on_items (Ok x) now then else_then e f = f e
+on_items (Err y) now then else_then e f = tt
 
 -- one byte more
 pub hex_more : (bytes : List ℕ) (i : ℕ) → i < length bytes → hex_text (take (i + 1) bytes) ≡ hex_text (take i bytes) ++ hex_text (get_or bytes i 0 ∷ [])
@@ -96,14 +106,27 @@ flat_map_over : {A B : Type 0} (g : A → B) (f : B → List ℕ) (xs : List A) 
 flat_map_over g f [] = refl
 flat_map_over g f (x ∷ xs) = ap (λ (rest : List ℕ). f (g x) ++ rest) (flat_map_over g f xs)
 
--- a number and a space, what was answered, and a line feed
-pub line_pushed : (text after_number after_outcome whole ending : List ℕ) (number : ℕ) (outcome : List ℕ) →
-    after_number ≡ text ++ (decimal number ++ 32 ∷ []) → after_outcome ≡ after_number ++ outcome → whole ≡ after_outcome ++ ending → ending ≡ 10 ∷ [] →
+-- a number, a space, what was answered, and a line feed
+pub line_pushed : (text after_number after_space after_outcome whole : List ℕ) (number : ℕ) (outcome : List ℕ) →
+    after_number ≡ text ++ decimal number → after_space ≡ after_number ++ 32 ∷ [] → after_outcome ≡ after_space ++ outcome → whole ≡ after_outcome ++ 10 ∷ [] →
     whole ≡ text ++ (decimal number ++ 32 ∷ outcome ++ 10 ∷ [])
-line_pushed text after_number after_outcome whole ending number outcome p q r e =
-    r ∙ ap (λ (t : List ℕ). t ++ ending) (q ∙ ap (λ (t : List ℕ). t ++ outcome) p)
-    ∙ ap (λ (t : List ℕ). ((text ++ (decimal number ++ 32 ∷ [])) ++ outcome) ++ t) e
+line_pushed text after_number after_space after_outcome whole number outcome p s q r =
+    r ∙ ap (λ (t : List ℕ). t ++ 10 ∷ []) (q ∙ ap (λ (t : List ℕ). t ++ outcome) (s ∙ ap (λ (t : List ℕ). t ++ 32 ∷ []) p))
     ∙ simp append_assoc
+
+-- two digits
+pub digits_pushed : (text after_high whole : List ℕ) (high low : ℕ) → after_high ≡ text ++ high ∷ [] → whole ≡ after_high ++ low ∷ [] → whole ≡ text ++ high ∷ low ∷ []
+digits_pushed text after_high whole high low p q = q ∙ ap (λ (t : List ℕ). t ++ low ∷ []) p ∙ simp append_assoc
+
+-- the lines of some events, and then those of others
+pub trace_append : (events others : List (ℕ × ℕ)) (outcomes rest : List Outcome) → length events ≡ length outcomes →
+    trace_text (events ++ others) (outcomes ++ rest) ≡ trace_text events outcomes ++ trace_text others rest
+trace_append [] others [] rest e = refl
+trace_append [] others (o ∷ outcomes) rest e = absurd (omega arith)
+trace_append (x ∷ events) others [] rest e = absurd (omega arith)
+trace_append (x ∷ events) others (o ∷ outcomes) rest e =
+    ap (λ (text : List ℕ). trace_line x.0 x.1 o ++ text) (trace_append events others outcomes rest (omega arith))
+    ∙ sym (append_assoc (trace_line x.0 x.1 o) (trace_text events outcomes) (trace_text others rest))
 
 -- one event more
 traced_push : (events : List (ℕ × ℕ)) (outcomes : List Outcome) (event : ℕ × ℕ) (outcome : Outcome) → length events ≡ length outcomes →
@@ -130,9 +153,24 @@ traced_more {A} {B} f g xs ys i x y lx ly ex ey =
     ∙ traced_push (map f (take i xs)) (map g (take i ys)) (f x) (g y) as_long
 
 -- the records that were read, as they are appended
-pub lines_as_pieces : (lines : List Line) → lines_text (map line_of lines) ≡ (codes "read " ++ decimal (length lines)) ++ flat_map (λ l. 32 ∷ line_text (line_of l)) lines
+pub lines_as_pieces : (lines : List ReadRecord) → lines_text (map line_of lines) ≡ (codes "read " ++ decimal (length lines)) ++ flat_map (λ l. 32 ∷ line_text (line_of l)) lines
 lines_as_pieces lines =
     ap (λ (rest : List ℕ). codes "read " ++ rest)
     (joined_as_pieces 32 (decimal (length (map line_of lines))) (map line_text (map line_of lines))
     ∙ ap (λ (n : ℕ). decimal n ++ flat_map (λ y. 32 ∷ y) (map line_text (map line_of lines))) (length-map lines line_of)
     ∙ ap (λ (rest : List ℕ). decimal (length lines) ++ rest) (flat_map_over line_text (λ y. 32 ∷ y) (map line_of lines) ∙ flat_map_over line_of (λ l. 32 ∷ line_text l) lines))
+
+-- what a role says, word by word
+pub leads_pushed : (text mid now : List ℕ) (epoch start e : ℕ) → e ≡ epoch → mid ≡ text ++ (codes "leads epoch " ++ decimal e) → now ≡ mid ++ (codes " from " ++ decimal start)
+    → now ≡ text ++ spaced (codes "leads epoch" ∷ decimal epoch ∷ codes "from" ∷ decimal start ∷ [])
+leads_pushed text mid now epoch start e same p q =
+    grown mid now text (codes "leads epoch " ++ decimal epoch) (codes " from " ++ decimal start) _ q (p ∙ ap (λ (n : ℕ). text ++ (codes "leads epoch " ++ decimal n)) same) refl
+
+pub follows_pushed : (text a b now : List ℕ) (leader epoch l e : ℕ) → l ≡ leader → e ≡ epoch → a ≡ text ++ (codes "follows " ++ decimal l) → b ≡ a ++ (codes " epoch " ++ decimal e)
+    → now ≡ b ++ codes " reconciling" → now ≡ text ++ spaced (codes "follows" ∷ decimal leader ∷ codes "epoch" ∷ decimal epoch ∷ codes "reconciling" ∷ [])
+follows_pushed text a b now leader epoch l e same is p q r =
+    let first : a ≡ text ++ (codes "follows " ++ decimal leader) = p ∙ ap (λ (n : ℕ). text ++ (codes "follows " ++ decimal n)) same in
+    let second : b ≡ text ++ ((codes "follows " ++ decimal leader) ++ (codes " epoch " ++ decimal epoch)) =
+    grown a b text (codes "follows " ++ decimal leader) (codes " epoch " ++ decimal epoch) _ (q ∙ ap (λ (n : ℕ). a ++ (codes " epoch " ++ decimal n)) is) first refl in
+    grown b now text ((codes "follows " ++ decimal leader) ++ (codes " epoch " ++ decimal epoch)) (codes " reconciling") _ r second
+    (sym (append_assoc (codes "follows " ++ decimal leader) (codes " epoch " ++ decimal epoch) (codes " reconciling")))

@@ -7,3 +7,4 @@ pub mod Seen
 pub mod Trace
 pub mod Told
 pub mod Transcript
+pub mod Playing

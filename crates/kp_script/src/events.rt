@@ -1,6 +1,6 @@
 //! The events of a script, as a run takes them.
 
-ghost use Rattle.std.specs.Prelude.{◌≡◌, ℕ, ◌<◌, ◌≤◌, ◌^◌, IfOk, IfErr, length, map};
+ghost use Rattle.std.specs.Prelude.{◌≡◌, ℕ, ◌<◌, ◌≤◌, ◌^◌, IfOk, IfErr, OnOk, length, map};
 ghost use Rattle.std.specs.List.{AllByRecursion};
 ghost use Rattle.kp_types.specs.declared.refusal.Refusal.TheVariants.{Memory};
 ghost use Rattle.kp_record.specs.Made.{record_made};
@@ -14,7 +14,7 @@ use crate::call::{Call, Sender};
 use crate::hex::bytes_of;
 use crate::script::Line;
 use bytes::Bytes;
-use kp_batch::{Fields, Parts, spell};
+use kp_batch::{Fields, Handed, Parts, Speller};
 use kp_types::{NodeId, Refusal};
 use kp_world::{Act, Event};
 use std::alloc::{AllocError, Global};
@@ -22,7 +22,8 @@ use std::alloc::{AllocError, Global};
 /// A record for each piece between the commas: it has this time in milliseconds, and the piece as its value.
 /// Takes time and memory proportional to the bytes, and fails where memory runs out.
 fn parts_of<'a>(alloc: Global, time: u64, values: &'a [u8]) -> Result<Vec<Parts<'a>>, AllocError>
-    ensures { IfOk result (λ parts. map record_made parts.items ≡ map (plain_record time) (pieces values.now)) }
+    ensures { IfOk result (λ parts. map record_made parts.items
+        ≡ map (plain_record time) (pieces values.now)) }
 {
     values
         .split(|byte| *byte == b',')
@@ -41,6 +42,7 @@ fn parts_of<'a>(alloc: Global, time: u64, values: &'a [u8]) -> Result<Vec<Parts<
 /// out.
 fn append_event(
     alloc: Global,
+    speller: &mut Speller,
     node: NodeId,
     time: u64,
     sender: Sender,
@@ -65,7 +67,7 @@ fn append_event(
         control: false,
     };
     let parts = parts_of(alloc, time, values)?;
-    let bytes = Bytes::from_vec(spell(alloc, &fields, &parts)?)?;
+    let bytes = speller.spell(&fields, &parts)?;
     Ok(Event::Acts {
         node,
         act: Act::Produce { bytes },
@@ -75,7 +77,8 @@ fn append_event(
 /// The bytes that the digits spell, handed to the node. Takes time and memory proportional to their number, and is
 /// refused only where memory runs out.
 fn raw_event(alloc: Global, node: NodeId, digits: &[u8]) -> Result<Event, Refusal>
-    ensures told { IfOk result (λ event. (max : ℕ) → Tells max (Raw node (bytes_of digits.now)) event) }
+    ensures told { IfOk result (λ event. (max : ℕ)
+        → Tells max (Raw node (bytes_of digits.now)) event) }
     ensures node { IfOk result (λ event. node_of event ≡ node) }
     ensures marker { IfOk result HasMarker }
     ensures only { IfErr result (λ refusal. refusal ≡ Memory) }
@@ -84,12 +87,19 @@ fn raw_event(alloc: Global, node: NodeId, digits: &[u8]) -> Result<Event, Refusa
     let bytes = Bytes::from_vec(bytes_of(alloc, digits)?)?;
     Ok(Event::Acts {
         node,
-        act: Act::Produce { bytes },
+        act: Act::Produce {
+            bytes: Handed::raw(bytes),
+        },
     })
 }
 
 /// The event that a call tells.
-fn event_of(alloc: Global, call: &Call<'_>, count: NodeId) -> Result<Event, Refusal>
+fn event_of(
+    alloc: Global,
+    speller: &mut Speller,
+    call: &Call<'_>,
+    count: NodeId,
+) -> Result<Event, Refusal>
     requires { IsCall count (seen_call call.now) }
     ensures told { IfOk result (λ event. (max : ℕ) → Tells max (seen_call call.now) event) }
     ensures node { IfOk result (λ event. node_of event < count) }
@@ -105,7 +115,7 @@ fn event_of(alloc: Global, call: &Call<'_>, count: NodeId) -> Result<Event, Refu
             sender,
             transactional,
             values,
-        } => return append_event(alloc, node, time, sender, transactional, values),
+        } => return append_event(alloc, speller, node, time, sender, transactional, values),
         Call::Raw { node, digits } => return raw_event(alloc, node, digits),
         Call::Adopt { node } => (node, Act::Adopt),
         Call::Mark { node, marker } => (node, Act::Mark { marker }),
@@ -117,22 +127,27 @@ fn event_of(alloc: Global, call: &Call<'_>, count: NodeId) -> Result<Event, Refu
     Ok(Event::Acts { node, act })
 }
 
-/// The events of a script's lines, in their order. Takes time and memory proportional to the lines. F33.
+/// Puts the events of these lines, in their order, in place of those in `events`. Takes time and memory proportional to
+/// the lines. F33.
 pub(crate) fn events_of(
     alloc: Global,
     lines: &[Line<'_>],
     count: NodeId,
-) -> Result<Vec<Event>, Refusal>
+    events: &mut Vec<Event>,
+) -> Result<(), Refusal>
     requires { AllByRecursion (λ call. IsCall count call.1) (map seen_line lines.now) }
-    ensures told { IfOk result
-        (λ events. (max : ℕ) → TellsAll max (map (λ call. call.1) (map seen_line lines.now)) events.items) }
-    ensures nodes { IfOk result (λ events. AllByRecursion (λ event. node_of event < count) events.items) }
-    ensures markers { IfOk result (λ events. AllByRecursion HasMarker events.items) }
+    ensures told { OnOk result
+        ((max : ℕ) → TellsAll max (map (λ call.
+        call.1) (map seen_line lines.now)) events.new.items) }
+    ensures nodes { OnOk result (AllByRecursion (λ event. node_of event < count) events.new.items) }
+    ensures markers { OnOk result (AllByRecursion HasMarker events.new.items) }
     ensures only { IfErr result (λ refusal. refusal ≡ Memory) }
 {
-    let mut events = Vec::new(alloc);
+    let mut speller = Speller::new(alloc);
+    events.clear();
+    events.reserve(lines.len())?;
     for line in lines {
-        events.push(event_of(alloc, &line.call, count)?)?;
+        events.push(event_of(alloc, &mut speller, &line.call, count)?)?;
     }
-    Ok(events)
+    Ok(())
 }

@@ -40,8 +40,10 @@ pub fn node_of(fields: &[u8], count: NodeId) -> Option<NodeId>
 /// The node that stands before the first space, and what follows the space.
 #[inline(always)]
 fn node_then(fields: &[u8], count: NodeId) -> Option<(NodeId, &[u8])>
-    ensures found { IfSome result (λ found. (fields.now ≡ decimal found.0 ++ 32 ∷ found.1.now) × (found.0 < count)) }
-    ensures none { IfNone result ((node : ℕ) (rest : List ℕ) → node < count → fields.now ≢ decimal node ++ 32 ∷ rest) }
+    ensures found { IfSome result (λ found. (fields.now ≡ decimal found.0 ++ 32 ∷ found.1.now)
+        × (found.0 < count)) }
+    ensures none { IfNone result ((node : ℕ) (rest : List ℕ) → node < count
+        → fields.now ≢ decimal node ++ 32 ∷ rest) }
 {
     match number_then(fields, u64::from(count)) {
         Some((node, rest)) => Some((node as NodeId, rest)),
@@ -53,9 +55,11 @@ fn node_then(fields: &[u8], count: NodeId) -> Option<(NodeId, &[u8])>
 #[inline(always)]
 pub fn node_and_offset_of(fields: &[u8], count: NodeId) -> Option<(NodeId, Offset)>
     ensures found { IfSome result
-        (λ (node, from). (fields.now ≡ decimal node ++ 32 ∷ decimal from) × (node < count) × (from < 2 ^ 62)) }
+        (λ (node, from). (fields.now ≡ decimal node ++ 32 ∷ decimal from) × (node < count)
+        × (from < 2 ^ 62)) }
     ensures none { IfNone result
-        ((node from : ℕ) → node < count → from < 2 ^ 62 → fields.now ≢ decimal node ++ 32 ∷ decimal from) }
+        ((node from : ℕ) → node < count → from < 2 ^ 62
+        → fields.now ≢ decimal node ++ 32 ∷ decimal from) }
 {
     let Some((node, rest)) = node_then(fields, count) else {
         return None;
@@ -91,9 +95,11 @@ fn are_values(values: &[u8]) -> bool
 #[inline(always)]
 fn sender_then(bytes: &[u8]) -> Option<(Sender, &[u8])>
     ensures found { IfSome result
-        (λ found. (bytes.now ≡ sender_front (seen_sender found.0) found.1.now) × IsSender (seen_sender found.0)) }
+        (λ found. (bytes.now ≡ sender_front (seen_sender found.0) found.1.now)
+        × IsSender (seen_sender found.0)) }
     ensures none { IfNone result
-        ((sender : SpelledSender) (rest : List ℕ) → IsSender sender → bytes.now ≢ sender_front sender rest) }
+        ((sender : SpelledSender) (rest : List ℕ) → IsSender sender
+        → bytes.now ≢ sender_front sender rest) }
 {
     let Some((producer, rest)) = signed_then(bytes, GREATEST_PRODUCER + 1) else {
         return None;
@@ -115,7 +121,8 @@ fn sender_then(bytes: &[u8]) -> Option<(Sender, &[u8])>
 /// The kind of a batch, `t` of a transaction or `d`, in front of a space, and what follows the space.
 fn kind_then(bytes: &[u8]) -> Option<(bool, &[u8])>
     ensures found { IfSome result (λ found. bytes.now ≡ kind_text found.0 ++ 32 ∷ found.1.now) }
-    ensures none { IfNone result ((transactional : Bool) (rest : List ℕ) → bytes.now ≢ kind_text transactional ++ 32 ∷ rest) }
+    ensures none { IfNone result ((transactional : Bool) (rest : List ℕ)
+        → bytes.now ≢ kind_text transactional ++ 32 ∷ rest) }
 {
     if let Some(rest) = after(b"d ", bytes) {
         return Some((false, rest));
@@ -129,7 +136,8 @@ fn kind_then(bytes: &[u8]) -> Option<(bool, &[u8])>
 /// The append that the whole of these fields spell.
 #[inline(always)]
 pub fn append_of(fields: &[u8], count: NodeId) -> Option<Call<'_>>
-    ensures found { IfSome result (λ call. AreFields count (codes "append") fields.now (seen_call call)) }
+    ensures found { IfSome result (λ call.
+        AreFields count (codes "append") fields.now (seen_call call)) }
     ensures none { IfNone result (AreNoFields count (codes "append") fields.now) }
 {
     let Some((node, rest)) = node_then(fields, count) else {
@@ -159,7 +167,8 @@ pub fn append_of(fields: &[u8], count: NodeId) -> Option<Call<'_>>
 /// The call that the whole of these fields spell where it hands in raw bytes.
 #[inline(always)]
 pub fn raw_of(fields: &[u8], count: NodeId) -> Option<Call<'_>>
-    ensures found { IfSome result (λ call. AreFields count (codes "raw") fields.now (seen_call call)) }
+    ensures found { IfSome result (λ call.
+        AreFields count (codes "raw") fields.now (seen_call call)) }
     ensures none { IfNone result (AreNoFields count (codes "raw") fields.now) }
 {
     match node_then(fields, count) {
@@ -183,7 +192,8 @@ fn ending_of(bytes: &[u8]) -> Option<Kind>
 /// The marker whose fields the whole of these bytes spell.
 fn marker_of(bytes: &[u8]) -> Option<Marker>
     ensures found { IfSome result (λ marker. (bytes.now ≡ marker_text marker) × IsInRange marker) }
-    ensures none { IfNone result ((marker : SpelledMarker) → IsInRange marker → bytes.now ≢ marker_text marker) }
+    ensures none { IfNone result ((marker : SpelledMarker) → IsInRange marker
+        → bytes.now ≢ marker_text marker) }
 {
     let Some((timestamp, rest)) = number_then(bytes, GREATEST_TIME + 1) else {
         return None;
@@ -212,7 +222,8 @@ fn marker_of(bytes: &[u8]) -> Option<Marker>
 /// The call that the whole of these fields spell where it hands in a marker.
 #[inline(always)]
 pub fn mark_of(fields: &[u8], count: NodeId) -> Option<Call<'_>>
-    ensures found { IfSome result (λ call. AreFields count (codes "mark") fields.now (seen_call call)) }
+    ensures found { IfSome result (λ call.
+        AreFields count (codes "mark") fields.now (seen_call call)) }
     ensures none { IfNone result (AreNoFields count (codes "mark") fields.now) }
 {
     let Some((node, rest)) = node_then(fields, count) else {

@@ -10,6 +10,7 @@ mod hex;
 mod lines;
 mod run;
 mod script;
+mod text;
 mod trace;
 mod words;
 
@@ -17,4 +18,4 @@ pub use call::{Call, GREATEST_TIME, Header, Sender, lines_say_one_call};
 pub use lines::LONGEST_LINE;
 pub use run::run_script;
 pub use script::{Line, MOST_EVENTS, Script, parse};
-pub use trace::trace_text;
+pub use trace::push_trace;

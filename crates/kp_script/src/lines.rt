@@ -20,7 +20,8 @@ pub struct CountedLine<'a> {
 /// The first line, and what follows it.
 fn first_line(bytes: &[u8]) -> Option<(&[u8], &[u8])>
     ensures found { IfSome result
-        (λ parts. (lines bytes.now ≡ parts.0.now ∷ lines parts.1.now) × (length parts.1.now < length bytes.now)) }
+        (λ parts. (lines bytes.now ≡ parts.0.now ∷ lines parts.1.now)
+        × (length parts.1.now < length bytes.now)) }
     ensures none { IfNone result (bytes.now ≡ []) }
 {
     if let Some((line, rest)) = split_first_at(b'\n', bytes) {
@@ -50,11 +51,14 @@ fn is_passed_over(line: &[u8]) -> bool
 pub fn next_counted(bytes: &[u8], number: u64) -> Result<CountedLine<'_>, u64>
     requires { number + length bytes.now < 2 ^ 64 }
     ensures found { IfOk result
-        (λ next. counted_from number bytes.now ≡ (next.number, next.line.now) ∷ counted_from (next.number + 1) next.rest.now) }
+        (λ next. counted_from number bytes.now
+        ≡ (next.number, next.line.now) ∷ counted_from (next.number + 1) next.rest.now) }
     ensures shorter { IfOk result (λ next. length next.rest.now < length bytes.now) }
-    ensures room { IfOk result (λ next. next.number + 1 + length next.rest.now ≤ number + length bytes.now) }
+    ensures room { IfOk result (λ next.
+        next.number + 1 + length next.rest.now ≤ number + length bytes.now) }
     ensures end { IfErr result
-        (λ after. (counted_from number bytes.now ≡ []) × (after ≡ number + length (lines bytes.now))) }
+        (λ after. (counted_from number bytes.now ≡ [])
+        × (after ≡ number + length (lines bytes.now))) }
 {
     let mut rest = bytes;
     let mut number = number;

@@ -1,61 +1,92 @@
 //! A script run from its bytes to its trace's bytes.
 
-ghost use Rattle.std.specs.Prelude.{◌≡◌, ◌+◌, ◌<◌, ◌^◌, ℕ, IfOk, IfErr, IfSome, OnErr, Err, map, string_bytes};
-ghost use Rattle.std.specs.Io.KnownBytes.{Keeps};
-ghost use Rattle.kp_types.specs.declared.refusal.Refusal.TheVariants.{BadScript};
-ghost use Rattle.kp_types.specs.Devices.{CountsOne, device_of, faults_of};
+ghost use Rattle.std.specs.Prelude.{◌≡◌, ◌+◌, ◌<◌, ◌≤◌, ◌^◌, ℕ, IfOk, IfErr, IfSome, OnErr, Err, length, map};
+ghost use Rattle.std.specs.List.{AllByRecursion};
+ghost use Rattle.kp_types.specs.declared.refusal.Refusal.TheVariants.{BadScript, Device as DeviceFault, Memory as WantOfMemory};
+ghost use Rattle.kp_types.specs.Devices.{CountsFaults, CountsOne, IsDeviceFault, device_of, faults_of};
 ghost use Rattle.kp_world.specs.Answers.{outcome_of};
-ghost use Rattle.kp_script.specs.Script.{IsFaultAt, IsScriptRefusal};
-ghost use Rattle.kp_script.specs.Transcript.{refusals_in, IsTranscript, IsRunRefusal, Writes, WritesFront};
+ghost use Rattle.kp_script.specs.Call.{IsCall};
+ghost use Rattle.kp_script.specs.Playing.{BeginFrom, PlayTo};
+ghost use Rattle.kp_script.specs.Script.{IsFaultAt};
+ghost use Rattle.kp_script.specs.Seen.{seen_line};
+ghost use Rattle.kp_script.specs.Transcript.{largest_batch, refusals_in, IsRunRefusal, Writes, WritesFirst, WritesFront};
 
+use crate::call::Header;
 use crate::events::events_of;
-use crate::script::parse;
-use crate::trace::trace_text;
-use kp_types::{Counted, Limits, MAX_BATCH, Refusal};
-use kp_world::{Answer, run};
+use crate::script::{Line, parse};
+use crate::trace::push_trace;
+use kp_types::{Counted, Limits, MAX_BATCH, NodeId, Refusal};
+use kp_world::{Answer, Event, World};
 use std::alloc::Global;
 use std::io::{Read, Write};
 
-/// The text of a trace, and how many of its events were refused.
+/// How many events are made and played before their lines are written.
+const EVENTS_AT_ONCE: usize = 512;
+
+/// The lists that a run uses again and again: some events, their answers, and the text of their lines.
 #[derive(Drop)]
-struct Transcript {
-    text: String,
-    refused: u64,
+struct Lists {
+    events: Vec<Event>,
+    outcomes: Vec<Result<Answer, Refusal>>,
+    text: Vec<u8>,
+}
+
+/// The limits of the log that the header asks for.
+fn limits_of(header: &Header) -> Limits
+    ensures { result.max_batch ≡ largest_batch }
+{
+    Limits {
+        segment_bytes: header.segment,
+        index_interval: header.interval,
+        max_batch: MAX_BATCH,
+    }
 }
 
 /// How many events were refused.
 fn count_refused(outcomes: &[Result<Answer, Refusal>]) -> u64
-    ensures { result ≡ refusals_in (map outcome_of outcomes.now) }
+    ensures count { result ≡ refusals_in (map outcome_of outcomes.now) }
+    ensures few { result ≤ length outcomes.now }
 {
     outcomes.iter().filter(|outcome| outcome.is_err()).count() as u64
 }
 
-/// The trace of the script that the bytes are. F31 with the first faulty line, F33.
-fn transcript_of(alloc: Global, input: &[u8]) -> Result<Transcript, Refusal>
-    ensures told { IfOk result (λ told. IsTranscript input.now (string_bytes told.text) told.refused) }
-    ensures fault { (line : ℕ) → result ≡ Err (BadScript line) → IsFaultAt input.now line }
-    ensures only { IfErr result IsScriptRefusal }
+/// Makes the events of these lines, plays them in the world, and writes their lines. Answers how many of them were
+/// refused. F33, and then nothing of these lines is written; F32 where the writer failed, and then a beginning is.
+fn play_lines<W: Write>(
+    alloc: Global,
+    lines: &[Line<'_>],
+    count: NodeId,
+    world: &mut World,
+    lists: &mut Lists,
+    writer: &mut Counted<W>,
+) -> Result<u64, Refusal>
+    requires calls { AllByRecursion (λ call. IsCall count call.1) (map seen_line lines.now) }
+    requires nodes { length world.old.members ≡ count }
+    requires writes { faults_of writer.old + 1 < 2 ^ 64 }
+    ensures played { IfOk result (λ refused.
+        PlayTo (map seen_line lines.now) world.old world.new refused
+        (W.contents (device_of writer.old)) (W.contents (device_of writer.new))) }
+    ensures begun { result ≡ Err DeviceFault → BeginFrom (map seen_line lines.now) world.old
+        (W.contents (device_of writer.old)) (W.contents (device_of writer.new)) }
+    ensures untouched { result ≡ Err WantOfMemory → writer.new ≡ writer.old }
+    ensures nodes { length world.new.members ≡ count }
+    ensures few { IfOk result (λ refused. refused ≤ length lines.now) }
+    ensures only { IfErr result IsDeviceFault }
+    ensures counted { CountsFaults result (faults_of writer.old) (faults_of writer.new) }
 {
-    let script = parse(alloc, input)?;
-    let header = script.header;
-    let limits = Limits {
-        segment_bytes: header.segment,
-        index_interval: header.interval,
-        max_batch: MAX_BATCH,
-    };
-    let events = events_of(alloc, &script.lines, header.count)?;
-    let Ok(trace) = run(alloc, header.count, &limits, &events) else {
-        return Err(Refusal::Memory);
-    };
-    let text = trace_text(alloc, &script.lines, &trace.outcomes)?;
-    let refused = count_refused(&trace.outcomes);
-    Ok(Transcript { text, refused })
+    events_of(alloc, lines, count, &mut lists.events)?;
+    world.play(alloc, &lists.events, &mut lists.outcomes)?;
+    lists.text.clear();
+    push_trace(&mut lists.text, lines, &lists.outcomes)?;
+    writer.write_all(&lists.text)?;
+    Ok(count_refused(&lists.outcomes))
 }
 
 /// Runs the script that the reader has left, and writes its trace: a line for each event. Answers how many
-/// events were refused. F31 with the first line at fault, and then nothing is written; F32 where a device
-/// failed and F33, and then a beginning of the trace is. Takes time and memory proportional to the script
-/// and its trace.
+/// events were refused. F31 with the first line at fault, and then nothing is written; F33, and then the lines of the
+/// first events are, or nothing; F32 where a device failed, and then a beginning of the trace is. All lines are read
+/// before the first event is played, and the lines of some events are written before the next ones are played. Takes
+/// time proportional to the script and its trace, and memory to the script and what the log keeps of it.
 pub fn run_script<R: Read, W: Write>(
     alloc: Global,
     reader: &mut Counted<R>,
@@ -68,14 +99,32 @@ pub fn run_script<R: Read, W: Write>(
     ensures fault { (line : ℕ) → result ≡ Err (BadScript line)
         → IfSome (R.remaining (device_of reader.old)) (λ input. IsFaultAt input line) }
     ensures untouched { (line : ℕ) → result ≡ Err (BadScript line) → writer.new ≡ writer.old }
+    ensures first { result ≡ Err WantOfMemory → WritesFirst (R.remaining (device_of reader.old))
+        (W.contents (device_of writer.old)) (W.contents (device_of writer.new)) }
     ensures front { OnErr result (WritesFront (R.remaining (device_of reader.old))
         (W.contents (device_of writer.old)) (W.contents (device_of writer.new))) }
     ensures only { IfErr result IsRunRefusal }
     ensures counted { CountsOne result (faults_of reader.old) (faults_of reader.new)
         (faults_of writer.old) (faults_of writer.new) }
 {
+    kp_world::runs_go_on();
+    kp_model::runs_are_safe();
+    kp_replica::bytes_are_an_offer();
     let input = reader.read_all(alloc)?;
-    let told = transcript_of(alloc, &input)?;
-    writer.write_all(told.text.as_bytes())?;
-    Ok(told.refused)
+    let script = parse(alloc, &input)?;
+    let count = script.header.count;
+    let mut world = World::start(alloc, count, &limits_of(&script.header))?;
+    let mut lists = Lists {
+        events: Vec::new(alloc),
+        outcomes: Vec::new(alloc),
+        text: Vec::new(alloc),
+    };
+    let mut refused = 0;
+    let mut rest = script.lines.as_slice();
+    while !rest.is_empty() {
+        let (lines, others) = rest.split_at(rest.len().min(EVENTS_AT_ONCE));
+        refused += play_lines(alloc, lines, count, &mut world, &mut lists, writer)?;
+        rest = others;
+    }
+    Ok(refused)
 }

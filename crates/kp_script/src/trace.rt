@@ -1,57 +1,44 @@
 //! The text of a trace: a line for each event, with the number of the event's line and what was answered.
 
-ghost use Rattle.std.specs.Prelude.{◌≡◌, [], ◌∷◌, ◌++◌, length, map, OnOk, IfOk, string_bytes};
+ghost use Rattle.std.specs.Prelude.{◌≡◌, [], ◌∷◌, ◌++◌, length, map, OnOk};
 ghost use Rattle.std.specs.Option.{option_map};
+ghost use Rattle.kp_types.specs.Texts.{refusal_text};
 ghost use Rattle.kp_control.specs.Set.{leader_of, members_of, record_of};
 ghost use Rattle.kp_replica.specs.Replies.{role_reply, receipt_reply};
 ghost use Rattle.kp_world.specs.Answers.{line_of, answer_reply, outcome_of};
 ghost use Rattle.kp_script.specs.Call.{node_of};
 ghost use Rattle.kp_script.specs.Seen.{seen_call};
-ghost use Rattle.kp_script.specs.Hex.{hex_text};
 ghost use Rattle.kp_script.specs.Trace.{leader_text, line_text, lines_text, nodes_text, record_text, reply_text, outcome_text, trace_text};
 
 use crate::script::Line;
+use crate::text::{push_hex, push_named, push_number};
 use kp_control::{Leader, LeaderAndIsr, NodeSet};
 use kp_replica::{Receipt, Role};
 use kp_types::{NodeId, Refusal};
-use kp_world::Answer;
-use std::alloc::{AllocError, Global};
-
-/// Appends the byte as two hexadecimal digits.
-fn push_byte(text: &mut String, byte: u8) -> Result<(), AllocError>
-    ensures { OnOk result (string_bytes text.new ≡ string_bytes text.old ++ hex_text (byte ∷ [])) }
-{
-    write!(text, "{byte:02x}")
-}
-
-/// Appends each byte as two hexadecimal digits.
-fn push_hex(text: &mut String, bytes: &[u8]) -> Result<(), AllocError>
-    ensures { OnOk result (string_bytes text.new ≡ string_bytes text.old ++ hex_text bytes.now) }
-{
-    for byte in bytes {
-        push_byte(text, *byte)?;
-    }
-    Ok(())
-}
+use kp_world::{Answer, ReadRecord};
+use std::alloc::AllocError;
 
 /// Appends a space and a record that was read.
-fn push_line(text: &mut String, line: &kp_world::Line) -> Result<(), AllocError>
+fn push_line(text: &mut Vec<u8>, line: &ReadRecord) -> Result<(), AllocError>
     ensures { OnOk result
-        (string_bytes text.new ≡ string_bytes text.old ++ 32 ∷ line_text (line_of line.now)) }
+        (text.new.items ≡ text.old.items ++ 32 ∷ line_text (line_of line.now)) }
 {
-    write!(text, " {}=", line.offset)?;
+    push_named(text, b" ", line.offset)?;
     match &line.value {
-        Some(bytes) => push_hex(text, bytes),
-        None => text.push('-'),
+        Some(bytes) => {
+            text.extend_from_slice(b"=")?;
+            push_hex(text, bytes)
+        }
+        None => text.extend_from_slice(b"=-"),
     }
 }
 
 /// Appends how many records were read, and each of them.
-fn push_lines(text: &mut String, lines: &[kp_world::Line]) -> Result<(), AllocError>
+fn push_lines(text: &mut Vec<u8>, lines: &[ReadRecord]) -> Result<(), AllocError>
     ensures { OnOk result
-        (string_bytes text.new ≡ string_bytes text.old ++ lines_text (map line_of lines.now)) }
+        (text.new.items ≡ text.old.items ++ lines_text (map line_of lines.now)) }
 {
-    write!(text, "read {}", lines.len())?;
+    push_named(text, b"read ", lines.len() as u64)?;
     for line in lines {
         push_line(text, line)?;
     }
@@ -59,17 +46,17 @@ fn push_lines(text: &mut String, lines: &[kp_world::Line]) -> Result<(), AllocEr
 }
 
 /// Appends the nodes of the set, with a comma between each two.
-fn push_nodes(text: &mut String, set: &NodeSet) -> Result<(), AllocError>
+fn push_nodes(text: &mut Vec<u8>, set: &NodeSet) -> Result<(), AllocError>
     ensures { OnOk result
-        (string_bytes text.new ≡ string_bytes text.old ++ nodes_text (members_of set.now)) }
+        (text.new.items ≡ text.old.items ++ nodes_text (members_of set.now)) }
 {
     let mut first = true;
     for (node, member) in set.members.iter().enumerate() {
         if *member {
             if !first {
-                text.push(',')?;
+                text.push(b',')?;
             }
-            write!(text, "{node}")?;
+            push_number(text, node as u64)?;
             first = false;
         }
     }
@@ -77,114 +64,138 @@ fn push_nodes(text: &mut String, set: &NodeSet) -> Result<(), AllocError>
 }
 
 /// Appends who leads, in which leader epoch.
-fn push_leader(text: &mut String, leader: Option<Leader>) -> Result<(), AllocError>
+fn push_leader(text: &mut Vec<u8>, leader: Option<Leader>) -> Result<(), AllocError>
     ensures { OnOk result
-        (string_bytes text.new ≡ string_bytes text.old ++ leader_text (option_map leader_of leader)) }
+        (text.new.items ≡ text.old.items ++ leader_text (option_map leader_of leader)) }
 {
     match leader {
-        Some(Leader { node, epoch }) => write!(text, "leader {node} epoch {epoch}"),
-        None => text.push_str("leader none epoch -1"),
+        Some(Leader { node, epoch }) => {
+            push_named(text, b"leader ", u64::from(node))?;
+            push_named(text, b" epoch ", u64::from(epoch))
+        }
+        None => text.extend_from_slice(b"leader none epoch -1"),
     }
 }
 
 /// Appends the controller's record.
-fn push_record(text: &mut String, controller: &LeaderAndIsr) -> Result<(), AllocError>
+fn push_record(text: &mut Vec<u8>, controller: &LeaderAndIsr) -> Result<(), AllocError>
     ensures { OnOk result
-        (string_bytes text.new ≡ string_bytes text.old ++ record_text (record_of controller.now)) }
+        (text.new.items ≡ text.old.items ++ record_text (record_of controller.now)) }
 {
-    text.push_str("record ")?;
+    text.extend_from_slice(b"record ")?;
     push_leader(text, controller.leader)?;
-    text.push_str(" isr ")?;
+    text.extend_from_slice(b" isr ")?;
     push_nodes(text, &controller.isr)?;
-    write!(text, " version {}", controller.version)
+    push_named(text, b" version ", u64::from(controller.version))
 }
 
 /// Appends what an adoption of the controller's record answers.
-fn push_role(text: &mut String, node: NodeId, role: &Role) -> Result<(), AllocError>
+fn push_role(text: &mut Vec<u8>, node: NodeId, role: &Role) -> Result<(), AllocError>
     ensures { OnOk result
-        (string_bytes text.new ≡ string_bytes text.old ++ reply_text node None (role_reply (Ok role.now))) }
+        (text.new.items ≡ text.old.items ++ reply_text node None (role_reply (Ok role.now))) }
 {
-    match role {
-        Role::Leads { epoch, start } => write!(text, "leads epoch {epoch} from {start}"),
+    match *role {
+        Role::Leads { epoch, start } => {
+            push_named(text, b"leads epoch ", u64::from(epoch))?;
+            push_named(text, b" from ", start)
+        }
         Role::Follows {
             leader,
             epoch,
             fetching,
         } => {
-            let stage = if *fetching { "fetching" } else { "reconciling" };
-            write!(text, "follows {leader} epoch {epoch} {stage}")
+            push_named(text, b"follows ", u64::from(leader))?;
+            push_named(text, b" epoch ", u64::from(epoch))?;
+            if fetching {
+                text.extend_from_slice(b" fetching")
+            } else {
+                text.extend_from_slice(b" reconciling")
+            }
         }
     }
 }
 
 /// Appends what an append answers.
-fn push_receipt(text: &mut String, node: NodeId, receipt: &Receipt) -> Result<(), AllocError>
+fn push_receipt(text: &mut Vec<u8>, node: NodeId, receipt: &Receipt) -> Result<(), AllocError>
     ensures { OnOk result
-        (string_bytes text.new ≡ string_bytes text.old ++ reply_text node None (receipt_reply (Ok receipt.now))) }
+        (text.new.items ≡ text.old.items ++ reply_text node None (receipt_reply (Ok receipt.now))) }
 {
     if receipt.duplicate {
-        write!(text, "duplicate {}", receipt.base)
+        push_named(text, b"duplicate ", receipt.base)
     } else {
-        write!(text, "at {}", receipt.base)
+        push_named(text, b"at ", receipt.base)
     }
 }
 
 /// Appends what an event that names this node answers.
-fn push_answer(text: &mut String, node: NodeId, answer: &Answer) -> Result<(), AllocError>
+fn push_answer(text: &mut Vec<u8>, node: NodeId, answer: &Answer) -> Result<(), AllocError>
     ensures { OnOk result
-        (string_bytes text.new ≡ string_bytes text.old ++ reply_text node None (answer_reply answer.now)) }
+        (text.new.items ≡ text.old.items ++ reply_text node None (answer_reply answer.now)) }
 {
     match answer {
         Answer::Changed(controller) => push_record(text, controller),
         Answer::Adopted(role) => push_role(text, node, role),
         Answer::Appended(receipt) => push_receipt(text, node, receipt),
-        Answer::Mark(watermark) => write!(text, "mark {watermark}"),
+        Answer::Watermark(watermark) => push_named(text, b"mark ", *watermark),
         Answer::Shown {
             life,
             end,
             watermark,
             stable,
-        } => write!(
-            text,
-            "node {node} life {life} end {end} mark {watermark} stable {stable}"
-        ),
+        } => {
+            push_named(text, b"node ", u64::from(node))?;
+            push_named(text, b" life ", *life)?;
+            push_named(text, b" end ", *end)?;
+            push_named(text, b" mark ", *watermark)?;
+            push_named(text, b" stable ", *stable)
+        }
         Answer::Lines(lines) => push_lines(text, lines),
+    }
+}
+
+/// Appends why an event was refused.
+fn push_refusal(text: &mut Vec<u8>, refusal: &Refusal) -> Result<(), AllocError>
+    ensures { OnOk result (text.new.items ≡ text.old.items ++ refusal_text refusal.now) }
+{
+    text.extend_from_slice(refusal.name().as_bytes())?;
+    match refusal.place() {
+        Some(place) => push_named(text, b" ", place),
+        None => Ok(()),
     }
 }
 
 /// Appends what was answered to an event that names this node, or why the event was refused.
 /// Takes time proportional to the text that it appends.
-pub(crate) fn push_outcome(
-    text: &mut String,
+fn push_outcome(
+    text: &mut Vec<u8>,
     node: NodeId,
     outcome: &Result<Answer, Refusal>,
 ) -> Result<(), AllocError>
     ensures ok { OnOk result
-        (string_bytes text.new ≡ string_bytes text.old ++ outcome_text node (outcome_of outcome.now)) }
+        (text.new.items ≡ text.old.items ++ outcome_text node (outcome_of outcome.now)) }
 {
     match outcome {
         Ok(answer) => push_answer(text, node, answer),
-        Err(refusal) => write!(text, "{refusal}"),
+        Err(refusal) => push_refusal(text, refusal),
     }
 }
 
-/// The text of a trace: a line for each event, in their order. An event's outcome stands at the event's place.
-/// Takes time proportional to the text, and fails where memory runs out.
-pub fn trace_text(
-    alloc: Global,
+/// Appends a line for each event, in their order. An event's outcome stands at the event's place.
+/// Takes time proportional to the text that it appends, and fails where memory runs out.
+pub fn push_trace(
+    text: &mut Vec<u8>,
     lines: &[Line<'_>],
     outcomes: &[Result<Answer, Refusal>],
-) -> Result<String, AllocError>
+) -> Result<(), AllocError>
     requires { length outcomes.now ≡ length lines.now }
-    ensures { IfOk result
-        (λ text. string_bytes text ≡ trace_text
+    ensures { OnOk result (text.new.items ≡ text.old.items ++ trace_text
         (map (λ l. (l.number, node_of (seen_call l.call))) lines.now) (map outcome_of outcomes.now)) }
 {
-    let mut text = String::new(alloc);
     for (line, outcome) in lines.iter().zip(outcomes) {
-        write!(text, "{} ", line.number)?;
-        push_outcome(&mut text, line.call.node(), outcome)?;
-        text.push('\n')?;
+        push_number(text, line.number)?;
+        text.push(b' ')?;
+        push_outcome(text, line.call.node(), outcome)?;
+        text.push(b'\n')?;
     }
-    Ok(text)
+    Ok(())
 }

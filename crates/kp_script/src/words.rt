@@ -6,6 +6,8 @@ ghost use Rattle.std.specs.Str.Parse.{AllDigits, digits_value};
 ghost use Rattle.kp_script.specs.Call.{signed_text};
 ghost use Rattle.kp_script.specs.Read.{Lacks, BeginsWithNoDigit, SpellsNoNumber};
 
+use memchr::memchr;
+
 /// What follows this text, which the bytes begin with.
 pub fn after<'a>(text: &[u8], bytes: &'a [u8]) -> Option<&'a [u8]>
     ensures found { IfSome result (λ rest. bytes.now ≡ text.now ++ rest.now) }
@@ -16,17 +18,18 @@ pub fn after<'a>(text: &[u8], bytes: &'a [u8]) -> Option<&'a [u8]>
 
 /// What stands before and after the first of these bytes.
 pub fn split_first_at(separator: u8, bytes: &[u8]) -> Option<(&[u8], &[u8])>
-    ensures found { IfSome result (λ parts. (bytes.now ≡ parts.0.now ++ separator ∷ parts.1.now) × Lacks separator parts.0.now) }
+    ensures found { IfSome result (λ parts. (bytes.now ≡ parts.0.now ++ separator ∷ parts.1.now)
+        × Lacks separator parts.0.now) }
     ensures none { IfNone result (Lacks separator bytes.now) }
 {
-    for (i, byte) in bytes.iter().enumerate() {
-        if *byte == separator {
+    match memchr(separator, bytes) {
+        Some(i) => {
             let (front, _) = bytes.split_at(i);
             let (_, rest) = bytes.split_at(i + 1);
-            return Some((front, rest));
+            Some((front, rest))
         }
+        None => None,
     }
-    None
 }
 
 /// The number that so many digits in front spell, and what follows them: there is one, and no zero stands in front of
@@ -38,7 +41,8 @@ fn number_until(bytes: &[u8], digits: usize, value: u64) -> Option<(u64, &[u8])>
     requires value { value ≡ digits_value 10 (take digits bytes.now) }
     requires rest { BeginsWithNoDigit (drop digits bytes.now) }
     ensures found { IfSome result
-        (λ (n, rest). (bytes.now ≡ decimal n ++ rest.now) × BeginsWithNoDigit rest.now × (n < 2 ^ 64)) }
+        (λ (n, rest). (bytes.now ≡ decimal n ++ rest.now) × BeginsWithNoDigit rest.now
+        × (n < 2 ^ 64)) }
     ensures none { IfNone result (SpellsNoNumber bytes.now) }
 {
     if digits == 0 {
@@ -55,7 +59,8 @@ fn number_until(bytes: &[u8], digits: usize, value: u64) -> Option<(u64, &[u8])>
 #[inline(always)]
 fn leading_number(bytes: &[u8]) -> Option<(u64, &[u8])>
     ensures found { IfSome result
-        (λ (n, rest). (bytes.now ≡ decimal n ++ rest.now) × BeginsWithNoDigit rest.now × (n < 2 ^ 64)) }
+        (λ (n, rest). (bytes.now ≡ decimal n ++ rest.now) × BeginsWithNoDigit rest.now
+        × (n < 2 ^ 64)) }
     ensures none { IfNone result (SpellsNoNumber bytes.now) }
 {
     let mut value: u64 = 0;
@@ -91,8 +96,10 @@ pub fn number_below(bytes: &[u8], limit: u64) -> Option<u64>
 /// The number below the limit that stands before the first space, and what follows the space.
 #[inline(always)]
 pub fn number_then(bytes: &[u8], limit: u64) -> Option<(u64, &[u8])>
-    ensures found { IfSome result (λ found. (bytes.now ≡ decimal found.0 ++ 32 ∷ found.1.now) × (found.0 < limit)) }
-    ensures none { IfNone result ((n : ℕ) (rest : List ℕ) → n < limit → bytes.now ≢ decimal n ++ 32 ∷ rest) }
+    ensures found { IfSome result (λ found. (bytes.now ≡ decimal found.0 ++ 32 ∷ found.1.now)
+        × (found.0 < limit)) }
+    ensures none { IfNone result ((n : ℕ) (rest : List ℕ) → n < limit
+        → bytes.now ≢ decimal n ++ 32 ∷ rest) }
 {
     let Some((n, rest)) = leading_number(bytes) else {
         return None;
@@ -111,9 +118,11 @@ pub fn number_then(bytes: &[u8], limit: u64) -> Option<(u64, &[u8])>
 #[inline(always)]
 pub fn signed_then(bytes: &[u8], limit: u64) -> Option<(Option<u64>, &[u8])>
     ensures found { IfSome result
-        (λ found. (bytes.now ≡ signed_text found.0 ++ 32 ∷ found.1.now) × IfSome found.0 (λ n. n < limit)) }
+        (λ found. (bytes.now ≡ signed_text found.0 ++ 32 ∷ found.1.now)
+        × IfSome found.0 (λ n. n < limit)) }
     ensures none { IfNone result
-        ((field : Option ℕ) (rest : List ℕ) → IfSome field (λ n. n < limit) → bytes.now ≢ signed_text field ++ 32 ∷ rest) }
+        ((field : Option ℕ) (rest : List ℕ) → IfSome field (λ n. n < limit)
+        → bytes.now ≢ signed_text field ++ 32 ∷ rest) }
 {
     if let Some(rest) = after(b"-1 ", bytes) {
         return Some((None, rest));
@@ -127,7 +136,8 @@ pub fn signed_then(bytes: &[u8], limit: u64) -> Option<(Option<u64>, &[u8])>
 /// The number below the limit that stands between this text and a space, and what follows the space.
 pub fn field_then<'a>(text: &[u8], bytes: &'a [u8], limit: u64) -> Option<(u64, &'a [u8])>
     ensures found { IfSome result
-        (λ found. (bytes.now ≡ text.now ++ (decimal found.0 ++ 32 ∷ found.1.now)) × (found.0 < limit)) }
+        (λ found. (bytes.now ≡ text.now ++ (decimal found.0 ++ 32 ∷ found.1.now))
+        × (found.0 < limit)) }
     ensures none { IfNone result
         ((n : ℕ) (rest : List ℕ) → n < limit → bytes.now ≢ text.now ++ (decimal n ++ 32 ∷ rest)) }
 {

@@ -3,7 +3,7 @@
 
 use crate::shown::{batch_text, hex, is, unhex};
 use bytes::Bytes;
-use kp_batch::{Batch, Fields, HeaderParts, Parts, spell};
+use kp_batch::{Batch, Fields, HeaderParts, Parts, Speller};
 use kp_marker::{Kind, marker, read_marker};
 use kp_types::{Limits, Refusal};
 use std::alloc::Global;
@@ -159,8 +159,8 @@ fn spelled(alloc: Global, fields: &Fields, parts: &[Parts<'_>]) -> Result<String
     {
         return Err(Refusal::BadProducerFields);
     }
-    let bytes = spell(alloc, fields, parts)?;
-    Ok(hex(alloc, &bytes)?)
+    let bytes = Speller::new(alloc).spell(fields, parts)?;
+    Ok(hex(alloc, bytes.as_slice())?)
 }
 
 #[test]

@@ -1,4 +1,4 @@
-//! The two indexes of a run by themselves, the model's plain program, and the laws that cost nothing.
+//! The two indexes of a segment by themselves, the model's plain program, and the laws that cost nothing.
 
 use crate::shown::is;
 use kp_model::{Header, end_for};
@@ -7,7 +7,7 @@ use kp_time_index::{TimeEntry, TimeIndex};
 use kp_types::Refusal;
 use std::alloc::Global;
 
-// Three batches of a run of ten or more.
+// Three batches of a segment of ten or more.
 const NINE: OffsetEntry = OffsetEntry {
     relative_offset: 9,
     position: 4_200,
@@ -53,7 +53,7 @@ fn an_offset_is_found_at_the_entry_below(rt: HostRuntime) {
     is(&rt, floors(rt.alloc(), &[8, 9, 24, 25, 26]), want);
 }
 
-// Three entries of a run.
+// Three entries of a segment.
 const EARLY: TimeEntry = TimeEntry {
     timestamp: 1_000,
     relative_offset: 4,
@@ -74,9 +74,9 @@ const LATE: TimeEntry = TimeEntry {
 
 fn times(alloc: Global) -> Result<TimeIndex, Refusal> {
     let mut index = TimeIndex::new(alloc);
-    index.push(EARLY)?;
-    index.push(NEXT)?;
-    index.push(LATE)?;
+    let _ = index.note(EARLY)?;
+    let _ = index.note(NEXT)?;
+    let _ = index.note(LATE)?;
     Ok(index)
 }
 

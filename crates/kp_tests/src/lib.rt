@@ -10,6 +10,8 @@ mod cli_tests;
 #[cfg(test)]
 mod device_tests;
 #[cfg(test)]
+mod epoch_tests;
+#[cfg(test)]
 mod index_tests;
 #[cfg(test)]
 mod log_tests;

@@ -8,6 +8,7 @@ use crate::logs::{batch_of, told};
 use crate::script_tests::trace_of;
 use crate::shown::is;
 use bytes::Bytes;
+use kp_batch::Handed;
 use kp_control::LeaderAndIsr;
 use kp_marker::{Kind, Marker};
 use kp_replica::{Receipt, Replica};
@@ -16,10 +17,10 @@ use kp_world::{Act, Answer, Event, Stopped, Trace, run};
 use std::alloc::{AllocError, Global};
 
 // The bytes of the batch of a word.
-fn bytes_of(alloc: Global, word: &str) -> Result<Bytes, Refusal> {
+fn bytes_of(alloc: Global, word: &str) -> Result<Handed, Refusal> {
     let mut out = Vec::new(alloc);
     batch_of(alloc, word)?.write(&mut out)?;
-    Ok(Bytes::from_vec(out)?)
+    Ok(Handed::raw(Bytes::from_vec(out)?))
 }
 
 // Of one node: no leader yet, its election, its second one, and that of another node.
@@ -125,7 +126,7 @@ fn push_receipt(text: &mut String, receipt: &Receipt) -> Result<(), AllocError> 
 // Node 6 leads, then node 0.
 fn seven(alloc: Global) -> Result<String, Refusal> {
     let bytes = bytes_of(alloc, "p10")?;
-    let again = bytes.clone()?;
+    let again = bytes.share()?;
     let events = [
         Event::Acts {
             node: 6,
@@ -198,7 +199,7 @@ const MARKER: Marker = Marker {
 // Three records come twice, the second time in the leader's next epoch.
 fn three_twice(alloc: Global) -> Result<String, Refusal> {
     let bytes = bytes_of(alloc, "d9.0.0.3")?;
-    let again = bytes.clone()?;
+    let again = bytes.share()?;
     let marker = MARKER;
     let events = [
         Event::Elect { node: 0 },

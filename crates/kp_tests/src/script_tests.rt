@@ -3,9 +3,9 @@
 use crate::shown::{is, unhex};
 use kp_control::{Leader, LeaderAndIsr, NodeSet};
 use kp_replica::{Receipt, Role};
-use kp_script::{Call, Line, trace_text};
+use kp_script::{Call, Line, push_trace};
 use kp_types::Refusal;
-use kp_world::{Answer, Line as ReadRecord};
+use kp_world::{Answer, ReadRecord};
 use std::alloc::{AllocError, Global};
 
 // The text of a trace of events that show node 5, the first in line 2.
@@ -23,7 +23,12 @@ pub(crate) fn trace_of(
     if lines.len() != outcomes.len() {
         return Err(Refusal::BadCount);
     }
-    Ok(trace_text(alloc, lines.as_slice(), outcomes)?)
+    let mut text = Vec::new(alloc);
+    push_trace(&mut text, lines.as_slice(), outcomes)?;
+    match String::from_utf8(text) {
+        Ok(text) => Ok(text),
+        Err(_) => Err(Refusal::BadRecord(0)),
+    }
 }
 
 // The controller's record with or without a leader.

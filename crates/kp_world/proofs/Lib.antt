@@ -4,3 +4,4 @@ pub mod Playing
 pub mod Lines
 pub mod ReadBelow
 pub mod Told
+pub mod GoingOn

@@ -1,15 +1,14 @@
 -- A node's call is a step of every world that is shown.
-use Rattle.std.proofs.Common.{◌≡◌, ℕ, ◌<◌, true, false, cond, eqb, List, length, set, get_or, Some, None, Option, Result, Ok, Err, refl, sym, ap, ◌∙◌, subst, arith, inl, inr, length-set}
+use Rattle.std.proofs.Common.{◌≡◌, ℕ, ◌<◌, true, false, cond, eqb, List, length, set, get_or, None, Option, Result, Ok, refl, sym, ap, ◌∙◌, subst, arith, inl, inr, length-set}
 use Rattle.std.proofs.lemmas.List.{get_or-set_same, get_or-set_other}
 use Rattle.std.proofs.lemmas.Bool.{eq-eqb, ne_eqb, cases_eq}
-use Rattle.kp_types.specs.Causes.{IsRefusedOnlyBy}
 use Rattle.kp_types.specs.declared.limits.Limits.{Limits}
 use Rattle.kp_types.specs.declared.refusal.Refusal.{Refusal}
 use Rattle.kp_model.specs.Log.{end_of}
 use Rattle.kp_model.specs.Transactions.{stable}
 use Rattle.kp_model.specs.World.{LeaderAndIsr, Node, World, with_record}
 use Rattle.kp_model.specs.Event.{Act, Show, Elect, Acts, Changed, Shown}
-use Rattle.kp_model.specs.Local.{Effect, Local, LocalBy, Happens, cause, is_down, becomes, elected}
+use Rattle.kp_model.specs.Local.{Effect, Local, is_down, becomes, elected}
 use Rattle.kp_model.specs.Step.{ElectsBy, moved, told, IsGiven, elect_cause}
 use Rattle.kp_replica.specs.Member.{Member, DoesUnder}
 use Rattle.kp_control.specs.Set.{record_of}
@@ -18,6 +17,7 @@ use Rattle.kp_world.specs.Answers.{reply_of}
 use Rattle.kp_world.specs.declared.event.Answer.{Answer}
 use Rattle.kp_world.specs.declared.event.Answer.TheVariants as answers
 use Rattle.kp_world.specs.Shown.{IsNode, KeepsReceipt, LeadsOn}
+use Rattle.kp_model.proofs.Steps.{happened}
 
 -- node n as it is after the call, and the others as they were
 after : (limits : Limits) (n : ℕ) (m : Member) (members : List Member) (x : Node) (nodes : ℕ → Node) → n < length members → m.number ≡ n → m.limits ≡ limits → x ≡ m.state
@@ -80,17 +80,6 @@ elected_on limits n old new members free is w shown =
       receipt = tt;
       shown = record { controller_is = same; count = shown.count; nodes = shown.nodes };
     }
-
-pub only_free : (A : Type 0) (o : Option Refusal) (x : A) → IsRefusedOnlyBy o (Ok x) → o ≡ None
-only_free A (Some s) x h = absurd (no_ok x h)
-  where
-    no_ok : (x : A) → Ok x ≡ Err s → ⊥
-    no_ok x e = cc
-only_free A None x h = refl
-
-happened : (c : LeaderAndIsr) (n : ℕ) (x : Node) (act : Act) (e : Effect) → cause c n x act ≡ None → Happens c n x act e → Local c n x act e
-unfolding Local
-happened c n x act e free h = subst (λ (o : Option Refusal). LocalBy o c n x act e) (sym free) (inl h)
 
 -- a node that is up tells its state
 pub showed : (c : LeaderAndIsr) (n : ℕ) (x : Node) (life end mark held : ℕ) → is_down x.mode ≡ false → life ≡ x.life → end ≡ end_of x.log → mark ≡ x.watermark → held ≡ stable x.log x.watermark

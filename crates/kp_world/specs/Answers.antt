@@ -7,18 +7,18 @@ use Rattle.kp_model.specs.Event.{Line as ModelLine, Reply, Refused, Changed as R
 use Rattle.kp_model.specs.Step.{told}
 use Rattle.kp_control.specs.Set.{record_of}
 use Rattle.kp_replica.specs.Replies.{role_reply, receipt_reply}
-use Rattle.kp_world.specs.declared.event.Line.{Line}
+use Rattle.kp_world.specs.declared.event.ReadRecord.{ReadRecord}
 use Rattle.kp_world.specs.declared.event.Answer.{Answer}
-use Rattle.kp_world.specs.declared.event.Answer.TheVariants.{Changed, Adopted, Appended, Mark, Shown, Lines}
+use Rattle.kp_world.specs.declared.event.Answer.TheVariants.{Changed, Adopted, Appended, Watermark, Shown, Lines}
 
-abbrev pub line_of : Line → ModelLine
+abbrev pub line_of : ReadRecord → ModelLine
 line_of l = record { offset = l.offset; value = option_map (λ v. v.items) l.value }
 
 abbrev pub answer_reply : Answer → Reply
 answer_reply (Changed controller) = RecordChanged (record_of controller)
 answer_reply (Adopted role) = role_reply (Ok role)
 answer_reply (Appended receipt) = receipt_reply (Ok receipt)
-answer_reply (Mark watermark) = MarkAt watermark
+answer_reply (Watermark watermark) = MarkAt watermark
 answer_reply (Shown life end watermark stable) = StateShown life end watermark stable
 answer_reply (Lines lines) = LinesRead (map line_of lines.items)
 
@@ -31,6 +31,6 @@ abbrev pub outcome_of : Result Answer Refusal → Outcome
 outcome_of result = told (reply_of result)
 
 -- the reply to a read
-abbrev pub lines_reply : Result (Vec Line) Refusal → Reply
+abbrev pub lines_reply : Result (Vec ReadRecord) Refusal → Reply
 lines_reply (Ok lines) = LinesRead (map line_of lines.items)
 lines_reply (Err refusal) = Refused refusal

@@ -1,9 +1,11 @@
 -- Laws of events.
-use Rattle.std.specs.Prelude.{◌≡◌, ℕ, List}
+use Rattle.std.specs.Prelude.{◌≡◌, ℕ, ◌<◌, List, ◌++◌}
 use Rattle.std.specs.List.{AllByRecursion}
-use Rattle.kp_model.specs.Event.{Event as ModelEvent}
+use Rattle.kp_model.specs.Event as model
+use Rattle.kp_model.specs.Event.{Event as ModelEvent, Outcome}
 use Rattle.kp_world.specs.declared.event.Event.{Event}
 use Rattle.kp_world.specs.Events.{AreEvents, HasBytes}
+use Rattle.kp_world.specs.Plays.{IsPlayed}
 
 -- All events are events of the definitions.
 abbrev pub EventsAreTold : Type 0
@@ -15,3 +17,26 @@ abbrev pub EventsAreToldOnce : Type 0
 EventsAreToldOnce =
     (max : ℕ) (events : List Event) (es others : List ModelEvent) → AllByRecursion HasBytes events →
     AreEvents max events es → AreEvents max events others → es ≡ others
+
+-- An action of those that `Act` has: none in which a node takes part of its own.
+abbrev pub IsAsked : model.Act → Type 0
+IsAsked model.Adopt = Unit {0}
+IsAsked (model.Produce offer) = Unit {0}
+IsAsked (model.Mark time producer epoch coordinator commit) = Unit {0}
+IsAsked model.Raise = Unit {0}
+IsAsked model.Show = Unit {0}
+IsAsked (model.Read from) = Unit {0}
+IsAsked (model.Committed from) = Unit {0}
+IsAsked _ = ⊥
+
+-- An election, or such an action of one of so many nodes.
+abbrev pub MayCome : (count : ℕ) → ModelEvent → Type 0
+MayCome count (model.Elect node) = Unit {0}
+MayCome count (model.Acts node act) = (node < count) × IsAsked act
+MayCome count (model.Deliver number) = ⊥
+
+-- Each run goes on with any such events: there are answers to them.
+abbrev pub RunsGoOn : Type 0
+RunsGoOn =
+    (count : ℕ) (events more : List ModelEvent) (outcomes : List Outcome) → IsPlayed count events outcomes →
+    AllByRecursion (MayCome count) more → (answers : List Outcome) × IsPlayed count (events ++ more) (outcomes ++ answers)

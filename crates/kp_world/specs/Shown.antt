@@ -39,7 +39,7 @@ KeepsReceipt log (Err refusal) = Unit {0}
 abbrev pub HasReceipt : Event → World → Result Answer Refusal → Type 0
 HasReceipt (Elect n) w outcome = Unit {0}
 HasReceipt (Acts n act) w outcome = KeepsReceipt (w.nodes n).log outcome
-HasReceipt (Deliver n number) w outcome = Unit {0}
+HasReceipt (Deliver number) w outcome = Unit {0}
 
 -- From each world that was shown the event leads, with this answer, to one that is shown now, in which a receipt's batch
 -- stands.

@@ -40,7 +40,8 @@ pub(crate) fn act(
     act: &Act,
 ) -> Result<Result<Answer, Refusal>, AllocError>
     requires { HandsMarker act.now }
-    ensures does { IfOk result (λ outcome. (a : ModelAct) → IsAct replica.old.limits.max_batch act.now a
+    ensures does { IfOk result (λ outcome. (a : ModelAct)
+        → IsAct replica.old.limits.max_batch act.now a
         → DoesUnder (record_of controller.now) replica.old replica.new a (reply_of outcome)) }
     ensures receipt { IfOk result (KeepsReceipt replica.new.state.log) }
     ensures err { OnErr result (replica.new ≡ replica.old) }
@@ -48,11 +49,11 @@ pub(crate) fn act(
     let outcome = match act {
         Act::Adopt => replica.adopt(controller).map(Answer::Adopted),
         Act::Produce { bytes } => {
-            let shared = bytes.clone()?;
+            let shared = bytes.share()?;
             replica.produce(shared).map(Answer::Appended)
         }
         Act::Mark { marker } => replica.mark(alloc, marker).map(Answer::Appended),
-        Act::Raise => replica.raise().map(Answer::Mark),
+        Act::Raise => replica.raise().map(Answer::Watermark),
         Act::Show => Ok(shown(replica)),
         Act::Read { from } => read_lines(alloc, replica, *from).map(Answer::Lines),
         Act::Committed { from } => committed_lines(alloc, replica, *from).map(Answer::Lines),

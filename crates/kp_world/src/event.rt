@@ -1,6 +1,6 @@
 //! What may happen, and what is answered.
 
-use bytes::Bytes;
+use kp_batch::Handed;
 use kp_control::LeaderAndIsr;
 use kp_marker::Marker;
 use kp_replica::{Receipt, Role};
@@ -21,7 +21,7 @@ pub enum Act {
     /// It takes up the controller's record.
     Adopt,
     /// A client hands it these bytes, to be appended as a batch.
-    Produce { bytes: Bytes },
+    Produce { bytes: Handed },
     /// A transaction coordinator hands it this marker, to be appended. Its fields lie in their ranges: `producer_id`
     /// below 2^63, `producer_epoch` below 2^15, `coordinator_epoch` below 2^31, `timestamp` below 2^62. (KIP-98.)
     Mark { marker: Marker },
@@ -38,7 +38,7 @@ pub enum Act {
 
 /// A record as a reader gets it.
 #[derive(Drop)]
-pub struct Line {
+pub struct ReadRecord {
     pub offset: Offset,
     /// None is null.
     pub value: Option<Vec<u8>>,
@@ -52,7 +52,7 @@ pub enum Answer {
     Adopted(Role),
     Appended(Receipt),
     /// The high watermark.
-    Mark(Offset),
+    Watermark(Offset),
     Shown {
         life: u64,
         end: Offset,
@@ -60,7 +60,7 @@ pub enum Answer {
         /// The last stable offset.
         stable: Offset,
     },
-    Lines(Vec<Line>),
+    Lines(Vec<ReadRecord>),
 }
 
 /// The answers to the events, in their order. A refused event stands in it too.

@@ -3,14 +3,14 @@
 //! and that every run is safe: what once lay below a high watermark stays, at its offset, for ever.
 #![tactic(auto)]
 
-ghost use Rattle.kp_world.specs.Laws.{EventsAreTold, EventsAreToldOnce};
+ghost use Rattle.kp_world.specs.Laws.{EventsAreTold, EventsAreToldOnce, RunsGoOn};
 
 mod acting;
 mod event;
 mod read;
 mod world;
 
-pub use event::{Act, Answer, Event, Line, Stopped, Trace};
+pub use event::{Act, Answer, Event, ReadRecord, Stopped, Trace};
 pub use world::{World, run};
 
 /// Every list of events, in which numbers below 256 are handed in, is a list of events of the definitions, and of
@@ -20,4 +20,13 @@ pub fn events_are_told()
     ensures one { EventsAreToldOnce }
 {
     kp_replica::bytes_are_an_offer();
+}
+
+/// Every run goes on: whatever events of these come next, there are answers to them, so that a run over the first
+/// events of a list is the beginning of one over all of them. It costs nothing.
+pub fn runs_go_on()
+    ensures { RunsGoOn }
+{
+    kp_model::runs_are_safe();
+    kp_model::runs_keep_count();
 }

@@ -3,10 +3,12 @@
 ghost use Rattle.std.specs.Prelude.{◌≡◌, ◌+◌, ◌<◌, ◌≤◌, ℕ, List, [], ◌∷◌, ◌++◌, length, map, take, IfOk, IfErr, OnErr, OnOk, Result};
 ghost use Rattle.std.specs.List.{AllByRecursion};
 ghost use Rattle.kp_types.specs.declared.limits.Limits.{Limits as LogLimits};
+ghost use Rattle.kp_types.specs.declared.refusal.Refusal.{Refusal as EventRefusal};
 ghost use Rattle.kp_model.specs.World.{start};
 ghost use Rattle.kp_model.specs.Event.{Event as ModelEvent, Elect as ModelElect};
 ghost use Rattle.kp_control.specs.Set.{record_of};
 ghost use Rattle.kp_world.specs.Answers.{outcome_of};
+ghost use Rattle.kp_world.specs.declared.event.Answer.{Answer as EventAnswer};
 ghost use Rattle.kp_world.specs.Events.{AreEvents, HasMarker, IsEvent, node_of};
 ghost use Rattle.kp_world.specs.Plays.{IsAnswered, IsReached};
 ghost use Rattle.kp_world.specs.Shown.{IsShown, LeadsOn};
@@ -54,7 +56,8 @@ impl World {
 
     /// The controller elects a node.
     fn elect(&mut self, node: NodeId) -> Result<Answer, Refusal>
-        ensures step { (limits : LogLimits) → LeadsOn limits self.old (ModelElect node) result self.new }
+        ensures step { (limits : LogLimits)
+            → LeadsOn limits self.old (ModelElect node) result self.new }
         ensures count { length self.new.members ≡ length self.old.members }
     {
         let changed = self.controller.elected(node)?;
@@ -66,7 +69,8 @@ impl World {
     fn step(&mut self, alloc: Global, event: &Event) -> Result<Result<Answer, Refusal>, AllocError>
         requires node { node_of event.now < length self.old.members }
         requires marker { HasMarker event.now }
-        ensures step { IfOk result (λ outcome. (limits : LogLimits) (e : ModelEvent) → IsEvent limits.max_batch event.now e
+        ensures step { IfOk result (λ outcome. (limits : LogLimits) (e : ModelEvent)
+            → IsEvent limits.max_batch event.now e
             → LeadsOn limits self.old e outcome self.new) }
         ensures err { OnErr result (self.new ≡ self.old) }
         ensures count { length self.new.members ≡ length self.old.members }
@@ -80,28 +84,35 @@ impl World {
         }
     }
 
-    /// Makes the events happen, one after another, and adds what each of them answers; a refused event's refusal
-    /// stands there, and the events go on. An `Err` says that the list of answers, or a share of an event's bytes,
-    /// couldn't be had: then the events so far have happened, and their answers are there. The cost of an event doesn't
-    /// grow with the events before it, but for what the calls of `Replica` say of their cost, and for a read, which
-    /// costs what it reads.
+    /// Makes the events happen, one after another, and puts what each of them answers into `outcomes`, in place of what
+    /// stood there; a refused event's refusal stands there, and the events go on. So the events of one run may come a
+    /// few at a time, with one list for the answers of each few. An `Err` says that the list of answers, or a share of an
+    /// event's bytes, couldn't be had: then the events so far have happened, and their answers are there. The cost of an
+    /// event doesn't grow with the events before it, but for what the calls of `Replica` say of their cost, and for a
+    /// read, which costs what it reads.
     pub fn play(
         &mut self,
         alloc: Global,
         events: &[Event],
         outcomes: &mut Vec<Result<Answer, Refusal>>,
     ) -> Result<(), AllocError>
-        requires nodes { AllByRecursion (λ event. node_of event < length self.old.members) events.now }
+        requires nodes { AllByRecursion (λ event.
+            node_of event < length self.old.members) events.now }
         requires markers { AllByRecursion HasMarker events.now }
         ensures played { OnOk result ((count : ℕ) (limits : LogLimits) (before es : List ModelEvent)
-            → IsReached count limits before outcomes.old.items self.old → AreEvents limits.max_batch events.now es
-            → IsReached count limits (before ++ es) outcomes.new.items self.new) }
+            (earlier : List (Result EventAnswer EventRefusal))
+            → IsReached count limits before earlier self.old
+            → AreEvents limits.max_batch events.now es
+            → IsReached count limits (before ++ es) (earlier ++ outcomes.new.items) self.new) }
         ensures stopped { OnErr result ((count : ℕ) (limits : LogLimits) (before es : List ModelEvent)
-            → IsReached count limits before outcomes.old.items self.old → AreEvents limits.max_batch events.now es
-            → (k : ℕ) × IsReached count limits (before ++ take k es) outcomes.new.items self.new) }
-        ensures longer { OnOk result (length outcomes.new.items ≡ length outcomes.old.items + length events.now) }
+            (earlier : List (Result EventAnswer EventRefusal))
+            → IsReached count limits before earlier self.old
+            → AreEvents limits.max_batch events.now es
+            → (k : ℕ) × IsReached count limits (before ++ take k es) (earlier ++ outcomes.new.items) self.new) }
+        ensures answered { OnOk result (length outcomes.new.items ≡ length events.now) }
         ensures count { length self.new.members ≡ length self.old.members }
     {
+        outcomes.clear();
         outcomes.reserve(events.len())?;
         for event in events {
             let outcome = self.step(alloc, event)?;
@@ -128,10 +139,12 @@ pub fn run(
     requires most { count ≤ 7 }
     requires nodes { AllByRecursion (λ event. node_of event < count) events.now }
     requires markers { AllByRecursion HasMarker events.now }
-    ensures played { IfOk result (λ trace. (es : List ModelEvent) → AreEvents limits.now.max_batch events.now es
+    ensures played { IfOk result (λ trace. (es : List ModelEvent)
+        → AreEvents limits.now.max_batch events.now es
         → IsAnswered count es trace.outcomes.items) }
     ensures answered { IfOk result (λ trace. length trace.outcomes.items ≡ length events.now) }
-    ensures stopped { IfErr result (λ stopped. (es : List ModelEvent) → AreEvents limits.now.max_batch events.now es
+    ensures stopped { IfErr result (λ stopped. (es : List ModelEvent)
+        → AreEvents limits.now.max_batch events.now es
         → (k : ℕ) × IsAnswered count (take k es) stopped.trace.outcomes.items) }
 {
     kp_model::runs_are_safe();

@@ -1,7 +1,6 @@
-use Rattle.std.proofs.Common.{◌≡◌, map, refl, sym, ap, ◌∙◌, subst}
+use Rattle.std.proofs.Common.{◌≡◌, map, refl, ap, ◌∙◌}
 use Rattle.std.proofs.lemmas.Result.{err_from_is_err_and}
 use Rattle.kp_record.specs.Made.{record_made}
-use Rattle.kp_batch.specs.Spelling.{IsSpelled}
 use Rattle.kp_model.specs.Event.{Acts, Produce}
 use Rattle.kp_script.specs.Call.{pieces}
 use Rattle.kp_script.specs.Seen.{seen_sender}
@@ -12,14 +11,14 @@ use Rattle.kp_script.proofs.Appending.{fields_at, no_cause}
 use Rattle.kp_script.proofs.Offers.{offers}
 use Rattle.kp_script.proofs.events.append_event.Goals as goal
 
-pub returns-in_err-spell-clause-only : goal.returns-in_err-spell-clause-only
-returns-in_err-spell-clause-only c =
-    let p = err_from_is_err_and c.from_residual-in_err-spell.result c.from_residual-in_err-spell.ensures.1 in
+pub returns-in_err-bytes-clause-only : goal.returns-in_err-bytes-clause-only
+returns-in_err-bytes-clause-only c =
+    let p = err_from_is_err_and c.from_residual-in_err-bytes.result c.from_residual-in_err-bytes.ensures.1 in
     let time = c.args.time in
     let values = c.args.values.now in
     let records : map record_made c.deref.result.now ≡ map (plain_record time) (pieces values) = ap (map record_made) c.deref.ensures.value ∙ c.in_ok-parts.ensures in
     let none = no_cause time (seen_sender c.args.sender) c.args.transactional (pieces values) c.deref.result.now records (some_piece values) c.requires.early (line_size time values c.requires.short) in
-    let memory = rw none at c.in_err-spell.ensures.refused in
+    let memory = rw none at c.in_err-bytes.ensures.refused in
     rw (p.1, p.2) memory
 
 pub returns-clause-told : goal.returns-clause-told
@@ -30,7 +29,7 @@ returns-clause-told c = λ max.
     let values = pieces c.args.values.now in
     let parts = c.deref.result.now in
     let records : map record_made parts ≡ map (plain_record time) values = ap (map record_made) c.deref.ensures.value ∙ c.in_ok-parts.ensures in
-    let spelled = subst (IsSpelled max (fields_at time sender transactional) parts) (sym c.in_ok-bytes.ensures.ok) (c.in_ok-spell.ensures.spelled max) in
+    let spelled = c.in_ok-bytes.ensures.spelled max in
     let offer = offer_of max time sender transactional values in
     record {
       e = Acts c.args.node (Produce offer);

@@ -5,7 +5,6 @@ use Rattle.kp_script.specs.declared.call.Call.{Call as ParsedCall}
 use Rattle.kp_script.proofs.Spelling.{values_short}
 use Rattle.kp_model.specs.Event as model
 use Rattle.kp_replica.specs.Replies.{mark_of}
-use Rattle.kp_world.specs.Events.{IsAct}
 use Rattle.kp_world.specs.declared.event.Act.{Act}
 use Rattle.kp_world.specs.declared.event.Act.TheVariants as acts
 use Rattle.kp_world.specs.declared.event.Event.TheVariants.{Acts}

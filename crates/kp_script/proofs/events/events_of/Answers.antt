@@ -9,8 +9,9 @@ use Rattle.kp_script.specs.declared.script.Line.{Line}
 use Rattle.kp_script.specs.declared.call.Call.TheVariants as parsed
 use Rattle.kp_world.specs.Events.{node_of, HasMarker}
 use Rattle.kp_world.specs.declared.event.Event.{Event as CodeEvent}
-use Rattle.kp_script.proofs.Telling.{tells_more, each_push, each_at_line}
+use Rattle.kp_script.proofs.Telling.{tells_more, each_at_line}
 use Rattle.kp_script.proofs.events.events_of.Goals as goal
+use Rattle.kp_types.proofs.Elements.{all_push}
 
 -- what a line is read as past the end
 abbrev no_line : Line
@@ -40,10 +41,10 @@ loop-line-preserved c =
           (tells_more max (calls_of (take k lines)) c.loop-line.events.items (seen_call line.call) c.in_ok-event_of.field-0 (c.loop-line.invariant.told max) (c.in_ok-event_of.ensures.told max)));
       nodes =
           subst (λ (xs : List CodeEvent). AllByRecursion (λ event. node_of event < c.args.count) xs) (sym grown)
-          (each_push (λ (event : CodeEvent). node_of event < c.args.count) c.loop-line.events.items c.in_ok-event_of.field-0 c.loop-line.invariant.nodes c.in_ok-event_of.ensures.node);
+          (all_push (λ (event : CodeEvent). node_of event < c.args.count) c.loop-line.events.items c.in_ok-event_of.field-0 c.loop-line.invariant.nodes c.in_ok-event_of.ensures.node);
       markers =
           subst (AllByRecursion HasMarker) (sym grown)
-          (each_push HasMarker c.loop-line.events.items c.in_ok-event_of.field-0 c.loop-line.invariant.markers c.in_ok-event_of.ensures.marker);
+          (all_push HasMarker c.loop-line.events.items c.in_ok-event_of.field-0 c.loop-line.invariant.markers c.in_ok-event_of.ensures.marker);
     }
 
 pub returns-clause-told : goal.returns-clause-told

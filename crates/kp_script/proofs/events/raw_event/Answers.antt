@@ -9,7 +9,7 @@ pub returns-clause-told : goal.returns-clause-told
 returns-clause-told c = λ max.
     let digits = c.args.digits.now in
     let o = c.bytes_are_an_offer.ensures.some max (bytes_of digits) (bytes_small digits) in
-    let same : c.in_ok-bytes.bytes ≡ bytes_of digits = c.in_ok-bytes.ensures.ok ∙ c.in_ok-bytes_of.ensures in
+    let same : c.raw.result ≡ bytes_of digits = c.raw.ensures ∙ c.in_ok-bytes.ensures.ok ∙ c.in_ok-bytes_of.ensures in
     record {
       e = Acts c.args.node (Produce o.0);
       told = (o.0, o.1, refl);

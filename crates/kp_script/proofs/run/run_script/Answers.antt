@@ -1,14 +1,136 @@
-use Rattle.std.proofs.Common.{sym, ◌∙◌}
+use Rattle.std.proofs.Common.{◌≡◌, ◌∙◌, ℕ, ◌+◌, List, [], ◌++◌, Option, Err, IfSome, length, length-append, map, refl, sym, ap, subst, rules, tests, arith, append_assoc, append-nil}
 use Rattle.std.proofs.lemmas.Result.{err_from_is_err_and}
-use Rattle.kp_script.proofs.Refusing.{run_by_device, no_script_fault}
+use Rattle.std.proofs.lemmas.List.{map-append}
+use Rattle.kp_types.specs.Devices.{device_of}
+use Rattle.kp_types.specs.declared.refusal.Refusal.TheVariants as refusals
+use Rattle.kp_world.specs.Answers.{outcome_of}
+use Rattle.kp_script.specs.Call.{Call}
+use Rattle.kp_script.specs.Seen.{seen_line, seen_script}
+use Rattle.kp_script.specs.Trace.{trace_text}
+use Rattle.kp_script.specs.Transcript.{IsTraceOf, WritesFirst, numbered}
+use Rattle.kp_script.specs.declared.script.Line.{Line}
+use Rattle.kp_script.proofs.Played.{Front, HasPlayed, begun_lines, by_fault, calls_are, next_lawful, nothing_left, others_lawful, parts, played_more, played_none, rest_calls_lawful, same_lawful, traced, whole_lines, writes_all, writes_first, writes_front}
 use Rattle.kp_script.proofs.run.run_script.Goals as goal
+use Rattle.kp_types.proofs.Causes.{always}
 
-pub returns-in_err-input-clause-fault : goal.returns-in_err-input-clause-fault
-returns-in_err-input-clause-fault g c = λ line e.
-    let p = err_from_is_err_and c.from_residual.result c.from_residual.ensures.1 in
-    absurd (no_script_fault c.in_err-input.field-0.0 line c.in_err-input.ensures.only (sym p.2 ∙ cc))
+pub loop-rest-init : goal.loop-rest-init
+loop-rest-init g c = record {
+  played = (
+    [],
+    (refl, played_none c.in_ok-script.script.header.count c.limits_of.result c.in_ok-world.world (g.W.Write.contents (device_of c.args.writer.now)) c.limits_of.ensures c.in_ok-world.ensures.shown),
+  );
+  nodes = c.in_ok-world.ensures.count;
+  few = omega arith;
+  faults = refl;
+}
 
-pub returns-in_err-input-clause-only : goal.returns-in_err-input-clause-only
-returns-in_err-input-clause-only g c =
-    let p = err_from_is_err_and c.from_residual.result c.from_residual.ensures.1 in
-    rw (p.1, p.2) (run_by_device c.in_err-input.field-0.0 c.in_err-input.ensures.only)
+pub play_lines-requires-clause-calls : goal.play_lines-requires-clause-calls
+play_lines-requires-clause-calls g c =
+    let played = c.loop-rest.invariant.played in
+    let all : List Line = c.as_slice-rest.result.now in
+    let p = parts all played.0 c.loop-rest.rest.now c.split_at.result.0.now c.split_at.result.1.now c.min.result played.1.0 c.split_at.ensures.front c.split_at.ensures.back in
+    next_lawful c.in_ok-script.script.header.count all played.0 c.loop-rest.rest.now c.split_at.result.0.now c.split_at.result.1.now p
+    (same_lawful c.in_ok-script.script.header.count all c.in_ok-script.script.lines.items c.as_slice-rest.ensures.value c.in_ok-script.ensures.found.calls)
+
+pub returns-in_err-refused-clause-first : goal.returns-in_err-refused-clause-first
+returns-in_err-refused-clause-first g c = λ e.
+    let r = c.in_err-refused.field-0.0 in
+    let q = err_from_is_err_and c.from_residual-in_err-refused.result c.from_residual-in_err-refused.ensures.1 in
+    let memory : r ≡ refusals.Memory = sym q.2 ∙ cc in
+    let same : c.play_lines.new.writer ≡ c.loop-rest.writer = c.in_err-refused.ensures.untouched (ap Err memory) in
+    let played = c.loop-rest.invariant.played in
+    let script = seen_script c.in_ok-script.script in
+    let old = g.W.Write.contents (device_of c.args.writer.now) in
+    let input = g.R.Read.remaining (device_of c.args.reader.now) in
+    let bytes : IfSome input (λ all. c.deref.result.now ≡ all) =
+    subst (λ (xs : List ℕ). IfSome input (λ all. xs ≡ all)) (sym c.deref.ensures.value) c.in_ok-input.ensures.bytes in
+    let whole : script.calls ≡ map seen_line played.0 ++ map seen_line c.loop-rest.rest.now =
+    ap (map seen_line) (sym c.as_slice-rest.ensures.value ∙ played.1.0) ∙ map-append seen_line played.0 c.loop-rest.rest.now in
+    let kept : g.W.Write.contents (device_of c.play_lines.new.writer) ≡ g.W.Write.contents (device_of c.loop-rest.writer) =
+    ap (λ w. g.W.Write.contents (device_of w)) same in
+    subst (λ (known : Option (List ℕ)). WritesFirst input old known) (sym kept)
+    (writes_first input c.deref.result.now script (map seen_line played.0) (map seen_line c.loop-rest.rest.now) c.loop-rest.refused _ old (g.W.Write.contents (device_of c.loop-rest.writer)) bytes
+    c.in_ok-script.ensures.found whole
+    (traced c.runs_are_safe.ensures script.header.count (map seen_line played.0) c.loop-rest.world c.loop-rest.refused old (g.W.Write.contents (device_of c.loop-rest.writer)) played.1.1)
+    played.1.1.written)
+
+pub returns-in_err-refused-clause-front : goal.returns-in_err-refused-clause-front
+returns-in_err-refused-clause-front g c =
+    let r = c.in_err-refused.field-0.0 in
+    let played = c.loop-rest.invariant.played in
+    let done = played.0 in
+    let rest : List Line = c.loop-rest.rest.now in
+    let next : List Line = c.split_at.result.0.now in
+    let others : List Line = c.split_at.result.1.now in
+    let all : List Line = c.as_slice-rest.result.now in
+    let script = seen_script c.in_ok-script.script in
+    let count = script.header.count in
+    let old = g.W.Write.contents (device_of c.args.writer.now) in
+    let mid = g.W.Write.contents (device_of c.loop-rest.writer) in
+    let now = g.W.Write.contents (device_of c.play_lines.new.writer) in
+    let input = g.R.Read.remaining (device_of c.args.reader.now) in
+    let bytes : IfSome input (λ xs. c.deref.result.now ≡ xs) =
+    subst (λ (xs : List ℕ). IfSome input (λ ys. xs ≡ ys)) (sym c.deref.ensures.value) c.in_ok-input.ensures.bytes in
+    let p = parts all done rest next others c.min.result played.1.0 c.split_at.ensures.front c.split_at.ensures.back in
+    let lawful = same_lawful count all c.in_ok-script.script.lines.items c.as_slice-rest.ensures.value c.in_ok-script.ensures.found.calls in
+    let whole : script.calls ≡ map seen_line done ++ (map seen_line next ++ map seen_line others) =
+    ap (map seen_line) (sym c.as_slice-rest.ensures.value) ∙ calls_are all done rest next others p in
+    let rest_lawful = rest_calls_lawful count all done rest next others p lawful in
+    let front : Front count script.calls old now =
+    by_fault r (Front count script.calls old now) c.in_err-refused.ensures.only
+    (λ device. begun_lines c.runs_are_safe.ensures c.runs_go_on.ensures c.bytes_are_an_offer.ensures.some count script.calls (map seen_line done) (map seen_line next) (map seen_line others)
+    c.loop-rest.world c.loop-rest.refused old mid now whole (others_lawful count all done rest next others p lawful) played.1.1 (c.in_err-refused.ensures.begun (ap Err device)))
+    (λ memory.
+    let same : c.play_lines.new.writer ≡ c.loop-rest.writer = c.in_err-refused.ensures.untouched (ap Err memory) in
+    let kept : now ≡ mid = ap (λ w. g.W.Write.contents (device_of w)) same in
+    subst (λ (known : Option (List ℕ)). Front count script.calls old known) (sym kept)
+    (whole_lines c.runs_go_on.ensures c.bytes_are_an_offer.ensures.some count script.calls (map seen_line done) (map seen_line next ++ map seen_line others) _ c.loop-rest.refused old mid whole
+    rest_lawful (traced c.runs_are_safe.ensures count (map seen_line done) c.loop-rest.world c.loop-rest.refused old mid played.1.1) played.1.1.written)) in
+    always c.from_residual-in_err-refused.result (writes_front input c.deref.result.now script old now bytes c.in_ok-script.ensures.found front)
+
+pub loop-rest-preserved : goal.loop-rest-preserved
+loop-rest-preserved g c =
+    let played = c.loop-rest.invariant.played in
+    let done = played.0 in
+    let rest : List Line = c.loop-rest.rest.now in
+    let next : List Line = c.split_at.result.0.now in
+    let others : List Line = c.split_at.result.1.now in
+    let all : List Line = c.as_slice-rest.result.now in
+    let count = c.in_ok-script.script.header.count in
+    let old = g.W.Write.contents (device_of c.args.writer.now) in
+    let mid = g.W.Write.contents (device_of c.loop-rest.writer) in
+    let now = g.W.Write.contents (device_of c.play_lines.new.writer) in
+    let p = parts all done rest next others c.min.result played.1.0 c.split_at.ensures.front c.split_at.ensures.back in
+    let long : length rest ≡ length next + length others = ap length p.rest_is ∙ length-append next others in
+    record {
+      played = (
+        done ++ next,
+        (
+          p.lines_are ∙ sym (append_assoc done next others),
+          subst (λ (calls : List (ℕ × Call)). HasPlayed count calls c.play_lines.new.world (c.loop-rest.refused + c.in_ok-refused.field-0) old now) (sym (map-append seen_line done next))
+              (played_more count (map seen_line done) (map seen_line next) c.loop-rest.world c.play_lines.new.world c.loop-rest.refused c.in_ok-refused.field-0 old mid now played.1.1
+              c.in_ok-refused.ensures.played),
+        ),
+      );
+      nodes = c.in_ok-refused.ensures.nodes;
+      few = omega (arith, long, c.loop-rest.invariant.few, c.in_ok-refused.ensures.few);
+      faults = c.in_ok-refused.ensures.counted ∙ c.loop-rest.invariant.faults;
+    }
+
+pub returns-clause-written : goal.returns-clause-written
+returns-clause-written g c =
+    let played = c.loop-rest.invariant.played in
+    let script = seen_script c.in_ok-script.script in
+    let old = g.W.Write.contents (device_of c.args.writer.now) in
+    let now = g.W.Write.contents (device_of c.loop-rest.writer) in
+    let input = g.R.Read.remaining (device_of c.args.reader.now) in
+    let bytes : IfSome input (λ xs. c.deref.result.now ≡ xs) =
+    subst (λ (xs : List ℕ). IfSome input (λ ys. xs ≡ ys)) (sym c.deref.ensures.value) c.in_ok-input.ensures.bytes in
+    let none : length c.loop-rest.rest.now ≡ 0 = search (rules, tests) in
+    let whole : map seen_line played.0 ≡ script.calls =
+    ap (map seen_line) (sym (append-nil played.0) ∙ sym (ap (λ (xs : List Line). played.0 ++ xs) (nothing_left c.loop-rest.rest.now none)) ∙ sym played.1.0 ∙ c.as_slice-rest.ensures.value) in
+    let text = trace_text (numbered (map seen_line played.0)) (map outcome_of played.1.1.answers) in
+    writes_all input c.deref.result.now script c.loop-rest.refused text old now bytes c.in_ok-script.ensures.found
+    (subst (λ (calls : List (ℕ × Call)). IsTraceOf script.header.count calls text c.loop-rest.refused) whole
+    (traced c.runs_are_safe.ensures script.header.count (map seen_line played.0) c.loop-rest.world c.loop-rest.refused old now played.1.1))
+    played.1.1.written

@@ -1,4 +1,4 @@
-use Rattle.std.proofs.Common.{◌≡◌, ◌∷◌, ◌++◌, take, string_bytes}
+use Rattle.std.proofs.Common.{◌≡◌, ◌∷◌, ◌++◌, take}
 use Rattle.std.specs.List.{flat_map}
 use Rattle.kp_world.specs.Answers.{line_of}
 use Rattle.kp_script.specs.Trace.{line_text}
@@ -6,4 +6,4 @@ use Rattle.kp_script.proofs.trace.push_lines.Given as goal
 
 abbrev pub invariant-loop-line : goal.invariant-loop-line
 invariant-loop-line l =
-    string_bytes l.text ≡ string_bytes l.initial.text ++ flat_map (λ x. 32 ∷ line_text (line_of x)) (take l.line-index l.lines)
+    l.text.items ≡ l.initial.text.items ++ flat_map (λ x. 32 ∷ line_text (line_of x)) (take l.line-index l.lines)

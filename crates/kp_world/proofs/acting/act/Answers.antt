@@ -7,7 +7,7 @@ use Rattle.kp_model.specs.Event as model
 use Rattle.kp_model.specs.Log.{Batch}
 use Rattle.kp_model.specs.World.{LeaderAndIsr}
 use Rattle.kp_replica.specs.Member.{DoesUnder, Member}
-use Rattle.kp_replica.specs.Replies.{IsOffer, IsReceiptOf, IsReceiptOfBody, body_of, mark_of, mark_reply, receipt_reply, role_reply}
+use Rattle.kp_replica.specs.Replies.{IsOffer, IsReceiptOf, IsReceiptOfBody, body_of, mark_of, watermark_reply, receipt_reply, role_reply}
 use Rattle.kp_control.specs.Set.{record_of}
 use Rattle.kp_replica.specs.declared.replica.Receipt.{Receipt}
 use Rattle.kp_replica.specs.declared.replica.Role.{Role}
@@ -17,7 +17,7 @@ use Rattle.kp_world.specs.Shown.{KeepsReceipt}
 use Rattle.kp_world.specs.declared.event.Act.{Act}
 use Rattle.kp_world.specs.declared.event.Answer.{Answer}
 use Rattle.kp_world.specs.declared.event.Answer.TheVariants as answers
-use Rattle.kp_world.specs.declared.event.Line.{Line}
+use Rattle.kp_world.specs.declared.event.ReadRecord.{ReadRecord}
 use Rattle.kp_world.proofs.Mapped.{mapped}
 use Rattle.kp_world.proofs.acting.act.Goals as goal
 use Rattle.kp_world.proofs.acting.act.Goals.{in-Adopt, in-Produce+in_ok-shared-in-Produce, in-Mark, in-Raise, in-Show, in-Read, in-Committed}
@@ -43,7 +43,7 @@ returns-clause-does c = λ a is.
           w.adopt.ensures
       | in-Produce+in_ok-shared-in-Produce w ↦
           (let made = subst (λ (x : Act). IsAct max x a) w.in-Produce.is is in
-          let offered = subst (λ (bytes : List ℕ). IsOffer max bytes made.0) (sym w.in_ok-shared-in-Produce.ensures.cases) made.1 in
+          let offered = subst (λ (bytes : List ℕ). IsOffer max bytes made.0) (sym w.in_ok-shared-in-Produce.ensures) made.1 in
           in_other_words r old c.match-act.replica w.produce.new.self a (model.Produce made.0) c.match-act.outcome w.map-outcome-in-Produce.result (receipt_reply w.produce.result)
           made.2 w.replica-is w.outcome-is
           (mapped Receipt answers.Appended receipt_reply _ w.produce.result w.map-outcome-in-Produce.result (λ x a h. h) (λ x. refl) (λ f. refl) w.map-outcome-in-Produce.ensures.cases)
@@ -54,9 +54,9 @@ returns-clause-does c = λ a is.
           (mapped Receipt answers.Appended receipt_reply _ w.mark.result w.map-outcome-in-Mark.result (λ x a h. h) (λ x. refl) (λ f. refl) w.map-outcome-in-Mark.ensures.cases)
           (w.mark.ensures.event r)
       | in-Raise w ↦
-          in_other_words r old c.match-act.replica w.raise.new.self a model.Raise c.match-act.outcome w.map-outcome-in-Raise.result (mark_reply w.raise.result)
+          in_other_words r old c.match-act.replica w.raise.new.self a model.Raise c.match-act.outcome w.map-outcome-in-Raise.result (watermark_reply w.raise.result)
           (subst (λ (x : Act). IsAct max x a) w.in-Raise.is is) w.replica-is w.outcome-is
-          (mapped ℕ answers.Mark mark_reply _ w.raise.result w.map-outcome-in-Raise.result (λ x a h. h) (λ x. refl) (λ f. refl) w.map-outcome-in-Raise.ensures.cases)
+          (mapped ℕ answers.Watermark watermark_reply _ w.raise.result w.map-outcome-in-Raise.result (λ x a h. h) (λ x. refl) (λ f. refl) w.map-outcome-in-Raise.ensures.cases)
           (w.raise.ensures r)
       | in-Show w ↦
           in_other_words r old c.match-act.replica old a model.Show c.match-act.outcome (Ok w.shown.result) (reply_of (Ok w.shown.result))
@@ -64,12 +64,12 @@ returns-clause-does c = λ a is.
       | in-Read w ↦
           in_other_words r old c.match-act.replica old a (model.Read w.in-Read.from) c.match-act.outcome w.map-outcome-in-Read.result (lines_reply w.read_lines.result)
           (subst (λ (x : Act). IsAct max x a) w.in-Read.is is) w.replica-is w.outcome-is
-          (mapped (Vec Line) answers.Lines lines_reply _ w.read_lines.result w.map-outcome-in-Read.result (λ x a h. h) (λ x. refl) (λ f. refl) w.map-outcome-in-Read.ensures.cases)
+          (mapped (Vec ReadRecord) answers.Lines lines_reply _ w.read_lines.result w.map-outcome-in-Read.result (λ x a h. h) (λ x. refl) (λ f. refl) w.map-outcome-in-Read.ensures.cases)
           (w.read_lines.ensures r)
       | in-Committed w ↦
           in_other_words r old c.match-act.replica old a (model.Committed w.in-Committed.from) c.match-act.outcome w.map-outcome-in-Committed.result (lines_reply w.committed_lines.result)
           (subst (λ (x : Act). IsAct max x a) w.in-Committed.is is) w.replica-is w.outcome-is
-          (mapped (Vec Line) answers.Lines lines_reply _ w.committed_lines.result w.map-outcome-in-Committed.result (λ x a h. h) (λ x. refl) (λ f. refl) w.map-outcome-in-Committed.ensures.cases)
+          (mapped (Vec ReadRecord) answers.Lines lines_reply _ w.committed_lines.result w.map-outcome-in-Committed.result (λ x a h. h) (λ x. refl) (λ f. refl) w.map-outcome-in-Committed.ensures.cases)
           (w.committed_lines.ensures r)
     ]
 
@@ -113,14 +113,14 @@ returns-clause-receipt c = elim c.match-act.branch [
       (λ receipt is. marker_kept (body_of w.in-Mark.marker) w.mark.new.self.state.log w.mark.result receipt is w.mark.ensures.receipt) w.map-outcome-in-Mark.ensures.cases)
   | in-Raise w ↦
       in_log c.match-act.replica w.raise.new.self c.match-act.outcome w.map-outcome-in-Raise.result w.replica-is w.outcome-is
-      (kept ℕ answers.Mark _ w.raise.result w.map-outcome-in-Raise.result (λ x is. tt) w.map-outcome-in-Raise.ensures.cases)
+      (kept ℕ answers.Watermark _ w.raise.result w.map-outcome-in-Raise.result (λ x is. tt) w.map-outcome-in-Raise.ensures.cases)
   | in-Show w ↦
       in_log c.match-act.replica c.args.replica.now c.match-act.outcome (Ok w.shown.result) w.replica-is w.outcome-is
       (w.shown.ensures.plain c.args.replica.now.state.log)
   | in-Read w ↦
       in_log c.match-act.replica c.args.replica.now c.match-act.outcome w.map-outcome-in-Read.result w.replica-is w.outcome-is
-      (kept (Vec Line) answers.Lines _ w.read_lines.result w.map-outcome-in-Read.result (λ x is. tt) w.map-outcome-in-Read.ensures.cases)
+      (kept (Vec ReadRecord) answers.Lines _ w.read_lines.result w.map-outcome-in-Read.result (λ x is. tt) w.map-outcome-in-Read.ensures.cases)
   | in-Committed w ↦
       in_log c.match-act.replica c.args.replica.now c.match-act.outcome w.map-outcome-in-Committed.result w.replica-is w.outcome-is
-      (kept (Vec Line) answers.Lines _ w.committed_lines.result w.map-outcome-in-Committed.result (λ x is. tt) w.map-outcome-in-Committed.ensures.cases)
+      (kept (Vec ReadRecord) answers.Lines _ w.committed_lines.result w.map-outcome-in-Committed.result (λ x is. tt) w.map-outcome-in-Committed.ensures.cases)
 ]

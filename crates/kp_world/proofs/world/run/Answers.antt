@@ -20,19 +20,17 @@ play-played-requires-clause-nodes c =
     subst (λ (n : ℕ). AllByRecursion (λ event. node_of event < n) c.args.events.now) (sym c.in-Ok.ensures.count) c.requires.nodes
 
 -- the start
-started : (c : In-Ok) → IsReached c.args.count c.args.limits.now [] c.new-outcomes.result.items c.in-Ok.world
-started c =
-    subst (λ (os : List (Result Answer Refusal)). IsReached c.args.count c.args.limits.now [] os c.in-Ok.world) (sym c.new-outcomes.ensures.items)
-    (reached_none c.args.count c.args.limits.now c.in-Ok.world c.in-Ok.ensures.shown)
+started : (c : In-Ok) → IsReached c.args.count c.args.limits.now [] [] c.in-Ok.world
+started c = reached_none c.args.count c.args.limits.now c.in-Ok.world c.in-Ok.ensures.shown
 
 pub returns-in-Ok-played-clause-played : goal.returns-in-Ok-played-clause-played
 returns-in-Ok-played-clause-played c = λ es are.
     answered c.args.count c.args.limits.now es c.play-played.new.outcomes.items c.play-played.new.self (c.runs_are_safe.ensures c.args.count)
-    (c.in-Ok-played.ensures.played c.args.count c.args.limits.now [] es (started ((goal.at.returns-in-Ok-played-clause-played c).In-Ok)) are)
+    (c.in-Ok-played.ensures.played c.args.count c.args.limits.now [] es [] (started ((goal.at.returns-in-Ok-played-clause-played c).In-Ok)) are)
 
 pub returns-clause-stopped : goal.returns-clause-stopped
 returns-clause-stopped c = λ es are.
-    let so_far = c.in-Err.ensures.stopped c.args.count c.args.limits.now [] es (started ((goal.at.returns-clause-stopped c).In-Ok)) are in (
+    let so_far = c.in-Err.ensures.stopped c.args.count c.args.limits.now [] es [] (started ((goal.at.returns-clause-stopped c).In-Ok)) are in (
       so_far.0,
       answered c.args.count c.args.limits.now (take so_far.0 es) c.play-played.new.outcomes.items c.play-played.new.self
           (c.runs_are_safe.ensures c.args.count) so_far.1,

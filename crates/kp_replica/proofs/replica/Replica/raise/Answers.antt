@@ -11,10 +11,11 @@ use Rattle.kp_replica.specs.Member.{Member, Does, HasEpochs, HasReports}
 use Rattle.kp_replica.specs.Modes.{mode_of, leading_of}
 use Rattle.kp_replica.specs.Kept.{member_of}
 use Rattle.kp_replica.proofs.Boundaries.{AreAbove, above_left}
-use Rattle.kp_replica.proofs.Calls.{was_refused, raises}
+use Rattle.kp_replica.proofs.Calls.{raises}
 use Rattle.kp_replica.proofs.Reports.{raised_boundary}
 use Rattle.kp_replica.proofs.Ups.{leads_not}
 use Rattle.kp_replica.proofs.replica.Replica.raise.Goals as goal
+use Rattle.kp_model.proofs.Steps.{was_refused}
 
 pub returns-in_default : goal.returns-in_default
 returns-in_default c =

@@ -5,8 +5,9 @@ use Rattle.kp_control.specs.Set.{record_of}
 use Rattle.kp_control.specs.declared.record.LeaderAndIsr.{LeaderAndIsr}
 use Rattle.kp_world.specs.declared.event.Answer.TheVariants as answers
 use Rattle.kp_world.specs.Shown.{LeadsOn, Stage}
-use Rattle.kp_world.proofs.Moved.{elected_on, only_free}
+use Rattle.kp_world.proofs.Moved.{elected_on}
 use Rattle.kp_world.proofs.world.World.elect.Goals as goal
+use Rattle.kp_types.proofs.Causes.{only_none}
 
 pub returns-clause-step : goal.returns-clause-step
 returns-clause-step c = λ limits.
@@ -15,4 +16,4 @@ returns-clause-step c = λ limits.
     let new : Stage = record { controller = record_of changed; members = c.self.inside.replicas.items } in
     subst (λ (stage : Stage). LeadsOn limits stage (Elect c.args.node) (Ok (answers.Changed changed)) new) c.self.view_is
     (elected_on limits c.args.node old changed c.self.inside.replicas.items
-    (only_free LeaderAndIsr (elect_cause (record_of old) c.args.node) changed c.in_ok-changed.ensures.refused) c.in_ok-changed.ensures.elected)
+    (only_none LeaderAndIsr (elect_cause (record_of old) c.args.node) changed c.in_ok-changed.ensures.refused) c.in_ok-changed.ensures.elected)

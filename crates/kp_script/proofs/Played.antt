@@ -1,0 +1,359 @@
+-- A script that is played some calls at a time.
+use Rattle.std.proofs.Common.{◌≡◌, ◌∙◌, ℕ, ◌+◌, List, [], ◌∷◌, ◌++◌, Option, Some, None, cond, drop, length, map, take, refl, sym, ap, subst, arith, append_assoc, inr}
+use Rattle.std.specs.Prelude.{IfSome, Result}
+use Rattle.std.specs.List.{AllByRecursion}
+use Rattle.std.specs.Io.KnownBytes.{Appends}
+use Rattle.std.proofs.KnownBytes.{Appends-nil, Appends-trans}
+use Rattle.std.proofs.lemmas.List.{length-map, length-reverse, map-append, take-append-drop}
+use Rattle.std.proofs.lemmas.Simd.{map-map}
+use Rattle.std.proofs.lemmas.List.Sums.{sum_by-append}
+use Rattle.kp_types.specs.Devices.{AppendsFront, IsDeviceFault}
+use Rattle.kp_types.proofs.Fronts.{front_behind}
+use Rattle.kp_types.specs.declared.limits.Limits.{Limits}
+use Rattle.kp_types.specs.declared.refusal.Refusal.{Refusal}
+use Rattle.kp_types.specs.declared.refusal.Refusal.TheVariants as refusals
+use Rattle.kp_model.specs.Event.{Event, Outcome, Acts, Elect as ElectNode, Adopt as AdoptRecord, Produce, Mark as HandMarker, Raise as RaiseMark, Show as ShowState, Read as ReadFrom, Committed as ReadCommitted}
+use Rattle.kp_model.specs.Laws.{RunsAreSafe}
+use Rattle.kp_model.specs.Run.{Moment, Run}
+use Rattle.kp_model.specs.World.{start}
+use Rattle.kp_replica.specs.Offers.{BytesAreAnOffer}
+use Rattle.kp_world.specs.Answers.{outcome_of}
+use Rattle.kp_world.specs.Events.{AreEvents}
+use Rattle.kp_world.specs.declared.event.Event.{Event as CodeEvent}
+use Rattle.kp_world.specs.Laws.{MayCome, RunsGoOn}
+use Rattle.kp_world.specs.Plays.{IsReached, events_of, outcomes_of}
+use Rattle.kp_world.specs.Shown.{IsShown, Stage}
+use Rattle.kp_world.specs.declared.event.Answer.{Answer}
+use Rattle.kp_world.proofs.Playing.{answered, nothing_answered, reached_none}
+use Rattle.kp_script.specs.Call.{Call, IsCall, IsCallInRange, node_of, Elect, Adopt, Append, Raw, Mark, Raise, Show, Read, Committed}
+use Rattle.kp_script.specs.Playing.{BeginFrom, LeadTo, PlayTo}
+use Rattle.kp_script.specs.Told.{IsTold, AreTold, TellsAll, offer_of}
+use Rattle.kp_script.specs.Trace.{trace_text}
+use Rattle.kp_script.specs.Script.{Script, IsScript}
+use Rattle.kp_script.specs.Transcript.{IsTraceOf, is_refusal, largest_batch, numbered, refusals_in, Writes, WritesFirst, WritesFront}
+use Rattle.kp_script.specs.Seen.{seen_call, seen_line}
+use Rattle.kp_script.specs.declared.script.Line.{Line}
+use Rattle.kp_script.proofs.Telling.{AreTold-length, one_for_each}
+use Rattle.kp_script.proofs.Tracing.{trace_append}
+
+-- the calls alone
+abbrev pub asked : List (ℕ × Call) → List Call
+asked calls = map (λ call. call.1) calls
+
+AreTold-append : (max : ℕ) (calls others : List Call) (es ds : List Event) → AreTold max calls es → AreTold max others ds → AreTold max (calls ++ others) (es ++ ds)
+AreTold-append max [] others [] ds h k = k
+AreTold-append max [] others (e ∷ es) ds h k = absurd h
+AreTold-append max (call ∷ calls) others [] ds h k = absurd h
+AreTold-append max (call ∷ calls) others (e ∷ es) ds h k = (h.0, AreTold-append max calls others es ds h.1 k)
+
+refused_append : (xs ys : List Outcome) → refusals_in (xs ++ ys) ≡ refusals_in xs + refusals_in ys
+refused_append xs ys = sum_by-append (λ (o : Outcome). cond (is_refusal o.reply) 1 0) xs ys
+
+-- ---- lengths
+
+-- a run has an answer to each event
+one_answer_each : (count : ℕ) (r : Run count) (es : List Event) (os : List Outcome) → events_of r ≡ es → outcomes_of r ≡ os → length es ≡ length os
+one_answer_each count r es os p q =
+    ap length (sym p) ∙ length-reverse (map (λ (m : Moment). m.event) r.moments) ∙ length-map r.moments (λ (m : Moment). m.event)
+    ∙ sym (ap length (sym q) ∙ length-reverse (map (λ (m : Moment). m.outcome) r.moments) ∙ length-map r.moments (λ (m : Moment). m.outcome))
+
+-- each call of a trace has its outcome
+as_many : (count : ℕ) (calls : List (ℕ × Call)) (es : List Event) (os : List Outcome) (r : Run count) → AreTold largest_batch (asked calls) es → events_of r ≡ es → outcomes_of r ≡ os
+    → length (numbered calls) ≡ length os
+as_many count calls es os r told p q =
+    length-map calls _ ∙ sym (length-map calls (λ (call : ℕ × Call). call.1)) ∙ AreTold-length largest_batch (asked calls) es told ∙ one_answer_each count r es os p q
+
+-- ---- one call of the world
+
+-- the events that the calls tell lead on
+pub leads_on : (calls : List (ℕ × Call)) (events shown : List CodeEvent) (answers : List (Result Answer Refusal)) (old new : Stage) → TellsAll largest_batch (asked calls) events → shown ≡ events
+    → ((count : ℕ) (limits : Limits) (before es : List Event) (earlier : List (Result Answer Refusal)) → IsReached count limits before earlier old → AreEvents limits.max_batch shown es
+    → IsReached count limits (before ++ es) (earlier ++ answers) new) → LeadTo calls old new answers
+leads_on calls events shown answers old new tells same played =
+    record {
+      events = tells.es;
+      told = tells.told;
+      reach = λ count limits before earlier batch reached.
+          played count limits before tells.es earlier reached
+          (subst (λ (max : ℕ). AreEvents max shown tells.es) (sym batch) (subst (λ (all : List CodeEvent). AreEvents largest_batch all tells.es) (sym same) tells.are));
+    }
+
+-- the text that is written
+pub text_of : (shown text cleared : List ℕ) (lines : List Line) (outs answers : List (Result Answer Refusal)) → shown ≡ text
+    → text ≡ cleared ++ trace_text (map (λ l. (l.number, node_of (seen_call l.call))) lines) (map outcome_of outs) → cleared ≡ [] → outs ≡ answers
+    → shown ≡ trace_text (numbered (map seen_line lines)) (map outcome_of answers)
+text_of shown text cleared lines outs answers same is none outs_are =
+    same ∙ is ∙ ap (λ (front : List ℕ). front ++ trace_text (map (λ l. (l.number, node_of (seen_call l.call))) lines) (map outcome_of outs)) none
+    ∙ ap (λ (os : List (Result Answer Refusal)). trace_text (map (λ l. (l.number, node_of (seen_call l.call))) lines) (map outcome_of os)) outs_are
+    ∙ ap (λ (xs : List (ℕ × ℕ)). trace_text xs (map outcome_of answers)) (sym (map-map (λ (call : ℕ × Call). (call.0, node_of call.1)) seen_line lines))
+
+-- as many answers as lines
+pub as_many_answers : (lines : List Line) (events shown : List CodeEvent) (answers outs : List (Result Answer Refusal)) → TellsAll largest_batch (asked (map seen_line lines)) events → shown ≡ events
+    → length answers ≡ length shown → outs ≡ answers → length outs ≡ length lines
+as_many_answers lines events shown answers outs tells same answered_all outs_are =
+    ap length outs_are ∙ answered_all ∙ ap length same ∙ one_for_each largest_batch (asked (map seen_line lines)) events tells
+    ∙ length-map (map seen_line lines) (λ (call : ℕ × Call). call.1) ∙ length-map lines seen_line
+
+-- ---- parts of the lines
+
+first_part : (P : ℕ × Call → Type 0) (xs ys : List Line) → AllByRecursion P (map seen_line (xs ++ ys)) → AllByRecursion P (map seen_line xs)
+first_part P [] ys h = tt
+first_part P (x ∷ xs) ys h = (h.0, first_part P xs ys h.1)
+
+second_part : (P : ℕ × Call → Type 0) (xs ys : List Line) → AllByRecursion P (map seen_line (xs ++ ys)) → AllByRecursion P (map seen_line ys)
+second_part P [] ys h = h
+second_part P (x ∷ xs) ys h = second_part P xs ys h.1
+
+pub same_lawful : (count : ℕ) (all items : List Line) → all ≡ items → AllByRecursion (λ call. IsCall count call.1) (map seen_line items)
+    → AllByRecursion (λ call. IsCall count call.1) (map seen_line all)
+same_lawful count all items is h = subst (λ (xs : List Line). AllByRecursion (λ call. IsCall count call.1) (map seen_line xs)) (sym is) h
+
+-- Lines that are done, those that come next, and the others behind them.
+pub record Parts (all done rest next others : List Line) : Type 0 where
+  pub lines_are : all ≡ done ++ (next ++ others)
+  pub rest_is : rest ≡ next ++ others
+
+pub parts : (all done rest next others : List Line) (n : ℕ) → all ≡ done ++ rest → next ≡ take n rest → others ≡ drop n rest → Parts all done rest next others
+parts all done rest next others n is front back =
+    let whole_rest : rest ≡ next ++ others =
+    sym (take-append-drop n rest) ∙ ap (λ (xs : List Line). xs ++ drop n rest) (sym front) ∙ ap (λ (ys : List Line). next ++ ys) (sym back) in
+    record { lines_are = is ∙ ap (λ (ys : List Line). done ++ ys) whole_rest; rest_is = whole_rest }
+
+module _ (count : ℕ) (all done rest next others : List Line) (p : Parts all done rest next others) (h : AllByRecursion (λ call. IsCall count call.1) (map seen_line all)) where
+  behind : AllByRecursion (λ call. IsCall count call.1) (map seen_line (next ++ others))
+  behind =
+      second_part (λ call. IsCall count call.1) done (next ++ others)
+      (subst (λ (xs : List Line). AllByRecursion (λ call. IsCall count call.1) (map seen_line xs)) p.lines_are h)
+
+  pub next_lawful : AllByRecursion (λ call. IsCall count call.1) (map seen_line next)
+  next_lawful = first_part (λ call. IsCall count call.1) next others behind
+
+  pub others_lawful : AllByRecursion (λ call. IsCall count call.1) (map seen_line others)
+  others_lawful = second_part (λ call. IsCall count call.1) next others behind
+
+  pub rest_calls_lawful : AllByRecursion (λ call. IsCall count call.1) (map seen_line next ++ map seen_line others)
+  rest_calls_lawful = subst (AllByRecursion (λ call. IsCall count call.1)) (map-append seen_line next others) behind
+
+pub nothing_left : (xs : List Line) → length xs ≡ 0 → xs ≡ []
+nothing_left [] e = refl
+nothing_left (x ∷ xs) e = absurd (omega arith)
+
+-- the same of the calls
+pub calls_are : (all done rest next others : List Line) → Parts all done rest next others → map seen_line all ≡ map seen_line done ++ (map seen_line next ++ map seen_line others)
+calls_are all done rest next others p =
+    ap (map seen_line) p.lines_are ∙ map-append seen_line done (next ++ others)
+    ∙ ap (λ (ys : List (ℕ × Call)). map seen_line done ++ ys) (map-append seen_line next others)
+
+-- ---- what has been played
+
+-- These calls have been played from the start on, and their trace is out.
+pub record HasPlayed (count : ℕ) (done : List (ℕ × Call)) (stage : Stage) (refused : ℕ) (old now : Option (List ℕ)) : Type 0 where
+  pub limits : Limits
+  pub batch : limits.max_batch ≡ largest_batch
+  pub events : List Event
+  pub told : AreTold largest_batch (asked done) events
+  pub answers : List (Result Answer Refusal)
+  pub reached : IsReached count limits events answers stage
+  pub refused_is : refused ≡ refusals_in (map outcome_of answers)
+  pub written : Appends old now (trace_text (numbered done) (map outcome_of answers))
+
+pub played_none : (count : ℕ) (limits : Limits) (stage : Stage) (known : Option (List ℕ)) → limits.max_batch ≡ largest_batch → IsShown limits stage (start count)
+    → HasPlayed count [] stage 0 known known
+played_none count limits stage known batch shown =
+    record {
+      limits = limits;
+      batch = batch;
+      events = [];
+      told = tt;
+      answers = [];
+      reached = reached_none count limits stage shown;
+      refused_is = refl;
+      written = Appends-nil known;
+    }
+
+-- where these calls lead from what was reached
+led : (count : ℕ) (done calls : List (ℕ × Call)) (old new : Stage) (refused : ℕ) (known mid : Option (List ℕ)) (p : HasPlayed count done old refused known mid)
+    (answers : List (Result Answer Refusal)) (lead : LeadTo calls old new answers)
+    → (AreTold largest_batch (asked (done ++ calls)) (p.events ++ lead.events))
+    × (IsReached count p.limits (p.events ++ lead.events) (p.answers ++ answers) new)
+    × (trace_text (numbered (done ++ calls)) (map outcome_of (p.answers ++ answers))
+    ≡ trace_text (numbered done) (map outcome_of p.answers) ++ trace_text (numbered calls) (map outcome_of answers))
+led count done calls old new refused known mid p answers lead =
+    let told : AreTold largest_batch (asked (done ++ calls)) (p.events ++ lead.events) =
+    subst (λ (all : List Call). AreTold largest_batch all (p.events ++ lead.events)) (sym (map-append (λ (call : ℕ × Call). call.1) done calls))
+    (AreTold-append largest_batch (asked done) (asked calls) p.events lead.events p.told lead.told) in
+    let before : length (numbered done) ≡ length (map outcome_of p.answers) =
+    as_many count done p.events (map outcome_of p.answers) p.reached.run p.told p.reached.events_are p.reached.outcomes_are in (
+      told,
+      lead.reach count p.limits p.events p.answers p.batch p.reached,
+      ap (λ (xs : List (ℕ × ℕ)). trace_text xs (map outcome_of (p.answers ++ answers))) (map-append _ done calls)
+          ∙ ap (λ (os : List Outcome). trace_text (numbered done ++ numbered calls) os) (map-append outcome_of p.answers answers)
+          ∙ trace_append (numbered done) (numbered calls) (map outcome_of p.answers) (map outcome_of answers) before,
+    )
+
+-- some calls more
+pub played_more : (count : ℕ) (done calls : List (ℕ × Call)) (old new : Stage) (refused more : ℕ) (known mid now : Option (List ℕ)) → HasPlayed count done old refused known mid
+    → PlayTo calls old new more mid now → HasPlayed count (done ++ calls) new (refused + more) known now
+played_more count done calls old new refused more known mid now p q =
+    let next = led count done calls old new refused known mid p q.answers q.lead in
+    record {
+      limits = p.limits;
+      batch = p.batch;
+      events = p.events ++ q.lead.events;
+      told = next.0;
+      answers = p.answers ++ q.answers;
+      reached = next.1;
+      refused_is =
+          ap (λ (n : ℕ). n + more) p.refused_is ∙ ap (λ (n : ℕ). refusals_in (map outcome_of p.answers) + n) q.refused_is
+          ∙ sym (ap refusals_in (map-append outcome_of p.answers q.answers) ∙ refused_append (map outcome_of p.answers) (map outcome_of q.answers));
+      written = subst (Appends known now) (sym next.2) (Appends-trans known mid now _ _ p.written q.written);
+    }
+
+-- what has been played is the trace of its calls
+pub traced : RunsAreSafe → (count : ℕ) (done : List (ℕ × Call)) (stage : Stage) (refused : ℕ) (known now : Option (List ℕ)) → (p : HasPlayed count done stage refused known now)
+    → IsTraceOf count done (trace_text (numbered done) (map outcome_of p.answers)) refused
+traced safe count done stage refused known now p =
+    record {
+      events = p.events;
+      told = p.told;
+      outcomes = map outcome_of p.answers;
+      played = (answered count p.limits p.events p.answers stage (safe count) p.reached).played;
+      text_is = refl;
+      refused_is = p.refused_is;
+    }
+
+pub traced_none : RunsAreSafe → (count : ℕ) → IsTraceOf count [] [] 0
+traced_none safe count =
+    record { events = []; told = tt; outcomes = []; played = (nothing_answered count (safe count)).played; text_is = refl; refused_is = refl }
+
+-- ---- calls that were not played tell events all the same, and the run goes on with them
+
+told_of : BytesAreAnOffer → (count : ℕ) (call : Call) → IsCallInRange count call → (e : Event) × (IsTold largest_batch call e × MayCome count e)
+told_of offers count (Elect node) h = (ElectNode node, (refl, tt))
+told_of offers count (Adopt node) h = (Acts node AdoptRecord, (refl, (h, tt)))
+told_of offers count (Append node time sender transactional values) h =
+    (Acts node (Produce (offer_of largest_batch time sender transactional values)), (refl, (h.0, tt)))
+told_of offers count (Raw node bytes) h =
+    let o = offers largest_batch bytes h.2 in
+    (Acts node (Produce o.0), ((o.0, o.1, refl), (h.0, tt)))
+told_of offers count (Mark node time producer epoch coordinator commit) h =
+    (Acts node (HandMarker time producer epoch coordinator commit), (refl, (h.0, tt)))
+told_of offers count (Raise node) h = (Acts node RaiseMark, (refl, (h, tt)))
+told_of offers count (Show node) h = (Acts node ShowState, (refl, (h, tt)))
+told_of offers count (Read node from) h = (Acts node (ReadFrom from), (refl, (h.0, tt)))
+told_of offers count (Committed node from) h = (Acts node (ReadCommitted from), (refl, (h.0, tt)))
+
+record Tellings (count : ℕ) (calls : List (ℕ × Call)) : Type 0 where
+  events : List Event
+  told : AreTold largest_batch (asked calls) events
+  may : AllByRecursion (MayCome count) events
+
+all_told : BytesAreAnOffer → (count : ℕ) (calls : List (ℕ × Call)) → AllByRecursion (λ call. IsCall count call.1) calls → Tellings count calls
+all_told offers count [] h = record { events = []; told = tt; may = tt }
+all_told offers count (call ∷ calls) h =
+    let first = told_of offers count call.1 h.0.range in
+    let others = all_told offers count calls h.1 in
+    record { events = first.0 ∷ others.events; told = (first.1.0, others.told); may = (first.1.1, others.may) }
+
+-- the whole trace, of which this one is the beginning
+pub record Whole (count : ℕ) (calls : List (ℕ × Call)) (text : List ℕ) : Type 0 where
+  pub rest : List ℕ
+  pub refused : ℕ
+  pub trace : IsTraceOf count calls (text ++ rest) refused
+
+pub whole : RunsGoOn → BytesAreAnOffer → (count : ℕ) (calls done others : List (ℕ × Call)) (text : List ℕ) (refused : ℕ) → calls ≡ done ++ others
+    → AllByRecursion (λ call. IsCall count call.1) others → IsTraceOf count done text refused → Whole count calls text
+whole go offers count calls done others text refused calls_are lawful t =
+    let tellings = all_told offers count others lawful in
+    let more = go count t.events tellings.events t.outcomes t.played tellings.may in
+    let before : length (numbered done) ≡ length t.outcomes =
+    as_many count done t.events t.outcomes t.played.run t.told t.played.events_are t.played.outcomes_are in
+    subst (λ (all : List (ℕ × Call)). Whole count all text) (sym calls_are)
+    (record {
+      rest = trace_text (numbered others) more.0;
+      refused = refusals_in (t.outcomes ++ more.0);
+      trace = record {
+        events = t.events ++ tellings.events;
+        told =
+            subst (λ (all : List Call). AreTold largest_batch all (t.events ++ tellings.events)) (sym (map-append (λ (call : ℕ × Call). call.1) done others))
+            (AreTold-append largest_batch (asked done) (asked others) t.events tellings.events t.told tellings.told);
+        outcomes = t.outcomes ++ more.0;
+        played = more.1;
+        text_is =
+            ap (λ (front : List ℕ). front ++ trace_text (numbered others) more.0) t.text_is
+            ∙ sym (ap (λ (xs : List (ℕ × ℕ)). trace_text xs (t.outcomes ++ more.0)) (map-append _ done others)
+            ∙ trace_append (numbered done) (numbered others) t.outcomes more.0 before);
+        refused_is = refl;
+      };
+    })
+
+-- ---- what stands written where the run ends early
+
+-- a beginning of the trace of these calls
+abbrev pub Front : (count : ℕ) (calls : List (ℕ × Call)) → Option (List ℕ) → Option (List ℕ) → Type 0
+Front count calls old new = (text : List ℕ) × (refused : ℕ) × IsTraceOf count calls text refused × AppendsFront old new text
+
+-- whole lines
+pub whole_lines : RunsGoOn → BytesAreAnOffer → (count : ℕ) (calls done others : List (ℕ × Call)) (text : List ℕ) (refused : ℕ) (old now : Option (List ℕ)) → calls ≡ done ++ others
+    → AllByRecursion (λ call. IsCall count call.1) others → IsTraceOf count done text refused → Appends old now text → Front count calls old now
+whole_lines go offers count calls done others text refused old now calls_are lawful t out =
+    let all = whole go offers count calls done others text refused calls_are lawful t in
+    (text ++ all.rest, all.refused, all.trace, front_behind old now now text [] all.rest out (0, Appends-nil now))
+
+-- and the beginning of another few
+pub begun_lines : RunsAreSafe → RunsGoOn → BytesAreAnOffer → (count : ℕ) (all done calls others : List (ℕ × Call)) (stage : Stage) (refused : ℕ) (old mid now : Option (List ℕ))
+    → all ≡ done ++ (calls ++ others) → AllByRecursion (λ call. IsCall count call.1) others → HasPlayed count done stage refused old mid → BeginFrom calls stage mid now → Front count all old now
+begun_lines safe go offers count all done calls others stage refused old mid now all_are lawful p q =
+    let next = led count done calls stage q.new refused old mid p q.answers q.lead in
+    let so_far = trace_text (numbered done) (map outcome_of p.answers) in
+    let begun = trace_text (numbered calls) (map outcome_of q.answers) in
+    let t : IsTraceOf count (done ++ calls) (so_far ++ begun) (refusals_in (map outcome_of (p.answers ++ q.answers))) =
+    record {
+      events = p.events ++ q.lead.events;
+      told = next.0;
+      outcomes = map outcome_of (p.answers ++ q.answers);
+      played = (answered count p.limits (p.events ++ q.lead.events) (p.answers ++ q.answers) q.new (safe count) next.1).played;
+      text_is = sym next.2;
+      refused_is = refl;
+    } in
+    let w = whole go offers count all (done ++ calls) others (so_far ++ begun) _ (all_are ∙ sym (append_assoc done calls others)) lawful t in (
+      (so_far ++ begun) ++ w.rest,
+      w.refused,
+      w.trace,
+      subst (AppendsFront old now) (sym (append_assoc so_far begun w.rest)) (front_behind old mid now so_far begun w.rest p.written q.begun),
+    )
+
+-- ---- and where the input is known
+
+pub writes_all : (input : Option (List ℕ)) (bytes : List ℕ) (script : Script) (refused : ℕ) (text : List ℕ) (old now : Option (List ℕ)) → IfSome input (λ all. bytes ≡ all) → IsScript bytes script
+    → IsTraceOf script.header.count script.calls text refused → Appends old now text → Writes input old now refused
+writes_all None bytes script refused text old now same spelled t out = tt
+writes_all (Some all) bytes script refused text old now same spelled t out =
+    (text, record { script = script; spelled = subst (λ (b : List ℕ). IsScript b script) same spelled; trace = t }, out)
+
+pub writes_front : (input : Option (List ℕ)) (bytes : List ℕ) (script : Script) (old now : Option (List ℕ)) → IfSome input (λ all. bytes ≡ all) → IsScript bytes script
+    → Front script.header.count script.calls old now → WritesFront input old now
+writes_front None bytes script old now same spelled f = inr tt
+writes_front (Some all) bytes script old now same spelled (text, refused, t, out) =
+    inr (text, refused, record { script = script; spelled = subst (λ (b : List ℕ). IsScript b script) same spelled; trace = t }, out)
+
+pub writes_first : (input : Option (List ℕ)) (bytes : List ℕ) (script : Script) (first others : List (ℕ × Call)) (refused : ℕ) (text : List ℕ) (old now : Option (List ℕ))
+    → IfSome input (λ all. bytes ≡ all) → IsScript bytes script → script.calls ≡ first ++ others → IsTraceOf script.header.count first text refused → Appends old now text → WritesFirst input old now
+writes_first None bytes script first others refused text old now same spelled calls_are t out = inr tt
+writes_first (Some all) bytes script first others refused text old now same spelled calls_are t out =
+    inr (
+      text,
+      record {
+        script = script;
+        spelled = subst (λ (b : List ℕ). IsScript b script) same spelled;
+        trace = record { first = first; others = others; calls_are = calls_are; refused = refused; trace = t };
+      },
+      out,
+    )
+
+-- ---- which refusal it was
+
+pub by_fault : (r : Refusal) (P : Type 0) → IsDeviceFault r → (r ≡ refusals.Device → P) → (r ≡ refusals.Memory → P) → P
+by_fault refusals.Device P h device memory = device refl
+by_fault refusals.Memory P h device memory = memory refl
+by_fault _ P h device memory = absurd h

@@ -1,0 +1,37 @@
+-- What playing some of a script's calls does to the world and to the trace.
+use Rattle.std.specs.Prelude.{◌≡◌, ℕ, List, ◌++◌, map, Option, Result}
+use Rattle.std.specs.Io.KnownBytes.{Appends}
+use Rattle.kp_types.specs.declared.limits.Limits.{Limits}
+use Rattle.kp_types.specs.declared.refusal.Refusal.{Refusal}
+use Rattle.kp_types.specs.Devices.{AppendsFront}
+use Rattle.kp_model.specs.Event.{Event}
+use Rattle.kp_world.specs.Answers.{outcome_of}
+use Rattle.kp_world.specs.Plays.{IsReached}
+use Rattle.kp_world.specs.Shown.{Stage}
+use Rattle.kp_world.specs.declared.event.Answer.{Answer}
+use Rattle.kp_script.specs.Call.{Call}
+use Rattle.kp_script.specs.Told.{AreTold}
+use Rattle.kp_script.specs.Trace.{trace_text}
+use Rattle.kp_script.specs.Transcript.{largest_batch, numbered, refusals_in}
+
+-- The calls tell events that lead from a stage to another one with these answers, whatever came before.
+pub record LeadTo (calls : List (ℕ × Call)) (old new : Stage) (answers : List (Result Answer Refusal)) : Type 0 where
+  pub events : List Event
+  pub told : AreTold largest_batch (map (λ call. call.1) calls) events
+  pub reach :
+      (count : ℕ) (limits : Limits) (before : List Event) (earlier : List (Result Answer Refusal)) → limits.max_batch ≡ largest_batch
+      → IsReached count limits before earlier old → IsReached count limits (before ++ events) (earlier ++ answers) new
+
+-- And the known bytes grew by the trace of these calls; so many of the events were refused.
+pub record PlayTo (calls : List (ℕ × Call)) (old new : Stage) (refused : ℕ) (before after : Option (List ℕ)) : Type 0 where
+  pub answers : List (Result Answer Refusal)
+  pub lead : LeadTo calls old new answers
+  pub refused_is : refused ≡ refusals_in (map outcome_of answers)
+  pub written : Appends before after (trace_text (numbered calls) (map outcome_of answers))
+
+-- And the known bytes grew by a beginning of it.
+pub record BeginFrom (calls : List (ℕ × Call)) (old : Stage) (before after : Option (List ℕ)) : Type 0 where
+  pub new : Stage
+  pub answers : List (Result Answer Refusal)
+  pub lead : LeadTo calls old new answers
+  pub begun : AppendsFront before after (trace_text (numbered calls) (map outcome_of answers))

@@ -1,0 +1,48 @@
+//! The words of a text that grows: numbers in decimal digits, and bytes in hexadecimal ones.
+
+ghost use Rattle.std.specs.Prelude.{◌≡◌, ◌<◌, ◌++◌, OnOk};
+ghost use Rattle.std.specs.Fmt.{decimal};
+ghost use Rattle.kp_script.specs.Hex.{hex_digit, hex_text};
+
+use itoa::Buffer;
+use std::alloc::AllocError;
+
+/// Appends the number in decimal digits. It takes no memory but the text's.
+pub(crate) fn push_number(text: &mut Vec<u8>, number: u64) -> Result<(), AllocError>
+    ensures { OnOk result (text.new.items ≡ text.old.items ++ decimal number) }
+{
+    let mut buffer = Buffer::new();
+    text.extend_from_slice(buffer.format(number).as_bytes())
+}
+
+/// Appends the word, and then the number in decimal digits.
+pub(crate) fn push_named(text: &mut Vec<u8>, word: &[u8], number: u64) -> Result<(), AllocError>
+    ensures { OnOk result (text.new.items ≡ text.old.items ++ (word.now ++ decimal number)) }
+{
+    text.extend_from_slice(word)?;
+    push_number(text, number)
+}
+
+/// The digit of a number below 16: 0 to 9, then a to f.
+fn hex_digit(number: u8) -> u8
+    requires { number < 16 }
+    ensures { result ≡ hex_digit number }
+{
+    if number < 10 {
+        b'0' + number
+    } else {
+        b'a' + (number - 10)
+    }
+}
+
+/// Appends each byte as two hexadecimal digits. Room for all of them is made at once.
+pub(crate) fn push_hex(text: &mut Vec<u8>, bytes: &[u8]) -> Result<(), AllocError>
+    ensures { OnOk result (text.new.items ≡ text.old.items ++ hex_text bytes.now) }
+{
+    text.reserve(bytes.len().saturating_mul(2))?;
+    for byte in bytes {
+        text.push(hex_digit(*byte / 16))?;
+        text.push(hex_digit(*byte % 16))?;
+    }
+    Ok(())
+}
