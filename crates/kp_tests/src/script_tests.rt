@@ -33,7 +33,7 @@ pub(crate) fn trace_of(
 
 // The controller's record with or without a leader.
 fn changed(leader: Option<Leader>, members: [bool; 7]) -> Result<Answer, Refusal> {
-    if leader.is_some_and(|leader| leader.epoch > 16_777_214) {
+    if leader.is_some_and(|leader| leader.node > 6 || leader.epoch > 16_777_214) {
         return Err(Refusal::RecordFull);
     }
     Ok(Answer::Changed(LeaderAndIsr {
