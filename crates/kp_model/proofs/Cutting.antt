@@ -1,30 +1,36 @@
 -- Cuts at the place that epochs give: they are the step's, at a boundary, and never below the watermark.
-use Rattle.std.proofs.Common.{◌≡◌, ℕ, ◌≤◌, Bool, true, false, List, length, Option, Some, None, refl, sym, ap, ◌∙◌, subst, arith, inl, inr}
+use Rattle.std.proofs.Common.{◌≡◌, ◌⊎◌, ℕ, ◌+◌, ◌<◌, ◌≤◌, Bool, true, false, List, [], ◌∷◌, ◌++◌, length, Option, Some, None, refl, sym, ap, ◌∙◌, subst, arith, inl, inr}
 use Rattle.std.specs.Prelude.{IsFalse, unwrap_or, not, ◌==◌, if◌then◌else◌}
 use Rattle.std.specs.Option.{option_eq}
-use Rattle.std.proofs.lemmas.Bool.{and_parts, not-false, eqb-true, false≢true}
+use Rattle.std.proofs.lemmas.Bool.{and_parts, not-false, eqb-true, cases_lt, false≢true}
 use Rattle.kp_model.specs.Beginning.{Begins}
 use Rattle.kp_model.specs.Log.{Batch, end_of, IsLog, IsBoundary, below, IsKin}
 use Rattle.kp_model.specs.Epochs.{end_for, cut_place}
 use Rattle.kp_model.specs.World.{LeaderAndIsr, Leading, Following, Mode, Down, Idle, Leads, Follows, Node, Answer, Answers, World}
 use Rattle.kp_model.specs.Event.{Receive, Cut}
+use Rattle.kp_model.specs.Run.{Run, last}
 use Rattle.kp_model.specs.Local.{Effect, Local, LocalBy, becomes, cause, WhereFollows, last_epoch, piece, epoch_answer, is_down, has_epoch, mode_epoch, reconciles, take_cause, cut_cause_for, cut_cause, Cuts, Accepts}
 use Rattle.kp_model.specs.Letter.{From, ForEpoch, Batches, EpochEnd, letter_of}
 use Rattle.kp_model.specs.Calls.{asked_epoch, answered_end, reconciled, cut_by, cut}
 use Rattle.kp_types.specs.declared.refusal.Refusal.{Refusal}
-use Rattle.kp_model.specs.Laws.{place_of, CutIsTheStep, NoCutBelowTheWatermark, RoundEnds, ReconciliationsEnd}
-use Rattle.kp_model.proofs.Beginnings.{Begins-trans}
-use Rattle.kp_model.proofs.Logs.{end_of-append, last_epoch_or}
+use Rattle.kp_model.specs.Laws.{place_of, CutIsTheStep, NoCutBelowTheWatermark, IsRound, AreRounds, RoundsEnd, ReconciliationsEnd}
+use Rattle.kp_model.proofs.Beginnings.{Begins-nil, Begins-trans}
+use Rattle.kp_model.proofs.Logs.{end_of-append, last_epoch_or, IsLog-begins}
 use Rattle.kp_model.proofs.Steps.{each_sent, where_follows, happened, was_refused}
-use Rattle.kp_model.proofs.SoundLogs.{last_epoch_is, MessageIsSound}
+use Rattle.kp_model.proofs.SoundLogs.{AllBelow, below_later, last_epoch_is, MessageIsSound}
 use Rattle.kp_model.proofs.Ledger.{made_begins, made_kin}
-use Rattle.kp_model.proofs.Kin.{History, ModeIsKept, MessageIsKept, cut_facts}
+use Rattle.kp_model.proofs.Kin.{History, ModeIsKept, MessageIsKept, CutFacts, cut_facts}
 use Rattle.kp_model.proofs.Held.{Sets, Sent, IsRecent, answer_has, cut_holds}
+use Rattle.kp_model.proofs.HeldGrown.{made_to}
 use Rattle.kp_model.proofs.HeldOnto.{AllKept}
 use Rattle.kp_model.proofs.HeldEvents.{last_election}
 use Rattle.kp_model.proofs.CutPlaces.{IsCutPlace, is_cut_place}
+use Rattle.kp_model.proofs.HeldRuns.{none_higher}
+use Rattle.kp_model.proofs.RunLaws.{last_is_of}
+use Rattle.kp_model.proofs.Sends.{sent_at_last}
 use Rattle.kp_model.proofs.Known.{known}
 use Rattle.kp_types.proofs.Causes.{passed}
+use Rattle.kp_types.proofs.Elements.{all_front, all_behind}
 
 -- ---- the place is that of the node's last epoch
 
@@ -50,7 +56,7 @@ cuts_at c x a f place p =
       is_common = p.is_common;
       keeps = p.keeps;
       done_at = p.done_at;
-      shorter = p.shorter;
+      shorter = λ d. (let short = p.shorter d in omega arith);
       empty_fetches = p.empty_fetches;
       effect_is = same_effect (below place.0 x.log) p.left place.0 (end_of p.left) p.left_is (sym p.ends);
     }
@@ -171,24 +177,66 @@ cut_of c n y a e end done h r = by_cause (cause c n y (Receive (Answers a))) ref
     by_cause None o (inl h) = let b = cuts_by c y a a.request.fetching e end done refl h r in (o, b.0, b.1, b.2, b.3)
     by_cause None o (inr h) = absurd (let refused = sym (ap (λ (g : Effect). g.reply) h.1.effect_is) ∙ r in cc)
 
-module _ (w : World) (g : History) (t : Sets) (k : AllKept w g t) (n m : ℕ) (l : Leading) (a : Answer) (sent : Sent w (Answers a)) where
-  abbrev y : Node
-  y = w.nodes n
+-- a log is empty or has a last batch
+last_batch : (log : List Batch) → (log ≡ []) ⊎ ((front : List Batch) × (b : Batch) × (log ≡ front ++ b ∷ []))
+last_batch [] = inl refl
+last_batch (b ∷ bs) =
+    elim (last_batch bs) [
+      | inl none ↦ inr ([], b, ap (λ (s : List Batch). b ∷ s) none)
+      | inr more ↦ inr (b ∷ more.0, more.1, ap (λ (s : List Batch). b ∷ s) more.2)
+    ]
 
-  round_ends : (e : Effect) (end : ℕ) (done : Bool) → Local w.controller n y (Receive (Answers a)) e → e.reply ≡ Cut end done → (w.nodes m).mode ≡ Leads l → l.epoch ≡ a.request.epoch
-      → RoundEnds y.log e.node.log (w.nodes m).log done
-  round_ends e end done h r leads epoch =
-      let found = cut_of w.controller n y a e end done h r in
+-- Node n takes an answer that was sent in v, and in w, where m leads in its epoch. Neither world need be the later one.
+module _ (v : World) (g : History) (t : Sets) (k : AllKept v g t) (w : World) (g' : History) (t' : Sets) (k' : AllKept w g' t') (n m : ℕ) (l : Leading) (a : Answer)
+    (sent : Sent v (Answers a)) (known : Sent w (Answers a)) where
+  abbrev y : Node
+  y = v.nodes n
+
+  abbrev epoch : ℕ
+  epoch = a.request.epoch
+
+  -- What both logs begin with, the answer has: up to a batch of its epoch it has all that the follower had of what the leader
+  -- made by then, and below that its leader made nothing since it began to lead.
+  answer_has_common : (f : Following) → y.mode ≡ Follows f → CutFacts v n a f → IsFalse a.request.fetching
+      → (Q : List Batch) → Begins Q y.log → Begins Q (g'.ledger epoch) → Begins Q a.log
+  answer_has_common f mode facts asks Q p q =
+      elim (last_batch Q) [
+        | inl none ↦ subst (λ (s : List Batch). Begins s a.log) (sym none) (Begins-nil a.log)
+        | inr some ↦ with_last some.0 some.1 some.2
+      ]
+    where
+      with_last : (front : List Batch) (b : Batch) → Q ≡ front ++ b ∷ [] → Begins Q a.log
+      with_last front b is =
+          let whole : IsLog (front ++ b ∷ []) = subst IsLog is (IsLog-begins p (k.sound.nodes n).log) in
+          let highest : AllBelow (b.epoch + 1) Q = subst (AllBelow (b.epoch + 1)) (sym is) (none_higher 0 0 front b whole) in
+          elim (cases_lt b.epoch epoch) [
+            | inl lower ↦
+                (let begun = (k'.held.answers a known).begun in
+                Begins-trans (k'.own epoch begun.first Q begun.began q (below_later (b.epoch + 1) epoch Q (omega arith) highest)) begun.begins)
+            | inr higher ↦
+                (let bound : AllBelow (epoch + 1) (front ++ b ∷ []) =
+                subst (AllBelow (epoch + 1)) is (all_front (λ c. c.epoch < epoch + 1) Q q.rest (subst (AllBelow (epoch + 1)) (sym q.is) (k'.kept.bounded epoch))) in
+                let last = all_behind (λ c. c.epoch < epoch + 1) front (b ∷ []) bound in
+                let same : b.epoch ≡ epoch = (let less = last.0 in omega arith) in
+                let made : Begins (front ++ b ∷ []) (g.ledger b.epoch) =
+                made_to g.ledger y.log front b (k.kept.nodes n).made (subst (λ (s : List Batch). Begins s y.log) is p) (subst (AllBelow (b.epoch + 1)) is highest) in
+                let there : Begins Q (g.ledger epoch) = subst (Begins Q) (ap g.ledger same) (subst (λ (s : List Batch). Begins s (g.ledger b.epoch)) (sym is) made) in
+                let recent : IsRecent g a y = subst (λ (j : ℕ). IsRecent g a (v.nodes j)) facts.from (k.held.answers a sent).recent in
+                recent f mode facts.reconciling facts.asked facts.life asks Q p there)
+          ]
+
+  round_ends : (e : Effect) (end : ℕ) (done : Bool) → Local v.controller n y (Receive (Answers a)) e → e.reply ≡ Cut end done → (w.nodes m).mode ≡ Leads l → epoch ≡ l.epoch
+      → RoundsEnd y.log e.node.log (w.nodes m).log done
+  round_ends e end done h r leads same_epoch =
+      let found = cut_of v.controller n y a e end done h r in
       let f = found.1 in
       let mode = found.2 in
       let cuts = found.3 in
-      let free = sym (cause_is w.controller n y a found.4) ∙ found.0 in
-      let facts = cut_facts w n a f mode free in
-      let from = facts.from in
-      let message : MessageIsKept g (Answers a) = each_sent (MessageIsKept g) w.messages (Answers a) k.kept.messages sent in
-      let leading : ModeIsKept g m (w.nodes m).log (Leads l) = subst (ModeIsKept g m (w.nodes m).log) leads (k.kept.nodes m).mode in
-      let ledger : (w.nodes m).log ≡ g.ledger a.request.epoch = leading.0 ∙ ap g.ledger epoch in
-      let recent : IsRecent g a y = subst (λ (j : ℕ). IsRecent g a (w.nodes j)) from (k.held.answers a sent).recent in
+      let free = sym (cause_is v.controller n y a found.4) ∙ found.0 in
+      let facts = cut_facts v n a f mode free in
+      let message : MessageIsKept g' (Answers a) = each_sent (MessageIsKept g') w.messages (Answers a) k'.kept.messages known in
+      let leading : ModeIsKept g' m (w.nodes m).log (Leads l) = subst (ModeIsKept g' m (w.nodes m).log) leads (k'.kept.nodes m).mode in
+      let ledger : (w.nodes m).log ≡ g'.ledger epoch = leading.0 ∙ ap g'.ledger (sym same_epoch) in
       let left : e.node.log ≡ cuts.left = ap (λ (i : Effect). i.node.log) cuts.effect_is in
       let same : cuts.done ≡ done = (let replies = sym (ap (λ (i : Effect). i.reply) cuts.effect_is) ∙ r in cc) in
       record {
@@ -197,14 +245,48 @@ module _ (w : World) (g : History) (t : Sets) (k : AllKept w g t) (n m : ℕ) (l
             record {
               first = cuts.is_common.first;
               second = subst (Begins cuts.common) (sym ledger) (Begins-trans cuts.is_common.second message.1);
-              longest = λ Q p q. cuts.is_common.longest Q p
-                  (recent f mode facts.reconciling facts.asked facts.life found.4 Q p (subst (Begins Q) ledger q));
+              longest = λ Q p q. cuts.is_common.longest Q p (answer_has_common f mode facts found.4 Q p (subst (Begins Q) ledger q));
             };
+        begins = subst (λ (s : List Batch). Begins s y.log) (sym left) cuts.begins;
         keeps = subst (Begins cuts.common) (sym left) cuts.keeps;
         ends = λ d. left ∙ cuts.done_at (same ∙ d);
         shorter = λ d. (let short = cuts.shorter (same ∙ d) in let long = ap length left in omega arith);
       }
 
+-- ---- what rounds leave
+
+-- a round, and what the rounds after it leave
+rounds_then : (old left new leaders : List Batch) (done : Bool) → RoundsEnd old left leaders false → RoundsEnd left new leaders done → RoundsEnd old new leaders done
+rounds_then old left new leaders done p q =
+    record {
+      common = q.common;
+      is_common =
+          record {
+            first = Begins-trans q.is_common.first p.begins;
+            second = q.is_common.second;
+            longest = λ Q b c. (let before = p.is_common.longest Q b c in let after = q.is_common.longest p.common p.keeps p.is_common.second in omega arith);
+          };
+      begins = Begins-trans q.begins p.begins;
+      keeps = q.keeps;
+      ends = q.ends;
+      shorter = λ d. (let before = p.shorter refl in let after = q.shorter d in omega arith);
+    }
+
+module _ (count : ℕ) (r : Run count) (n m : ℕ) (l : Leading) (leads : ((last r).nodes m).mode ≡ Leads l) where
+  abbrev leaders : List Batch
+  leaders = ((last r).nodes m).log
+
+  one_round : (old new : List Batch) (done : Bool) → IsRound r n l.epoch old new done → RoundsEnd old new leaders done
+  one_round old new done (v, a, e, end, i, sent, epoch, h, reply, before, after) =
+      let k = known count r v i in
+      let k' = known count r (last r) (last_is_of count r) in
+      let here = round_ends v k.history k.sets k.all (last r) k'.history k'.sets k'.all n m l a sent (sent_at_last count r v i (Answers a) sent) e end done h reply leads epoch in
+      subst (λ (s : List Batch). RoundsEnd old s leaders done) after (subst (λ (s : List Batch). RoundsEnd s e.node.log leaders done) before here)
+
+  rounds_end : (old new : List Batch) (between : List (List Batch)) (done : Bool) → AreRounds r n l.epoch old between new done → RoundsEnd old new leaders done
+  rounds_end old new [] done h = one_round old new done h
+  rounds_end old new (left ∷ between) done h =
+      rounds_then old left new leaders done (one_round old left false h.0) (rounds_end left new between done h.1)
+
 pub reconciliations_end : ReconciliationsEnd
-reconciliations_end count r w i n m end l a e done sent h reply leads epoch =
-    let k = known count r w i in round_ends w k.history k.sets k.all n m l a sent e end done h reply leads epoch
+reconciliations_end count r n m l old new between done leads h = rounds_end count r n m l leads old new between done h

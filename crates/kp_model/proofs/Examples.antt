@@ -50,6 +50,10 @@ asked_three : end_for leader_log 3 ≡ Some (2, 5)
 unfolding leader_log at many end_for
 asked_three = refl
 
+asked_two : end_for leader_log 2 ≡ Some (2, 5)
+unfolding leader_log at many end_for
+asked_two = refl
+
 asked_one : end_for leader_log 1 ≡ Some (1, 3)
 unfolding leader_log at many end_for
 asked_one = refl
@@ -57,6 +61,10 @@ asked_one = refl
 asked_zero : end_for leader_log 0 ≡ None
 unfolding leader_log at many end_for
 asked_zero = refl
+
+asked_four : end_for leader_log 4 ≡ Some (4, 7)
+unfolding leader_log at many end_for
+asked_four = refl
 
 asked_nine : end_for leader_log 9 ≡ Some (4, 7)
 unfolding leader_log at many end_for

@@ -43,6 +43,7 @@ module _ (w : World) (g : History) (t : Sets) (a : AllKept w g t) where
         kept = Kin.sent w g m a.kept k;
         held = sent_held w g t a.held m c;
         led = a.led;
+        own = a.own;
         committed = committed_sent w g t a.held m c;
         stays = λ n P p b. b;
       }
@@ -118,6 +119,7 @@ module _ (w : World) (g : History) (t : Sets) (a : AllKept w g t) where
           kept = Kin.sent v g m (Kin.changed w g n y a.kept (record { made = (a.kept.nodes n).made; mode = kept }) (same_log w g n a.kept)) (k, subst (Begins x.log) whole (Begins-refl x.log));
           held = sent_held v g t held m said;
           led = led_same w g t n y refl a.led;
+          own = a.own;
           committed = λ P p. committed_sent v g t held m said P (committed_after w g t a.sound a.held a.kept n y c P p);
           stays = first.stays;
         }
@@ -221,6 +223,7 @@ module _ (w : World) (g : History) (t : Sets) (a : AllKept w g t) where
           kept = re_recorded (with_node w n y) g (altered w.controller isr) refl (Kin.changed w g n y a.kept (record { made = (a.kept.nodes n).made; mode = kept }) (same_log w g n a.kept));
           held = alter_held w g t a.sound a.held a.kept n l mode recorded isr own each;
           led = led_same w g t n y refl a.led;
+          own = a.own;
           committed = committed_altered w g t a.sound a.held a.kept n l mode recorded isr own each;
           stays = λ m P p b. cond_both (eqb m n) y (w.nodes m) (λ (z : Node). Begins P z.log) (λ e. subst (λ (j : ℕ). Begins P (w.nodes j).log) (eqb-true m n e) b) (λ e. b);
         })
@@ -326,6 +329,7 @@ module _ (w : World) (g : History) (t : Sets) (a : AllKept w g t) where
           led = λ l e f o. absurd (let same : record { node = n; epoch = elections_of w } ≡ l = cc in
               let epoch : elections_of w ≡ l.epoch = ap (λ (y : Leader). y.epoch) same in
               false≢true (ap is_some (sym (a.held.later l.epoch (omega arith)) ∙ o)));
+          own = a.own;
           committed = committed_elected w g t a.sound a.held a.kept n member;
           stays = λ m P p b. b;
         }

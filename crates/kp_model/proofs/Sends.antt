@@ -1,5 +1,5 @@
 -- What a step sends: a follower's request, or a leader's answer to a request that was sent.
-use Rattle.std.proofs.Common.{◌≡◌, ℕ, Bool, true, false, List, Result, Ok, Err, Option, Some, None, sym, subst, inl, inr}
+use Rattle.std.proofs.Common.{◌≡◌, ℕ, Bool, true, false, List, [], ◌∷◌, Result, Ok, Err, Option, Some, None, sym, subst, inl, inr}
 use Rattle.std.specs.List.{AllByRecursion}
 use Rattle.kp_types.specs.declared.refusal.Refusal.{Refusal}
 use Rattle.kp_batch.specs.Batch.{Body}
@@ -8,7 +8,8 @@ use Rattle.kp_model.specs.World.{LeaderAndIsr, Leader, Leading, Following, Leads
 use Rattle.kp_model.specs.Event.{Act, Adopt, Produce, Mark, Ask, Receive, Raise, Join, Leave, Checkpoint, Stop, Restart, Show, Read, Committed, Event, Outcome}
 use Rattle.kp_model.specs.Local.{Effect, cause, Happens, LacksMemory, LacksMemoryFor, Adopts, Appends, Produces, Marks, Receives, Accepts, Serves, Cuts, Alters, marker_body, with_member, without_member, asked, answer, serve_cause, receive_cause}
 use Rattle.kp_model.specs.Step.{Step, IsGiven}
-use Rattle.kp_model.proofs.Steps.{where_leads, where_follows, leads_cause, step_cases}
+use Rattle.kp_model.specs.Run.{Moment, IsRun, Run, now, worlds, last, Among, IsOf}
+use Rattle.kp_model.proofs.Steps.{where_leads, where_follows, leads_cause, step_cases, get_front}
 use Rattle.kp_types.proofs.Elements.{all_append}
 
 module _ (Q : Message → Type 0) (messages : List Message) (c : LeaderAndIsr) (n : ℕ) (x : Node)
@@ -95,3 +96,29 @@ step_sends Q w event outcome new asks serves h s =
                 ]))
           ]
     ]
+
+-- ---- what was sent stays sent
+
+step_sent : (w : World) (event : Event) (outcome : Outcome) (new : World) (m : Message) → Step w event outcome new → IsSent w.messages m → IsSent new.messages m
+step_sent w event outcome new m s sent =
+    elim (step_cases w event outcome new s) [
+      | inl same ↦ subst (λ (v : World). IsSent v.messages m) (sym same) sent
+      | inr done ↦
+          elim done [
+            | inl e ↦ subst (λ (v : World). IsSent v.messages m) (sym e.new_is) sent
+            | inr a ↦
+                subst (λ (v : World). IsSent v.messages m) (sym a.new_is) (sent.0, get_front w.messages a.effect.sent sent.0 m sent.1)
+          ]
+    ]
+
+sent_by_now : (count : ℕ) (moments : List Moment) → IsRun count moments → (w : World) → Among w (worlds count moments) → (m : Message) → IsSent w.messages m → IsSent (now count moments).messages m
+sent_by_now count [] r w a m sent =
+    elim a [ inl same ↦ subst (λ (v : World). IsSent v.messages m) same sent | inr none ↦ absurd none ]
+sent_by_now count (p ∷ past) r w a m sent =
+    elim a [
+      | inl same ↦ subst (λ (v : World). IsSent v.messages m) same sent
+      | inr older ↦ step_sent (now count past) p.event p.outcome p.after m r.0 (sent_by_now count past r.1 w older m sent)
+    ]
+
+pub sent_at_last : (count : ℕ) (r : Run count) (w : World) → IsOf w r → (m : Message) → IsSent w.messages m → IsSent (last r).messages m
+sent_at_last count r w i m sent = sent_by_now count r.moments r.is_run w i m sent

@@ -1,5 +1,5 @@
 -- What is known of a step that isn't refused.
-use Rattle.std.proofs.Common.{◌≡◌, ◌⊎◌, ℕ, zero, suc, ◌<◌, Bool, true, false, cond, eqb, List, [], ◌∷◌, Option, Some, None, refl, sym, ap, ◌∙◌, subst, append-nil, inl, inr}
+use Rattle.std.proofs.Common.{◌≡◌, ◌⊎◌, ℕ, zero, suc, ◌<◌, Bool, true, false, cond, eqb, List, [], ◌∷◌, ◌++◌, Option, Some, None, refl, sym, ap, ◌∙◌, subst, append-nil, inl, inr}
 use Rattle.std.specs.Prelude.{slice_get}
 use Rattle.std.specs.List.{AllByRecursion}
 use Rattle.kp_types.specs.declared.refusal.Refusal.{Refusal}
@@ -120,6 +120,12 @@ pub each_at : {A : Type 0} (P : A → Type 0) (xs : List A) (k : ℕ) (x : A) �
 each_at P [] k x h e = absurd cc
 each_at P (y ∷ ys) zero x h e = let same : y ≡ x = cc in subst P same h.0
 each_at P (y ∷ ys) (suc k) x h e = each_at P ys k x h.1 e
+
+-- what stands in a list stands in a longer one
+pub get_front : {A : Type 0} (xs ys : List A) (i : ℕ) (x : A) → slice_get xs i ≡ Some x → slice_get (xs ++ ys) i ≡ Some x
+get_front [] ys i x e = absurd cc
+get_front (z ∷ zs) ys zero x e = e
+get_front (z ∷ zs) ys (suc i) x e = get_front zs ys i x e
 
 -- what holds of each message that was sent
 pub each_sent : (P : Message → Type 0) (ms : List Message) (m : Message) → AllByRecursion P ms → IsSent ms m → P m
