@@ -7,3 +7,5 @@ pub mod Standing
 pub mod Produced
 pub mod Reports
 pub mod Offered
+pub mod Asks
+pub mod Serves

@@ -3,3 +3,4 @@ pub mod Modes
 pub mod Kept
 pub mod Replies
 pub mod Offers
+pub mod Sending

@@ -5,8 +5,10 @@
 
 ghost use Rattle.kp_replica.specs.Offers.{BytesAreAnOffer, OffersAreOne};
 
+mod asking;
 mod producing;
 mod replica;
+mod serving;
 
 pub use replica::{Receipt, Replica, Role};
 
