@@ -6,8 +6,7 @@ use Rattle.std.specs.List.{join_with_byte, flat_map, zip}
 use Rattle.std.specs.Fmt.{decimal}
 use Rattle.std.proofs.lemmas.Bool.{false≢true}
 use Rattle.kp_control.specs.Set.{numbers_of}
-use Rattle.kp_world.specs.declared.event.ReadRecord.{ReadRecord}
-use Rattle.kp_world.specs.Answers.{line_of}
+use Rattle.kp_model.specs.Event.{Line as ModelLine}
 use Rattle.kp_script.specs.Call.{spaced}
 use Rattle.kp_script.specs.Hex.{hex_digit, hex_text}
 use Rattle.kp_script.specs.Trace.{line_text, lines_text, nodes_text, trace_line, trace_text}
@@ -153,12 +152,21 @@ traced_more {A} {B} f g xs ys i x y lx ly ex ey =
     ∙ traced_push (map f (take i xs)) (map g (take i ys)) (f x) (g y) as_long
 
 -- the records that were read, as they are appended
-pub lines_as_pieces : (lines : List ReadRecord) → lines_text (map line_of lines) ≡ (codes "read " ++ decimal (length lines)) ++ flat_map (λ l. 32 ∷ line_text (line_of l)) lines
+pub lines_as_pieces : (lines : List ModelLine) → lines_text lines ≡ (codes "read " ++ decimal (length lines)) ++ flat_map (λ l. 32 ∷ line_text l) lines
 lines_as_pieces lines =
     ap (λ (rest : List ℕ). codes "read " ++ rest)
-    (joined_as_pieces 32 (decimal (length (map line_of lines))) (map line_text (map line_of lines))
-    ∙ ap (λ (n : ℕ). decimal n ++ flat_map (λ y. 32 ∷ y) (map line_text (map line_of lines))) (length-map lines line_of)
-    ∙ ap (λ (rest : List ℕ). decimal (length lines) ++ rest) (flat_map_over line_text (λ y. 32 ∷ y) (map line_of lines) ∙ flat_map_over line_of (λ l. 32 ∷ line_text l) lines))
+    (joined_as_pieces 32 (decimal (length lines)) (map line_text lines)
+    ∙ ap (λ (rest : List ℕ). decimal (length lines) ++ rest) (flat_map_over line_text (λ y. 32 ∷ y) lines))
+
+-- one record more
+pub lines_more : (text now mid : List ℕ) (lines : List ModelLine) (place : ℕ) (line other : ModelLine) → place < length lines → line ≡ get_or lines place other
+    → mid ≡ text ++ flat_map (λ l. 32 ∷ line_text l) (take place lines) → now ≡ mid ++ 32 ∷ line_text line → now ≡ text ++ flat_map (λ l. 32 ∷ line_text l) (take (place + 1) lines)
+lines_more text now mid lines place line other within is before added =
+    let told : ModelLine → List ℕ = λ l. 32 ∷ line_text l in
+    let more : flat_map told (take (place + 1) lines) ≡ flat_map told (take place lines) ++ told line =
+    ap (flat_map told) (take_more lines place other within ∙ ap (λ (l : ModelLine). take place lines ++ l ∷ []) (sym is))
+    ∙ flat_map-append told (take place lines) (line ∷ []) ∙ ap (λ (rest : List ℕ). flat_map told (take place lines) ++ rest) (append-nil (told line)) in
+    grown mid now text (flat_map told (take place lines)) (told line) _ added before more
 
 -- what a role says, word by word
 pub leads_pushed : (text mid now : List ℕ) (epoch start e : ℕ) → e ≡ epoch → mid ≡ text ++ (codes "leads epoch " ++ decimal e) → now ≡ mid ++ (codes " from " ++ decimal start)

@@ -1,10 +1,11 @@
 -- Laws of values and the commas between them: a text has one list of values, and values have one text.
-use Rattle.std.proofs.Common.{◌≡◌, ℕ, ◌<◌, Bool, true, false, not, cond, ◌&&◌, eqb, leb, List, [], ◌∷◌, All, refl, sym, ap, ◌∙◌, arith, length}
-use Rattle.std.proofs.lemmas.Bool.{and_parts, not-true, le-leb}
+use Rattle.std.proofs.Common.{◌≡◌, ℕ, ◌<◌, Bool, true, false, not, cond, ◌&&◌, eqb, leb, List, [], ◌∷◌, ◌++◌, All, refl, sym, ap, ◌∙◌, arith, length}
+use Rattle.std.proofs.lemmas.Bool.{and_parts, not-true, le-leb, ne_eqb}
 use Rattle.std.proofs.lemmas.List.Elements.{All-from_recursion}
 use Rattle.std.proofs.lemmas.List.Splits.{slice_split_none, slice_split_at, length-slice_split, join_with_byte-slice_split}
 use Rattle.std.specs.List.{list_all, onto_first, AllByRecursion}
 use Rattle.kp_script.specs.Call.{is_value_byte, is_value, values_text, pieces}
+use Rattle.kp_script.specs.Read.{Lacks}
 
 lacks_commas : (value : List ℕ) → list_all is_value_byte value ≡ true → AllByRecursion (λ x. eqb x 44 ≡ false) value
 lacks_commas [] all = tt
@@ -78,3 +79,19 @@ values_go_on (x ∷ xs) =
 -- Pieces are values just where the bytes go on with values from the front.
 pub values_from : (xs : List ℕ) → goes_on false xs ≡ list_all is_value (pieces xs)
 values_from xs = (values_go_on xs).1
+
+-- ---- pieces from the front
+
+no_comma_in : (text : List ℕ) → Lacks 44 text → AllByRecursion (λ x. eqb x 44 ≡ false) text
+no_comma_in [] lacks = tt
+no_comma_in (x ∷ xs) lacks = (ne_eqb x 44 lacks.0, no_comma_in xs lacks.1)
+
+-- a text without a comma is one piece
+pub one_piece : (text : List ℕ) → Lacks 44 text → pieces text ≡ text ∷ []
+one_piece text lacks =
+    slice_split_none (λ (x : ℕ). eqb x 44) text (All-from_recursion (λ (x : ℕ). eqb x 44 ≡ false) text (no_comma_in text lacks))
+
+-- the first piece ends at the first comma
+pub first_piece : (front rest : List ℕ) → Lacks 44 front → pieces (front ++ 44 ∷ rest) ≡ front ∷ pieces rest
+first_piece front rest lacks =
+    slice_split_at (λ (x : ℕ). eqb x 44) front 44 rest (All-from_recursion (λ (x : ℕ). eqb x 44 ≡ false) front (no_comma_in front lacks)) refl

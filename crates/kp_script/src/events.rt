@@ -13,41 +13,53 @@ ghost use Rattle.kp_script.specs.Seen.{seen_call, seen_line, seen_sender};
 use crate::call::{Call, Sender};
 use crate::hex::bytes_of;
 use crate::script::Line;
+use crate::words::split_first_at;
 use bytes::Bytes;
 use kp_batch::{Fields, Handed, Parts, Speller};
 use kp_types::{NodeId, Refusal};
 use kp_world::{Act, Event};
 use std::alloc::{AllocError, Global};
 
-/// A record for each piece between the commas: it has this time in milliseconds, and the piece as its value.
-/// Takes time and memory proportional to the bytes, and fails where memory runs out.
-fn parts_of<'a>(alloc: Global, time: u64, values: &'a [u8]) -> Result<Vec<Parts<'a>>, AllocError>
-    ensures { IfOk result (λ parts. map record_made parts.items
+/// The record at this time in milliseconds with this value.
+fn part_of(time: u64, value: &[u8]) -> Parts<'_>
+    ensures { record_made result ≡ plain_record time value.now }
+{
+    Parts {
+        timestamp: time,
+        key: None,
+        value: Some(value),
+        headers: &[],
+    }
+}
+
+/// Puts a record for each piece between the commas in place of those in `parts`: it has this time in milliseconds, and
+/// the piece as its value. Takes time proportional to the bytes, and fails where memory runs out.
+fn put_parts<'a>(parts: &mut Vec<Parts<'a>>, time: u64, values: &'a [u8]) -> Result<(), AllocError>
+    ensures { OnOk result (map record_made parts.new.items
         ≡ map (plain_record time) (pieces values.now)) }
 {
-    values
-        .split(|byte| *byte == b',')
-        .map(|value| Parts {
-            timestamp: time,
-            key: None,
-            value: Some(value),
-            headers: &[],
-        })
-        .collect(alloc)
+    parts.clear();
+    let mut rest = values;
+    while let Some((value, after)) = split_first_at(b',', rest) {
+        parts.push(part_of(time, value))?;
+        rest = after;
+    }
+    parts.push(part_of(time, rest))?;
+    Ok(())
 }
 
 /// A batch with a record for each piece between the commas, each at this time in milliseconds, handed to the node.
 /// What it says of its producer and its kind need not agree, and it has any size: a node refuses what doesn't agree, and
 /// what is above its own limit. Takes time and memory proportional to the bytes, and is refused only where memory runs
 /// out.
-fn append_event(
-    alloc: Global,
+fn append_event<'a>(
     speller: &mut Speller,
+    parts: &mut Vec<Parts<'a>>,
     node: NodeId,
     time: u64,
     sender: Sender,
     transactional: bool,
-    values: &[u8],
+    values: &'a [u8],
 ) -> Result<Event, Refusal>
     requires early { time < 2 ^ 62 }
     requires sender { IsSender (seen_sender sender) }
@@ -66,8 +78,8 @@ fn append_event(
         transactional,
         control: false,
     };
-    let parts = parts_of(alloc, time, values)?;
-    let bytes = speller.spell(&fields, &parts)?;
+    put_parts(parts, time, values)?;
+    let bytes = speller.spell(&fields, parts.as_slice())?;
     Ok(Event::Acts {
         node,
         act: Act::Produce { bytes },
@@ -94,10 +106,11 @@ fn raw_event(alloc: Global, node: NodeId, digits: &[u8]) -> Result<Event, Refusa
 }
 
 /// The event that a call tells.
-fn event_of(
+fn event_of<'a>(
     alloc: Global,
     speller: &mut Speller,
-    call: &Call<'_>,
+    parts: &mut Vec<Parts<'a>>,
+    call: &Call<'a>,
     count: NodeId,
 ) -> Result<Event, Refusal>
     requires { IsCall count (seen_call call.now) }
@@ -115,7 +128,7 @@ fn event_of(
             sender,
             transactional,
             values,
-        } => return append_event(alloc, speller, node, time, sender, transactional, values),
+        } => return append_event(speller, parts, node, time, sender, transactional, values),
         Call::Raw { node, digits } => return raw_event(alloc, node, digits),
         Call::Adopt { node } => (node, Act::Adopt),
         Call::Mark { node, marker } => (node, Act::Mark { marker }),
@@ -129,9 +142,10 @@ fn event_of(
 
 /// Puts the events of these lines, in their order, in place of those in `events`. Takes time and memory proportional to
 /// the lines. F33.
-pub(crate) fn events_of(
+pub(crate) fn events_of<'a>(
     alloc: Global,
-    lines: &[Line<'_>],
+    speller: &mut Speller,
+    lines: &[Line<'a>],
     count: NodeId,
     events: &mut Vec<Event>,
 ) -> Result<(), Refusal>
@@ -143,11 +157,11 @@ pub(crate) fn events_of(
     ensures markers { OnOk result (AllByRecursion HasMarker events.new.items) }
     ensures only { IfErr result (λ refusal. refusal ≡ Memory) }
 {
-    let mut speller = Speller::new(alloc);
+    let mut parts = Vec::new(alloc);
     events.clear();
     events.reserve(lines.len())?;
     for line in lines {
-        events.push(event_of(alloc, &mut speller, &line.call, count)?)?;
+        events.push(event_of(alloc, speller, &mut parts, &line.call, count)?)?;
     }
     Ok(())
 }

@@ -15,6 +15,7 @@ use crate::call::Header;
 use crate::events::events_of;
 use crate::script::{Line, parse};
 use crate::trace::push_trace;
+use kp_batch::Speller;
 use kp_types::{Counted, Limits, MAX_BATCH, NodeId, Refusal};
 use kp_world::{Answer, Event, World};
 use std::alloc::Global;
@@ -23,9 +24,11 @@ use std::io::{Read, Write};
 /// How many events are made and played before their lines are written.
 const EVENTS_AT_ONCE: usize = 512;
 
-/// The lists that a run uses again and again: some events, their answers, and the text of their lines.
+/// What a run uses again and again: what spells its batches, and the lists of some events, of their answers, and of the
+/// text of their lines.
 #[derive(Drop)]
 struct Lists {
+    speller: Speller,
     events: Vec<Event>,
     outcomes: Vec<Result<Answer, Refusal>>,
     text: Vec<u8>,
@@ -74,7 +77,7 @@ fn play_lines<W: Write>(
     ensures only { IfErr result IsDeviceFault }
     ensures counted { CountsFaults result (faults_of writer.old) (faults_of writer.new) }
 {
-    events_of(alloc, lines, count, &mut lists.events)?;
+    events_of(alloc, &mut lists.speller, lines, count, &mut lists.events)?;
     world.play(alloc, &lists.events, &mut lists.outcomes)?;
     lists.text.clear();
     push_trace(&mut lists.text, lines, &lists.outcomes)?;
@@ -115,6 +118,7 @@ pub fn run_script<R: Read, W: Write>(
     let count = script.header.count;
     let mut world = World::start(alloc, count, &limits_of(&script.header))?;
     let mut lists = Lists {
+        speller: Speller::new(alloc),
         events: Vec::new(alloc),
         outcomes: Vec::new(alloc),
         text: Vec::new(alloc),

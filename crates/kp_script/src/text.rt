@@ -41,8 +41,7 @@ pub(crate) fn push_hex(text: &mut Vec<u8>, bytes: &[u8]) -> Result<(), AllocErro
 {
     text.reserve(bytes.len().saturating_mul(2))?;
     for byte in bytes {
-        text.push(hex_digit(*byte / 16))?;
-        text.push(hex_digit(*byte % 16))?;
+        text.extend_from_slice(&[hex_digit(*byte / 16), hex_digit(*byte % 16)])?;
     }
     Ok(())
 }

@@ -5,7 +5,8 @@ ghost use Rattle.std.specs.Option.{option_map};
 ghost use Rattle.kp_types.specs.Texts.{refusal_text};
 ghost use Rattle.kp_control.specs.Set.{leader_of, members_of, record_of};
 ghost use Rattle.kp_replica.specs.Replies.{role_reply, receipt_reply};
-ghost use Rattle.kp_world.specs.Answers.{line_of, answer_reply, outcome_of};
+ghost use Rattle.kp_world.specs.Answers.{answer_reply, outcome_of};
+ghost use Rattle.kp_world.specs.Records.{line_of};
 ghost use Rattle.kp_script.specs.Call.{node_of};
 ghost use Rattle.kp_script.specs.Seen.{seen_call};
 ghost use Rattle.kp_script.specs.Trace.{leader_text, line_text, lines_text, nodes_text, record_text, reply_text, outcome_text, trace_text};
@@ -15,16 +16,16 @@ use crate::text::{push_hex, push_named, push_number};
 use kp_control::{Leader, LeaderAndIsr, NodeSet};
 use kp_replica::{Receipt, Role};
 use kp_types::{NodeId, Refusal};
-use kp_world::{Answer, ReadRecord};
+use kp_world::{Answer, ReadRecord, ReadRecords};
 use std::alloc::AllocError;
 
 /// Appends a space and a record that was read.
-fn push_line(text: &mut Vec<u8>, line: &ReadRecord) -> Result<(), AllocError>
+fn push_line(text: &mut Vec<u8>, line: ReadRecord<'_>) -> Result<(), AllocError>
     ensures { OnOk result
-        (text.new.items ≡ text.old.items ++ 32 ∷ line_text (line_of line.now)) }
+        (text.new.items ≡ text.old.items ++ 32 ∷ line_text (line_of line.entry)) }
 {
     push_named(text, b" ", line.offset)?;
-    match &line.value {
+    match line.value {
         Some(bytes) => {
             text.extend_from_slice(b"=")?;
             push_hex(text, bytes)
@@ -34,13 +35,12 @@ fn push_line(text: &mut Vec<u8>, line: &ReadRecord) -> Result<(), AllocError>
 }
 
 /// Appends how many records were read, and each of them.
-fn push_lines(text: &mut Vec<u8>, lines: &[ReadRecord]) -> Result<(), AllocError>
-    ensures { OnOk result
-        (text.new.items ≡ text.old.items ++ lines_text (map line_of lines.now)) }
+fn push_lines(text: &mut Vec<u8>, lines: &ReadRecords) -> Result<(), AllocError>
+    ensures { OnOk result (text.new.items ≡ text.old.items ++ lines_text lines.now) }
 {
     push_named(text, b"read ", lines.len() as u64)?;
-    for line in lines {
-        push_line(text, line)?;
+    for place in 0..lines.len() {
+        push_line(text, lines.get(place))?;
     }
     Ok(())
 }

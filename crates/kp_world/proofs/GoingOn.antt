@@ -1,6 +1,6 @@
 -- Each run goes on: whatever comes next has an answer.
-use Rattle.std.proofs.Common.{◌≡◌, ℕ, ◌<◌, Bool, true, false, List, [], ◌∷◌, ◌++◌, Option, Some, None, refl, sym, ap, ◌∙◌, subst, inl, inr, append_assoc, append-nil}
-use Rattle.std.specs.Prelude.{map, reverse, not}
+use Rattle.std.proofs.Common.{◌≡◌, ℕ, Bool, true, false, List, [], ◌∷◌, ◌++◌, Option, Some, None, refl, sym, ap, ◌∙◌, subst, inl, inr, append_assoc, append-nil}
+use Rattle.std.specs.Prelude.{map, not}
 use Rattle.std.specs.List.{AllByRecursion}
 use Rattle.std.specs.Option.{option_map_or}
 use Rattle.std.proofs.lemmas.List.{reverse-append}
@@ -9,7 +9,7 @@ use Rattle.kp_types.specs.declared.refusal.Refusal.{Refusal}
 use Rattle.kp_types.specs.declared.refusal.Refusal.TheVariants as refusals
 use Rattle.kp_model.specs.Log.{end_of}
 use Rattle.kp_model.specs.Transactions.{stable}
-use Rattle.kp_model.specs.World.{Leader, LeaderAndIsr, Leading, Mode, Down, Idle, Leads, Follows, Message, Node, World, with_record}
+use Rattle.kp_model.specs.World.{Leader, LeaderAndIsr, Mode, Down, Idle, Leads, Follows, Message, Node, World, with_record}
 use Rattle.kp_model.specs.Event.{Act, Event, Outcome, Refused, Changed, Shown}
 use Rattle.kp_model.specs.Event as model
 use Rattle.kp_model.specs.Laws.{RunsAreSafe, RunsKeepCount}
@@ -18,7 +18,7 @@ use Rattle.kp_model.specs.Run.{Moment, Run, extend, last}
 use Rattle.kp_model.proofs.RunLaws.{last_is_of}
 use Rattle.kp_model.specs.Step.{ElectsBy, IsGiven, Step, answered, elect_cause, moved, told}
 use Rattle.kp_world.specs.Laws.{IsAsked, MayCome, RunsGoOn}
-use Rattle.kp_world.specs.Plays.{IsPlayed, events_of, outcomes_of}
+use Rattle.kp_world.specs.Plays.{events_of, outcomes_of}
 
 -- an answer to an event, and the world after it
 record Answering (w : World) (e : Event) : Type 0 where

@@ -2,6 +2,7 @@ pub mod Moved
 pub mod Mapped
 pub mod Playing
 pub mod Lines
+pub mod Places
 pub mod ReadBelow
 pub mod Told
 pub mod GoingOn

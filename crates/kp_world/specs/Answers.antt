@@ -1,18 +1,12 @@
 -- The code's answers as the definitions' replies.
-use Rattle.std.specs.Prelude.{map, Result, Ok, Err}
-use Rattle.std.specs.Option.{option_map}
-use Rattle.std.specs.Global.{Vec}
+use Rattle.std.specs.Prelude.{Result, Ok, Err, List}
 use Rattle.kp_types.specs.declared.refusal.Refusal.{Refusal}
 use Rattle.kp_model.specs.Event.{Line as ModelLine, Reply, Refused, Changed as RecordChanged, MarkAt, Shown as StateShown, Lines as LinesRead, Outcome}
 use Rattle.kp_model.specs.Step.{told}
 use Rattle.kp_control.specs.Set.{record_of}
 use Rattle.kp_replica.specs.Replies.{role_reply, receipt_reply}
-use Rattle.kp_world.specs.declared.event.ReadRecord.{ReadRecord}
 use Rattle.kp_world.specs.declared.event.Answer.{Answer}
 use Rattle.kp_world.specs.declared.event.Answer.TheVariants.{Changed, Adopted, Appended, Watermark, Shown, Lines}
-
-abbrev pub line_of : ReadRecord → ModelLine
-line_of l = record { offset = l.offset; value = option_map (λ v. v.items) l.value }
 
 abbrev pub answer_reply : Answer → Reply
 answer_reply (Changed controller) = RecordChanged (record_of controller)
@@ -20,7 +14,7 @@ answer_reply (Adopted role) = role_reply (Ok role)
 answer_reply (Appended receipt) = receipt_reply (Ok receipt)
 answer_reply (Watermark watermark) = MarkAt watermark
 answer_reply (Shown life end watermark stable) = StateShown life end watermark stable
-answer_reply (Lines lines) = LinesRead (map line_of lines.items)
+answer_reply (Lines lines) = LinesRead lines
 
 abbrev pub reply_of : Result Answer Refusal → Reply
 reply_of (Ok answer) = answer_reply answer
@@ -31,6 +25,6 @@ abbrev pub outcome_of : Result Answer Refusal → Outcome
 outcome_of result = told (reply_of result)
 
 -- the reply to a read
-abbrev pub lines_reply : Result (Vec ReadRecord) Refusal → Reply
-lines_reply (Ok lines) = LinesRead (map line_of lines.items)
+abbrev pub lines_reply : Result (List ModelLine) Refusal → Reply
+lines_reply (Ok lines) = LinesRead lines
 lines_reply (Err refusal) = Refused refusal

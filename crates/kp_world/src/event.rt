@@ -1,5 +1,6 @@
 //! What may happen, and what is answered.
 
+use crate::records::ReadRecords;
 use kp_batch::Handed;
 use kp_control::LeaderAndIsr;
 use kp_marker::Marker;
@@ -36,14 +37,6 @@ pub enum Act {
     Committed { from: Offset },
 }
 
-/// A record as a reader gets it.
-#[derive(Drop)]
-pub struct ReadRecord {
-    pub offset: Offset,
-    /// None is null.
-    pub value: Option<Vec<u8>>,
-}
-
 /// What an event that isn't refused answers.
 #[derive(Drop)]
 pub enum Answer {
@@ -60,7 +53,7 @@ pub enum Answer {
         /// The last stable offset.
         stable: Offset,
     },
-    Lines(Vec<ReadRecord>),
+    Lines(ReadRecords),
 }
 
 /// The answers to the events, in their order. A refused event stands in it too.

@@ -8,9 +8,11 @@ ghost use Rattle.kp_world.specs.Laws.{EventsAreTold, EventsAreToldOnce, RunsGoOn
 mod acting;
 mod event;
 mod read;
+mod records;
 mod world;
 
-pub use event::{Act, Answer, Event, ReadRecord, Stopped, Trace};
+pub use event::{Act, Answer, Event, Stopped, Trace};
+pub use records::{ReadRecord, ReadRecords};
 pub use world::{World, run};
 
 /// Every list of events, in which numbers below 256 are handed in, is a list of events of the definitions, and of

@@ -7,7 +7,7 @@ use Rattle.kp_script.specs.Seen.{seen_sender}
 use Rattle.kp_script.specs.Told.{plain_record, offer_of}
 use Rattle.kp_script.proofs.Values.{some_piece}
 use Rattle.kp_script.proofs.Sizes.{line_size}
-use Rattle.kp_script.proofs.Appending.{fields_at, no_cause}
+use Rattle.kp_script.proofs.Appending.{no_cause}
 use Rattle.kp_script.proofs.Offers.{offers}
 use Rattle.kp_script.proofs.events.append_event.Goals as goal
 
@@ -16,8 +16,8 @@ returns-in_err-bytes-clause-only c =
     let p = err_from_is_err_and c.from_residual-in_err-bytes.result c.from_residual-in_err-bytes.ensures.1 in
     let time = c.args.time in
     let values = c.args.values.now in
-    let records : map record_made c.deref.result.now ≡ map (plain_record time) (pieces values) = ap (map record_made) c.deref.ensures.value ∙ c.in_ok-parts.ensures in
-    let none = no_cause time (seen_sender c.args.sender) c.args.transactional (pieces values) c.deref.result.now records (some_piece values) c.requires.early (line_size time values c.requires.short) in
+    let records : map record_made c.as_slice.result.now ≡ map (plain_record time) (pieces values) = ap (map record_made) c.as_slice.ensures.value ∙ c.in_ok-put_parts.ensures in
+    let none = no_cause time (seen_sender c.args.sender) c.args.transactional (pieces values) c.as_slice.result.now records (some_piece values) c.requires.early (line_size time values c.requires.short) in
     let memory = rw none at c.in_err-bytes.ensures.refused in
     rw (p.1, p.2) memory
 
@@ -27,8 +27,8 @@ returns-clause-told c = λ max.
     let sender = seen_sender c.args.sender in
     let transactional = c.args.transactional in
     let values = pieces c.args.values.now in
-    let parts = c.deref.result.now in
-    let records : map record_made parts ≡ map (plain_record time) values = ap (map record_made) c.deref.ensures.value ∙ c.in_ok-parts.ensures in
+    let parts = c.as_slice.result.now in
+    let records : map record_made parts ≡ map (plain_record time) values = ap (map record_made) c.as_slice.ensures.value ∙ c.in_ok-put_parts.ensures in
     let spelled = c.in_ok-bytes.ensures.spelled max in
     let offer = offer_of max time sender transactional values in
     record {

@@ -1,6 +1,5 @@
 use Rattle.std.proofs.Common.{◌≡◌, ℕ, List, Result, Ok, Err, MatchResult, refl, sym, ap, ◌∙◌, subst}
 use Rattle.std.specs.Prelude.{IfOk, IsOkAnd}
-use Rattle.std.specs.Global.{Vec}
 use Rattle.kp_types.specs.declared.refusal.Refusal.{Refusal}
 use Rattle.kp_batch.specs.Batch.{Body}
 use Rattle.kp_model.specs.Event as model
@@ -17,7 +16,7 @@ use Rattle.kp_world.specs.Shown.{KeepsReceipt}
 use Rattle.kp_world.specs.declared.event.Act.{Act}
 use Rattle.kp_world.specs.declared.event.Answer.{Answer}
 use Rattle.kp_world.specs.declared.event.Answer.TheVariants as answers
-use Rattle.kp_world.specs.declared.event.ReadRecord.{ReadRecord}
+use Rattle.kp_model.specs.Event.{Line as ModelLine}
 use Rattle.kp_world.proofs.Mapped.{mapped}
 use Rattle.kp_world.proofs.acting.act.Goals as goal
 use Rattle.kp_world.proofs.acting.act.Goals.{in-Adopt, in-Produce+in_ok-shared-in-Produce, in-Mark, in-Raise, in-Show, in-Read, in-Committed}
@@ -64,12 +63,12 @@ returns-clause-does c = λ a is.
       | in-Read w ↦
           in_other_words r old c.match-act.replica old a (model.Read w.in-Read.from) c.match-act.outcome w.map-outcome-in-Read.result (lines_reply w.read_lines.result)
           (subst (λ (x : Act). IsAct max x a) w.in-Read.is is) w.replica-is w.outcome-is
-          (mapped (Vec ReadRecord) answers.Lines lines_reply _ w.read_lines.result w.map-outcome-in-Read.result (λ x a h. h) (λ x. refl) (λ f. refl) w.map-outcome-in-Read.ensures.cases)
+          (mapped (List ModelLine) answers.Lines lines_reply _ w.read_lines.result w.map-outcome-in-Read.result (λ x a h. h) (λ x. refl) (λ f. refl) w.map-outcome-in-Read.ensures.cases)
           (w.read_lines.ensures r)
       | in-Committed w ↦
           in_other_words r old c.match-act.replica old a (model.Committed w.in-Committed.from) c.match-act.outcome w.map-outcome-in-Committed.result (lines_reply w.committed_lines.result)
           (subst (λ (x : Act). IsAct max x a) w.in-Committed.is is) w.replica-is w.outcome-is
-          (mapped (Vec ReadRecord) answers.Lines lines_reply _ w.committed_lines.result w.map-outcome-in-Committed.result (λ x a h. h) (λ x. refl) (λ f. refl) w.map-outcome-in-Committed.ensures.cases)
+          (mapped (List ModelLine) answers.Lines lines_reply _ w.committed_lines.result w.map-outcome-in-Committed.result (λ x a h. h) (λ x. refl) (λ f. refl) w.map-outcome-in-Committed.ensures.cases)
           (w.committed_lines.ensures r)
     ]
 
@@ -119,8 +118,8 @@ returns-clause-receipt c = elim c.match-act.branch [
       (w.shown.ensures.plain c.args.replica.now.state.log)
   | in-Read w ↦
       in_log c.match-act.replica c.args.replica.now c.match-act.outcome w.map-outcome-in-Read.result w.replica-is w.outcome-is
-      (kept (Vec ReadRecord) answers.Lines _ w.read_lines.result w.map-outcome-in-Read.result (λ x is. tt) w.map-outcome-in-Read.ensures.cases)
+      (kept (List ModelLine) answers.Lines _ w.read_lines.result w.map-outcome-in-Read.result (λ x is. tt) w.map-outcome-in-Read.ensures.cases)
   | in-Committed w ↦
       in_log c.match-act.replica c.args.replica.now c.match-act.outcome w.map-outcome-in-Committed.result w.replica-is w.outcome-is
-      (kept (Vec ReadRecord) answers.Lines _ w.committed_lines.result w.map-outcome-in-Committed.result (λ x is. tt) w.map-outcome-in-Committed.ensures.cases)
+      (kept (List ModelLine) answers.Lines _ w.committed_lines.result w.map-outcome-in-Committed.result (λ x is. tt) w.map-outcome-in-Committed.ensures.cases)
 ]
