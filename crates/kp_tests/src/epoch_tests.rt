@@ -23,7 +23,7 @@ fn ends(alloc: Global, asked: &[Epoch]) -> Result<String, Refusal> {
     let mut text = String::new(alloc);
     for epoch in asked {
         match epochs.end_for(*epoch, 7) {
-            Some(found) => write!(text, "{epoch}: {} {}, ", found.epoch(), found.end())?,
+            Some(found) => write!(text, "{epoch}: {} {}, ", found.epoch, found.end)?,
             None => write!(text, "{epoch}: none, ")?,
         }
     }
@@ -36,8 +36,8 @@ fn an_epoch_is_answered_by_the_one_not_above_it(rt: HostRuntime) {
     is(&rt, ends(rt.alloc(), &[0, 1, 2, 3, 4, 9]), want);
 }
 
-// All its epochs, and the last one.
-fn told(alloc: Global, epochs: &Epochs) -> Result<String, Refusal> {
+/// All its epochs, and the last one.
+pub(crate) fn told(alloc: Global, epochs: &Epochs) -> Result<String, Refusal> {
     let mut text = String::new(alloc);
     for entry in epochs.entries() {
         write!(text, "{}@{} ", entry.epoch(), entry.start())?;

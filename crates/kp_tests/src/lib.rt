@@ -27,3 +27,5 @@ mod record_tests;
 mod script_tests;
 #[cfg(test)]
 mod shown;
+#[cfg(test)]
+mod truncation_tests;

@@ -6,8 +6,8 @@ use kp_log::PartitionLog;
 use kp_types::{Limits, MAX_BATCH, Refusal};
 use std::alloc::{AllocError, Global};
 
-// Segments of two batches of 512 bytes, with an entry for each batch but the first.
-const SMALL: Limits = Limits {
+/// Segments of two batches of 512 bytes, with an entry for each batch but the first.
+pub(crate) const SMALL: Limits = Limits {
     segment_bytes: 1_024,
     index_interval: 0,
     max_batch: MAX_BATCH,

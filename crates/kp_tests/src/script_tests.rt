@@ -5,7 +5,7 @@ use kp_control::{Leader, LeaderAndIsr, NodeSet};
 use kp_replica::{Receipt, Role};
 use kp_script::{Call, Line, push_trace};
 use kp_types::Refusal;
-use kp_world::{Answer, ReadRecord};
+use kp_world::{Answer, ReadRecords};
 use std::alloc::{AllocError, Global};
 
 // The text of a trace of events that show node 5, the first in line 2.
@@ -69,15 +69,11 @@ fn follows(leader: u8, epoch: u32, fetching: bool) -> Result<Answer, Refusal> {
 }
 
 // Records from offset 9 on: null, empty, and these bytes.
-fn lines_read(alloc: Global) -> Result<Vec<ReadRecord>, AllocError> {
-    let mut lines = Vec::new(alloc);
-    for (offset, value) in [
-        (9, None),
-        (10, Some(unhex(alloc, "")?)),
-        (11, Some(unhex(alloc, "000f10abff")?)),
-    ] {
-        lines.push(ReadRecord { offset, value })?;
-    }
+fn lines_read(alloc: Global) -> Result<ReadRecords, AllocError> {
+    let mut lines = ReadRecords::new(alloc);
+    lines.push(9, None)?;
+    lines.push(10, Some(b""))?;
+    lines.push(11, Some(unhex(alloc, "000f10abff")?.as_slice()))?;
     Ok(lines)
 }
 
