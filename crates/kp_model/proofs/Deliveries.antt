@@ -10,7 +10,7 @@ use Rattle.kp_model.specs.Beginning.{Begins}
 use Rattle.kp_model.specs.Log.{Batch, end_of, IsLog, is_boundary}
 use Rattle.kp_model.specs.World.{LeaderAndIsr, Leading, Following, Mode, Down, Idle, Leads, Follows, Node, Request, Answer, Message, Asks, Answers, World}
 use Rattle.kp_model.specs.Event.{Receive, Reply, Refused, Outcome}
-use Rattle.kp_model.specs.Local.{Effect, Local, LocalBy, LacksMemoryFor, Receives, Accepts, Serves, Cuts, last_epoch, piece, grown, mark_taken, expects, is_down, has_epoch, mode_epoch, reconciles, cannot_follow, serve_cause, take_cause, cut_cause, receive_cause, unless_leads}
+use Rattle.kp_model.specs.Local.{Effect, Local, LocalBy, LacksMemoryFor, Receives, Accepts, Serves, Cuts, last_epoch, piece, grown, mark_taken, awaits, is_down, has_epoch, mode_epoch, reconciles, cannot_follow, serve_cause, take_cause, cut_cause, receive_cause, unless_leads}
 use Rattle.kp_model.specs.Step.{NodeStep}
 use Rattle.kp_model.specs.Laws.{NoDeliveryIsRefusedOddly}
 use Rattle.kp_model.proofs.Beginnings.{Begins-refl, Begins-trans}
@@ -107,8 +107,8 @@ module _ (w : World) (g : History) (t : Sets) (k : AllKept w g t) (n : ℕ) wher
   take_plain : (a : Answer) → Sent w (Answers a) → odd_cause (take_cause x a) ≡ false
   take_plain a sent =
       plain_if (is_down x.mode) refusals.Down _ (λ e. refl)
-      (λ up. plain_if (not (expects x a x.mode)) refusals.StaleAnswer _ (λ e. refl)
-      (λ shown. (let p = expected x a x.mode refl (not-false (expects x a x.mode) shown) in
+      (λ up. plain_if (not (awaits x a.request.epoch (end_of a.request.log) x.mode)) refusals.StaleAnswer _ (λ e. refl)
+      (λ shown. (let p = expected x a x.mode refl (not-false (awaits x a.request.epoch (end_of a.request.log) x.mode) shown) in
       let f = p.0 in
       let q = p.1 in
       let mode : ModeIsKept g n x.log (Follows f) = subst (ModeIsKept g n x.log) q.is (k.kept.nodes n).mode in

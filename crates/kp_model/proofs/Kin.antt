@@ -12,7 +12,7 @@ use Rattle.kp_model.specs.Admission.{Admission, Append, Duplicate, Refused as No
 use Rattle.kp_model.specs.World.{Leader, LeaderAndIsr, Leading, Following, Mode, Down, Idle, Leads, Follows, Node, Request, Answer, Message, Asks, Answers, World, no_reports, start, with_record, with_node, with_message}
 use Rattle.kp_model.specs.Event.{Act, Adopt, Produce, Mark, Ask, Receive, Raise, Join, Leave, Checkpoint, Stop, Restart, Show, Read, Committed, Event, Reply, Outcome, NowLeads, NowFollows}
 use Rattle.kp_model.specs.Local
-use Rattle.kp_model.specs.Local.{Effect, becomes, cause, Happens, LacksMemory, next_epoch, stamped, Adopts, Appends, Produces, Marks, Receives, Accepts, Serves, Takes, TakesSome, Cuts, Alters, piece, grown, expects, take_cause, cut_cause, serve_cause, reconciles, last_epoch, has_epoch, mode_epoch, marker_body, LacksMemoryFor, is_empty, elected, altered}
+use Rattle.kp_model.specs.Local.{Effect, becomes, cause, Happens, LacksMemory, next_epoch, stamped, Adopts, Appends, Produces, Marks, Receives, Accepts, Serves, Takes, TakesSome, Cuts, Alters, piece, grown, awaits, take_cause, cut_cause, serve_cause, reconciles, last_epoch, has_epoch, mode_epoch, marker_body, LacksMemoryFor, is_empty, elected, altered}
 use Rattle.kp_model.specs.Step.{Step, moved, IsGiven}
 use Rattle.kp_model.proofs.Beginnings.{Begins-refl, Begins-nil, Begins-append, Begins-trans, Begins-after}
 use Rattle.kp_model.proofs.Logs.{IsLog-push}
@@ -333,7 +333,7 @@ pub record Expects (x : Node) (a : Answer) (f : Following) : Type 0 where
   pub epoch : f.epoch ≡ a.request.epoch
   pub end : end_of x.log ≡ end_of a.request.log
 
-pub expected : (x : Node) (a : Answer) (mode : Mode) → x.mode ≡ mode → expects x a mode ≡ true → (f : Following) × Expects x a f
+pub expected : (x : Node) (a : Answer) (mode : Mode) → x.mode ≡ mode → awaits x a.request.epoch (end_of a.request.log) mode ≡ true → (f : Following) × Expects x a f
 expected x a Down m e = absurd (false≢true e)
 expected x a Idle m e = absurd (false≢true e)
 expected x a (Leads l) m e = absurd (false≢true e)

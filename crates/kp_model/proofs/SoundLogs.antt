@@ -11,7 +11,7 @@ use Rattle.kp_model.specs.Admission.{Admission, Append, Duplicate, Refused as No
 use Rattle.kp_model.specs.World.{Leader, Leading, Following, Mode, Down, Idle, Leads, Follows, Node, Request, Answer, Message, Asks, Answers, World, start, with_record, with_node, with_message}
 use Rattle.kp_model.specs.Event.{Act, Adopt, Produce, Mark, Ask, Receive, Raise, Join, Leave, Checkpoint, Stop, Restart, Show, Read, Committed, Event, Reply, Outcome}
 use Rattle.kp_model.specs.Local
-use Rattle.kp_model.specs.Local.{Effect, cause, Happens, LacksMemory, next_epoch, last_epoch, stamped, under, Adopts, Appends, Produces, Marks, Receives, Accepts, Serves, Takes, TakesSome, Cuts, Alters, piece, at_least_one, fitting, fetch_bytes, cannot_follow, grown, expects, take_cause, serve_cause, marker_body, LacksMemoryFor, elected, altered}
+use Rattle.kp_model.specs.Local.{Effect, cause, Happens, LacksMemory, next_epoch, last_epoch, stamped, under, Adopts, Appends, Produces, Marks, Receives, Accepts, Serves, Takes, TakesSome, Cuts, Alters, piece, at_least_one, fitting, fetch_bytes, cannot_follow, grown, awaits, take_cause, serve_cause, marker_body, LacksMemoryFor, elected, altered}
 use Rattle.kp_model.specs.Step.{Step, moved, IsGiven}
 use Rattle.kp_model.proofs.Beginnings.{Begins-after}
 use Rattle.kp_model.proofs.Logs.{last_epoch_or, IsLog-begins, IsLog-push}
@@ -201,7 +201,7 @@ serve_keeps w n r l f e c h a =
     (record { log = sound.log; epochs = below_later (mode_bound (elections_of w) x.mode) (r.epoch + 1) x.log (omega (arith, bound)) sound.epochs }))
 
 -- what a fetch answer adds keeps the node's log
-expects_mode : (elections : ℕ) (x : Node) (a : Answer) (mode : Mode) → expects x a mode ≡ true → mode_bound elections mode ≡ a.request.epoch + 1
+expects_mode : (elections : ℕ) (x : Node) (a : Answer) (mode : Mode) → awaits x a.request.epoch (end_of a.request.log) mode ≡ true → mode_bound elections mode ≡ a.request.epoch + 1
 expects_mode elections x a Down e = absurd cc
 expects_mode elections x a Idle e = absurd cc
 expects_mode elections x a (Leads l) e = absurd cc
@@ -211,7 +211,7 @@ expects_mode elections x a (Follows f) e =
     ap (λ (n : ℕ). n + 1) (eqb-true f.epoch a.request.epoch fetches.1)
 
 pub record TakeFacts (x : Node) (a : Answer) : Type 0 where
-  pub expected : expects x a x.mode ≡ true
+  pub expected : awaits x a.request.epoch (end_of a.request.log) x.mode ≡ true
   pub follows : cannot_follow x.log (piece a.log a.request) ≡ None
 
 is_some_none : {A : Type 0} (o : Option A) → is_some o ≡ false → o ≡ None
@@ -223,7 +223,7 @@ take_facts x a c =
     let up = passed _ _ _ c in
     let expected = passed _ _ _ up.1 in
     let follows = take_follows (cannot_follow x.log (piece a.log a.request)) _ expected.1 in
-    record { expected = not-false (expects x a x.mode) expected.0; follows = follows }
+    record { expected = not-false (awaits x a.request.epoch (end_of a.request.log) x.mode) expected.0; follows = follows }
   where
     take_follows : (o rest : Option Refusal) → cond (is_some o) o rest ≡ None → o ≡ None
     take_follows None rest e = refl

@@ -1,12 +1,12 @@
 -- What a call of a node does, said without the world: its event, by what the call itself knows (own).
-use Rattle.std.specs.Prelude.{◌≡◌, ℕ, Bool, length, Option, Some, None, unwrap_or}
+use Rattle.std.specs.Prelude.{◌≡◌, ℕ, min, max, Bool, List, ◌++◌, length, Option, Some, None, unwrap_or}
 use Rattle.kp_types.specs.declared.refusal.Refusal.{Refusal}
 use Rattle.kp_types.specs.declared.refusal.Refusal.TheVariants as refusals
-use Rattle.kp_model.specs.Log.{below}
+use Rattle.kp_model.specs.Log.{Batch, end_of, below}
 use Rattle.kp_model.specs.Epochs.{cut_place}
-use Rattle.kp_model.specs.World.{Leader, LeaderAndIsr, Mode, Follows, Node, Message}
-use Rattle.kp_model.specs.Event.{Act, Adopt, Reply, Refused, AsksFrom, AsksEpoch, SentBatches, SentEpoch, Cut}
-use Rattle.kp_model.specs.Local.{Effect, Local, becomes, sends, under, cause, cut_cause_for}
+use Rattle.kp_model.specs.World.{Leader, LeaderAndIsr, Mode, Down, Follows, Node, Message}
+use Rattle.kp_model.specs.Event.{Act, Adopt, Reply, Refused, AsksFrom, AsksEpoch, SentBatches, SentEpoch, Took, Cut}
+use Rattle.kp_model.specs.Local.{Effect, Local, becomes, sends, under, cause, take_cause_for, cut_cause_for}
 use Rattle.kp_model.specs.Letter.{Letter, Asking, From, ForEpoch, Answering, Batches, EpochEnd, letter_of}
 
 -- Under this record of the controller node n, which was x, did this, replied so, and is y now.
@@ -66,3 +66,17 @@ cut_by None c x place = becomes c (record x { log = below place.0 x.log; mode = 
 abbrev pub cut : LeaderAndIsr → ℕ → Node → Letter → Effect
 cut c n x l =
     cut_by (cut_cause_for c n x l.from l.life l.epoch (asked_epoch l.asking)) c x (cut_place x.log (answered_end l.answering))
+
+abbrev pub taken_by : Option Refusal → LeaderAndIsr → Node → List Batch → (watermark : ℕ) → Effect
+taken_by (Some refusal) c x batches watermark = becomes c x (Refused refusal)
+taken_by None c x batches watermark =
+    let mark = max x.watermark (min watermark (end_of (x.log ++ batches))) in
+    becomes c (record x { log = x.log ++ batches; watermark = mark }) (Took (end_of (x.log ++ batches)) mark)
+
+-- what it comes to that these batches, asked for in this epoch from this offset on, came with this watermark
+abbrev pub taken : LeaderAndIsr → Node → (epoch offset : ℕ) → List Batch → (watermark : ℕ) → Effect
+taken c x epoch offset batches watermark = taken_by (take_cause_for x epoch offset batches watermark) c x batches watermark
+
+-- and where there was no room for more than some of them
+abbrev pub taken_some : LeaderAndIsr → Node → List Batch → Effect
+taken_some c x some = becomes c (record x { log = x.log ++ some; mode = Down }) (Refused refusals.Memory)
