@@ -72,7 +72,7 @@ impl LeaderAndIsr {
     ghost use Rattle.std.specs.Prelude.{◌≡◌, ◌≤◌, IfOk};
     ghost use Rattle.kp_types.specs.Causes.{IsRefusedOnlyBy};
     ghost use Rattle.kp_model.specs.World.{initial};
-    ghost use Rattle.kp_model.specs.Local.{elected};
+    ghost use Rattle.kp_model.specs.Local.{elected, has_epoch};
     ghost use Rattle.kp_model.specs.Step.{elect_cause};
     ghost use Rattle.kp_control.specs.Set.{record_of};
 
@@ -85,6 +85,16 @@ impl LeaderAndIsr {
             leader: None,
             isr: NodeSet::first(count),
             version: 0,
+        }
+    }
+
+    /// Whether a leader has been elected in this epoch and none after it.
+    pub fn has_epoch(&self, epoch: Option<Epoch>) -> bool
+        ensures { result ≡ has_epoch (record_of self.now) epoch }
+    {
+        match self.leader {
+            None => false,
+            Some(leader) => Some(leader.epoch) == epoch,
         }
     }
 
