@@ -9,3 +9,7 @@ pub mod Reports
 pub mod Offered
 pub mod Asks
 pub mod Serves
+pub mod Behind
+pub mod Places
+pub mod Cuts
+pub mod Takes

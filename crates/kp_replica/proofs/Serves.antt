@@ -22,58 +22,12 @@ use Rattle.kp_model.specs.declared.message.FetchRequest.{FetchRequest}
 use Rattle.kp_model.specs.declared.message.EpochRequest.{EpochRequest}
 use Rattle.kp_log.specs.Refusals.{read_cause}
 use Rattle.kp_insync.specs.Reports.{with_report}
+use Rattle.kp_model.proofs.Letters.{AsksFrom, asks_from, AsksFor, asks_for}
 use Rattle.kp_model.proofs.Logs.{boundary_within}
 use Rattle.kp_model.proofs.Sending.{serves}
 use Rattle.kp_model.proofs.Steps.{was_refused, lacked_memory}
 use Rattle.kp_replica.specs.Member.{Member, Does, HasReports}
 use Rattle.kp_replica.specs.Sending.{DoesSending}
-
--- ---- what a request's letter says
-
-from_end : Asking → ℕ
-from_end (From offset) = offset
-from_end (ForEpoch epoch) = 0
-
-for_epoch : Asking → Option ℕ
-for_epoch (From offset) = None
-for_epoch (ForEpoch epoch) = epoch
-
-is_from : Asking → Bool
-is_from (From offset) = true
-is_from (ForEpoch epoch) = false
-
-fetching_by : (offset : ℕ) (epoch : Option ℕ) (b : Bool) → is_from (if b then From offset else ForEpoch epoch) ≡ b
-unfolding is_from
-fetching_by offset epoch true = refl
-fetching_by offset epoch false = refl
-
--- the request asks for the batches from this offset on
-record AsksFrom (q : Request) (offset : ℕ) : Type 0 where
-  fetching : q.fetching ≡ true
-  end : end_of q.log ≡ offset
-
-asks_from : (q : Request) (offset : ℕ) → asking_of q ≡ From offset → AsksFrom q offset
-unfolding is_from from_end
-asks_from q offset e =
-    let fetching : q.fetching ≡ true = sym (fetching_by (end_of q.log) (last_epoch q.log) q.fetching) ∙ ap is_from e in
-    record {
-      fetching = fetching;
-      end = sym (ap (λ (b : Bool). from_end (if b then From (end_of q.log) else ForEpoch (last_epoch q.log))) fetching) ∙ ap from_end e;
-    }
-
--- the request asks where this epoch ends
-record AsksFor (q : Request) (epoch : Option ℕ) : Type 0 where
-  fetching : q.fetching ≡ false
-  last : last_epoch q.log ≡ epoch
-
-asks_for : (q : Request) (epoch : Option ℕ) → asking_of q ≡ ForEpoch epoch → AsksFor q epoch
-unfolding is_from for_epoch
-asks_for q epoch e =
-    let fetching : q.fetching ≡ false = sym (fetching_by (end_of q.log) (last_epoch q.log) q.fetching) ∙ ap is_from e in
-    record {
-      fetching = fetching;
-      last = sym (ap (λ (b : Bool). for_epoch (if b then From (end_of q.log) else ForEpoch (last_epoch q.log))) fetching) ∙ ap for_epoch e;
-    }
 
 -- ---- refusals
 

@@ -4,3 +4,6 @@ pub mod Kept
 pub mod Replies
 pub mod Offers
 pub mod Sending
+pub mod Adopting
+pub mod Taking
+pub mod Cutting

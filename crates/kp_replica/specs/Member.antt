@@ -1,8 +1,8 @@
 -- A node of the model with its number, and what it is that a call does.
-use Rattle.std.specs.Prelude.{◌≡◌, ℕ, ◌+◌, ◌<◌, ◌≤◌, ◌^◌, List, [], Some, unwrap_or}
+use Rattle.std.specs.Prelude.{◌≡◌, ℕ, ◌+◌, ◌<◌, ◌≤◌, ◌^◌, List, Some, unwrap_or}
 use Rattle.kp_types.specs.declared.limits.Limits.{Limits}
 use Rattle.kp_model.specs.Log.{Batch, IsBoundary}
-use Rattle.kp_model.specs.World.{LeaderAndIsr, Mode, Down, Idle, Leads, Follows, Node, report_of}
+use Rattle.kp_model.specs.World.{LeaderAndIsr, Mode, Leads, Node, report_of}
 use Rattle.kp_model.specs.Event.{Act, Reply}
 use Rattle.kp_model.specs.Local.{last_epoch}
 use Rattle.kp_model.specs.Calls.{DoesUnder as NodeDoesUnder}
@@ -25,16 +25,12 @@ DoesUnder controller old new act reply = NodeDoesUnder controller old.number old
 abbrev pub Does : Member → Member → Act → Reply → Type 0
 Does old new act reply = (controller : LeaderAndIsr) → DoesUnder controller old new act reply
 
--- The node's log has no epoch above the node's own; an idle node has had none.
+-- A leader's log has no epoch above the leader's own, which is one that a record has.
 abbrev pub HasEpochs : List Batch → Mode → Type 0
-HasEpochs log Down = ⊥
-HasEpochs log Idle = log ≡ []
 HasEpochs log (Leads l) = (unwrap_or (last_epoch log) 0 ≤ l.epoch) × (l.epoch + 1 < 2 ^ 24)
-HasEpochs log (Follows f) = unwrap_or (last_epoch log) 0 ≤ f.epoch
+HasEpochs log _ = Unit {0}
 
 -- What a node reported to the leader is a boundary of the leader's log.
 abbrev pub HasReports : List Batch → Mode → Type 0
-HasReports log Down = Unit {0}
-HasReports log Idle = Unit {0}
 HasReports log (Leads l) = (m end : ℕ) → report_of l m ≡ Some end → IsBoundary log end
-HasReports log (Follows f) = Unit {0}
+HasReports log _ = Unit {0}

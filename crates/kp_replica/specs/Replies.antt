@@ -7,12 +7,14 @@ use Rattle.kp_batch.specs.Reading.{IsFirstFault}
 use Rattle.kp_model.specs.Log.{Batch, last_offset}
 use Rattle.kp_marker.specs.Marker.{commits}
 use Rattle.kp_marker.specs.declared.parts.Marker.{Marker as HandedMarker}
-use Rattle.kp_model.specs.Event.{Act, Mark, Reply, Refused, NowLeads, NowFollows, At, DuplicateOf, MarkAt}
+use Rattle.kp_model.specs.Event.{Act, Mark, Reply, Refused, NowLeads, NowFollows, At, DuplicateOf, Took, Cut, MarkAt}
 use Rattle.kp_model.specs.Local.{marker_body}
 use Rattle.kp_model.specs.Producers.{sequence_after}
 use Rattle.kp_replica.specs.declared.replica.Role.{Role}
 use Rattle.kp_replica.specs.declared.replica.Role.TheVariants as roles
 use Rattle.kp_replica.specs.declared.replica.Receipt.{Receipt}
+use Rattle.kp_replica.specs.declared.taking.Taken.{Taken}
+use Rattle.kp_replica.specs.declared.cutting.CutBack.{CutBack}
 
 abbrev pub role_reply : Result Role Refusal → Reply
 role_reply (Ok (roles.Leads epoch start)) = NowLeads epoch start
@@ -26,6 +28,14 @@ receipt_reply (Err refusal) = Refused refusal
 abbrev pub watermark_reply : Result ℕ Refusal → Reply
 watermark_reply (Ok watermark) = MarkAt watermark
 watermark_reply (Err refusal) = Refused refusal
+
+abbrev pub taken_reply : Result Taken Refusal → Reply
+taken_reply (Ok taken) = Took taken.end taken.watermark
+taken_reply (Err refusal) = Refused refusal
+
+abbrev pub cut_reply : Result CutBack Refusal → Reply
+cut_reply (Ok cut) = Cut cut.end cut.done
+cut_reply (Err refusal) = Refused refusal
 
 -- What the bytes hand in: the batch that they are, or their first fault.
 abbrev pub IsOffer : ℕ → List ℕ → Result Body Refusal → Type 0

@@ -6,11 +6,17 @@
 ghost use Rattle.kp_replica.specs.Offers.{BytesAreAnOffer, OffersAreOne};
 
 mod asking;
+mod cutting;
+mod kept;
 mod producing;
 mod replica;
 mod serving;
+mod taking;
 
+pub use cutting::CutBack;
+pub use kept::KeptNode;
 pub use replica::{Receipt, Replica, Role};
+pub use taking::Taken;
 
 /// All bytes hand in one thing, and only one: a batch, or the refusal of what they are. It costs nothing.
 pub fn bytes_are_an_offer()

@@ -11,15 +11,15 @@ use Rattle.kp_replica.proofs.Calls.{stale, adopted_leads, adopted_follows}
 use Rattle.kp_replica.proofs.Ups.{is_up}
 use Rattle.kp_replica.proofs.replica.Replica.adopt.Goals as goal
 
-pub returns-in_default : goal.returns-in_default
-returns-in_default c =
+pub returns-in_default-clause-event : goal.returns-in_default-clause-event
+returns-in_default-clause-event c = λ within.
     let r = record_of c.args.controller.now in
     let m = member_of c.self.inside in
     subst (λ (x : Member). DoesUnder r x x Adopt (Refused refusals.StaleRecord)) c.self.view_is
     (stale r m.number m.state (is_up c.self.inside.mode) c.in_default.ensures, (refl, refl))
 
-pub returns-then-node-self : goal.returns-then-node-self
-returns-then-node-self c =
+pub returns-then-node-self-clause-event : goal.returns-then-node-self-clause-event
+returns-then-node-self-clause-event c = λ within.
     let r = record_of c.args.controller.now in
     let m = member_of c.self.inside in
     let l = leader_of c.in-Some.leader in
@@ -30,8 +30,8 @@ returns-then-node-self c =
     (subst (λ (s : ℕ). P m s c.new.result) (sym c.end_offset-start.ensures.value)
     (subst (λ (rs : List (Option ℕ)). P m (end_of m.state.log) rs) (sym c.new.ensures) (done, (refl, refl))))
 
-pub returns : goal.returns
-returns c =
+pub returns-clause-event : goal.returns-clause-event
+returns-clause-event c = λ within.
     let r = record_of c.args.controller.now in
     let m = member_of c.self.inside in
     let l = leader_of c.in-Some.leader in

@@ -10,7 +10,6 @@ use Rattle.kp_model.specs.Event.{Raise, Refused, MarkAt}
 use Rattle.kp_replica.specs.Member.{Member, Does, HasEpochs, HasReports}
 use Rattle.kp_replica.specs.Modes.{mode_of, leading_of}
 use Rattle.kp_replica.specs.Kept.{member_of}
-use Rattle.kp_replica.proofs.Boundaries.{AreAbove, above_left}
 use Rattle.kp_replica.proofs.Calls.{raises}
 use Rattle.kp_replica.proofs.Reports.{raised_boundary}
 use Rattle.kp_replica.proofs.Ups.{leads_not}
@@ -35,11 +34,12 @@ invariant_of-self c =
     (c.max-watermark.ensures ∙ ap (λ (o : ℕ). max m.state.watermark o) c.unwrap_or.ensures) in
     record {
       entries = c.settle.ensures.kept;
-      unsettled = subst (AreAbove mark) (sym c.settle.ensures.left) (above_left mark c.self.inside.entries);
       epochs = subst (λ (log : List Batch). HasEpochs log m.state.mode) same c.self.invariant.epochs;
       reports = subst (λ (log : List Batch). HasReports log m.state.mode) same c.self.invariant.reports;
       boundary = subst (λ (log : List Batch). IsBoundary log mark) same raised.0;
       settled = c.settle.ensures.reached raised.0 (omega (arith, c.self.invariant.settled, raised.1));
+      checkpoint = subst (λ (log : List Batch). IsBoundary log m.state.checkpoint) same c.self.invariant.checkpoint;
+      passed = omega (arith, c.self.invariant.passed, raised.1);
     }
 
 pub returns : goal.returns

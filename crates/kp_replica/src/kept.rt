@@ -1,0 +1,69 @@
+//! A node that is down.
+
+ghost use Rattle.std.specs.Prelude.{◌≡◌};
+
+use kp_log::{Kept, PartitionLog};
+use kp_types::{NodeId, Offset};
+use std::marker::Model;
+
+/// A node that is down, with its number: what it keeps until it is restarted. Dropped, it is gone.
+#[derive(Drop)]
+pub struct KeptNode {
+    pub(crate) number: NodeId,
+    pub(crate) kept: Kept,
+    pub(crate) watermark: Offset,
+    pub(crate) life: u64,
+}
+
+impl Model for KeptNode {
+    ghost use Rattle.kp_replica.specs.Member.{Member};
+    ghost use Rattle.kp_replica.specs.Kept.{kept_member, IsKeptWhole};
+
+    ghost Value = { Member };
+
+    ghost view = { kept_member };
+
+    ghost invariant = { IsKeptWhole };
+}
+
+impl KeptNode {
+    ghost use Rattle.std.specs.Prelude.{◌≡◌, ◌≤◌, true};
+    ghost use Rattle.kp_model.specs.Log.{IsBoundary};
+    ghost use Rattle.kp_model.specs.Local.{is_down};
+
+    /// The node's log, settled up to the high watermark at which the node went down, which is a boundary of it. O(1).
+    pub fn log(&self) -> &PartitionLog
+        ensures value { result.now ≡ record {
+          limits = self.now.limits;
+          log = self.now.state.log;
+          settled = self.now.state.watermark;
+        } }
+        ensures boundary { IsBoundary self.now.state.log self.now.state.watermark }
+        ensures down { is_down self.now.state.mode ≡ true }
+    {
+        self.kept.log()
+    }
+
+    /// The high watermark at which the node went down. O(1).
+    pub fn watermark(&self) -> Offset
+        ensures { result ≡ self.now.state.watermark }
+    {
+        self.watermark
+    }
+
+    /// The high watermark from which the node would start again: a boundary of the log, not above the watermark. O(1).
+    pub fn checkpoint(&self) -> Offset
+        ensures value { result ≡ self.now.state.checkpoint }
+        ensures boundary { IsBoundary self.now.state.log self.now.state.checkpoint }
+        ensures passed { result ≤ self.now.state.watermark }
+    {
+        self.kept.start_offset()
+    }
+
+    /// How often the node has been restarted. O(1).
+    pub fn life(&self) -> u64
+        ensures { result ≡ self.now.state.life }
+    {
+        self.life
+    }
+}
