@@ -20,8 +20,8 @@ use Rattle.kp_replica.specs.Offers.{BytesAreAnOffer}
 use Rattle.kp_world.specs.Answers.{outcome_of}
 use Rattle.kp_world.specs.Events.{AreEvents}
 use Rattle.kp_world.specs.declared.event.Event.{Event as CodeEvent}
-use Rattle.kp_world.specs.Laws.{MayCome, RunsGoOn}
-use Rattle.kp_world.specs.Plays.{IsReached, events_of, outcomes_of}
+use Rattle.kp_world.specs.Laws.{MayCome, PlaysGoOn}
+use Rattle.kp_world.specs.Plays.{IsReached, LeadOn, events_of, outcomes_of}
 use Rattle.kp_world.specs.Shown.{IsShown, Stage}
 use Rattle.kp_world.specs.declared.event.Answer.{Answer}
 use Rattle.kp_world.proofs.Playing.{answered, nothing_answered, reached_none}
@@ -67,14 +67,13 @@ as_many count calls es os r told p q =
 
 -- the events that the calls tell lead on
 pub leads_on : (calls : List (ℕ × Call)) (events shown : List CodeEvent) (answers : List (Result Answer Refusal)) (old new : Stage) → TellsAll largest_batch (asked calls) events → shown ≡ events
-    → ((count : ℕ) (limits : Limits) (before es : List Event) (earlier : List (Result Answer Refusal)) → IsReached count limits before earlier old → AreEvents limits.max_batch shown es
-    → IsReached count limits (before ++ es) (earlier ++ answers) new) → LeadTo calls old new answers
+    → ((limits : Limits) (es : List Event) → AreEvents limits.max_batch shown es → LeadOn limits old es answers new) → LeadTo calls old new answers
 leads_on calls events shown answers old new tells same played =
     record {
       events = tells.es;
       told = tells.told;
-      reach = λ count limits before earlier batch reached.
-          played count limits before tells.es earlier reached
+      reach = λ limits batch.
+          played limits tells.es
           (subst (λ (max : ℕ). AreEvents max shown tells.es) (sym batch) (subst (λ (all : List CodeEvent). AreEvents largest_batch all tells.es) (sym same) tells.are));
     }
 
@@ -185,7 +184,7 @@ led count done calls old new refused known mid p answers lead =
     let before : length (numbered done) ≡ length (map outcome_of p.answers) =
     as_many count done p.events (map outcome_of p.answers) p.reached.run p.told p.reached.events_are p.reached.outcomes_are in (
       told,
-      lead.reach count p.limits p.events p.answers p.batch p.reached,
+      lead.reach p.limits p.batch count p.events p.answers p.reached,
       ap (λ (xs : List (ℕ × ℕ)). trace_text xs (map outcome_of (p.answers ++ answers))) (map-append _ done calls)
           ∙ ap (λ (os : List Outcome). trace_text (numbered done ++ numbered calls) os) (map-append outcome_of p.answers answers)
           ∙ trace_append (numbered done) (numbered calls) (map outcome_of p.answers) (map outcome_of answers) before,
@@ -261,7 +260,7 @@ pub record Whole (count : ℕ) (calls : List (ℕ × Call)) (text : List ℕ) : 
   pub refused : ℕ
   pub trace : IsTraceOf count calls (text ++ rest) refused
 
-pub whole : RunsGoOn → BytesAreAnOffer → (count : ℕ) (calls done others : List (ℕ × Call)) (text : List ℕ) (refused : ℕ) → calls ≡ done ++ others
+pub whole : PlaysGoOn → BytesAreAnOffer → (count : ℕ) (calls done others : List (ℕ × Call)) (text : List ℕ) (refused : ℕ) → calls ≡ done ++ others
     → AllByRecursion (λ call. IsCall count call.1) others → IsTraceOf count done text refused → Whole count calls text
 whole go offers count calls done others text refused calls_are lawful t =
     let tellings = all_told offers count others lawful in
@@ -294,14 +293,14 @@ abbrev pub Front : (count : ℕ) (calls : List (ℕ × Call)) → Option (List �
 Front count calls old new = (text : List ℕ) × (refused : ℕ) × IsTraceOf count calls text refused × AppendsFront old new text
 
 -- whole lines
-pub whole_lines : RunsGoOn → BytesAreAnOffer → (count : ℕ) (calls done others : List (ℕ × Call)) (text : List ℕ) (refused : ℕ) (old now : Option (List ℕ)) → calls ≡ done ++ others
+pub whole_lines : PlaysGoOn → BytesAreAnOffer → (count : ℕ) (calls done others : List (ℕ × Call)) (text : List ℕ) (refused : ℕ) (old now : Option (List ℕ)) → calls ≡ done ++ others
     → AllByRecursion (λ call. IsCall count call.1) others → IsTraceOf count done text refused → Appends old now text → Front count calls old now
 whole_lines go offers count calls done others text refused old now calls_are lawful t out =
     let all = whole go offers count calls done others text refused calls_are lawful t in
     (text ++ all.rest, all.refused, all.trace, front_behind old now now text [] all.rest out (0, Appends-nil now))
 
 -- and the beginning of another few
-pub begun_lines : RunsAreSafe → RunsGoOn → BytesAreAnOffer → (count : ℕ) (all done calls others : List (ℕ × Call)) (stage : Stage) (refused : ℕ) (old mid now : Option (List ℕ))
+pub begun_lines : RunsAreSafe → PlaysGoOn → BytesAreAnOffer → (count : ℕ) (all done calls others : List (ℕ × Call)) (stage : Stage) (refused : ℕ) (old mid now : Option (List ℕ))
     → all ≡ done ++ (calls ++ others) → AllByRecursion (λ call. IsCall count call.1) others → HasPlayed count done stage refused old mid → BeginFrom calls stage mid now → Front count all old now
 begun_lines safe go offers count all done calls others stage refused old mid now all_are lawful p q =
     let next = led count done calls stage q.new refused old mid p q.answers q.lead in

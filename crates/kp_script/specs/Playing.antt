@@ -1,12 +1,12 @@
 -- What playing some of a script's calls does to the world and to the trace.
-use Rattle.std.specs.Prelude.{◌≡◌, ℕ, List, ◌++◌, map, Option, Result}
+use Rattle.std.specs.Prelude.{◌≡◌, ℕ, List, map, Option, Result}
 use Rattle.std.specs.Io.KnownBytes.{Appends}
 use Rattle.kp_types.specs.declared.limits.Limits.{Limits}
 use Rattle.kp_types.specs.declared.refusal.Refusal.{Refusal}
 use Rattle.kp_types.specs.Devices.{AppendsFront}
 use Rattle.kp_model.specs.Event.{Event}
 use Rattle.kp_world.specs.Answers.{outcome_of}
-use Rattle.kp_world.specs.Plays.{IsReached}
+use Rattle.kp_world.specs.Plays.{LeadOn}
 use Rattle.kp_world.specs.Shown.{Stage}
 use Rattle.kp_world.specs.declared.event.Answer.{Answer}
 use Rattle.kp_script.specs.Call.{Call}
@@ -18,9 +18,7 @@ use Rattle.kp_script.specs.Transcript.{largest_batch, numbered, refusals_in}
 pub record LeadTo (calls : List (ℕ × Call)) (old new : Stage) (answers : List (Result Answer Refusal)) : Type 0 where
   pub events : List Event
   pub told : AreTold largest_batch (map (λ call. call.1) calls) events
-  pub reach :
-      (count : ℕ) (limits : Limits) (before : List Event) (earlier : List (Result Answer Refusal)) → limits.max_batch ≡ largest_batch
-      → IsReached count limits before earlier old → IsReached count limits (before ++ events) (earlier ++ answers) new
+  pub reach : (limits : Limits) → limits.max_batch ≡ largest_batch → LeadOn limits old events answers new
 
 -- And the known bytes grew by the trace of these calls; so many of the events were refused.
 pub record PlayTo (calls : List (ℕ × Call)) (old new : Stage) (refused : ℕ) (before after : Option (List ℕ)) : Type 0 where

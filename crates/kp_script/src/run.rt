@@ -110,7 +110,7 @@ pub fn run_script<R: Read, W: Write>(
     ensures counted { CountsOne result (faults_of reader.old) (faults_of reader.new)
         (faults_of writer.old) (faults_of writer.new) }
 {
-    kp_world::runs_go_on();
+    kp_world::plays_go_on();
     kp_model::runs_are_safe();
     kp_replica::bytes_are_an_offer();
     let input = reader.read_all(alloc)?;

@@ -17,7 +17,7 @@ use Rattle.kp_model.specs.Local.{Adopts, Effect, Local, LocalBy, Raises, WhereLe
 use Rattle.kp_model.specs.Run.{Moment, Run, extend, last}
 use Rattle.kp_model.proofs.RunLaws.{last_is_of}
 use Rattle.kp_model.specs.Step.{ElectsBy, IsGiven, Step, answered, elect_cause, moved, told}
-use Rattle.kp_world.specs.Laws.{IsAsked, MayCome, RunsGoOn}
+use Rattle.kp_world.specs.Laws.{IsAsked, MayCome, PlaysGoOn}
 use Rattle.kp_world.specs.Plays.{events_of, outcomes_of}
 
 -- an answer to an event, and the world after it
@@ -141,7 +141,7 @@ goes_on count events (e ∷ more) outcomes r counted es os come =
       outcomes_are = rest.outcomes_are ∙ append_assoc outcomes (next.outcome ∷ []) rest.added;
     }
 
-pub runs_go_on : RunsAreSafe → RunsKeepCount → RunsGoOn
-runs_go_on safe keeps count events more outcomes played come =
+pub plays_go_on : RunsAreSafe → RunsKeepCount → PlaysGoOn
+plays_go_on safe keeps count events more outcomes played come =
     let rest = goes_on count events more outcomes played.run (keeps count played.run (last played.run) (last_is_of count played.run)) played.events_are played.outcomes_are come in
     (rest.added, record { run = rest.run; events_are = rest.events_are; outcomes_are = rest.outcomes_are; safe = safe count rest.run })

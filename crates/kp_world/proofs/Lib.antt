@@ -1,6 +1,6 @@
-pub mod Moved
 pub mod Mapped
 pub mod Playing
+pub mod Moved
 pub mod Lines
 pub mod Places
 pub mod ReadBelow

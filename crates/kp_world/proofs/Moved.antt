@@ -1,22 +1,30 @@
--- A node's call is a step of every world that is shown.
-use Rattle.std.proofs.Common.{◌≡◌, ℕ, ◌<◌, true, false, cond, eqb, List, length, set, get_or, None, Option, Result, Ok, refl, sym, ap, ◌∙◌, subst, arith, inl, inr, length-set}
+-- What a node or the controller does leads on from each run that was reached.
+use Rattle.std.proofs.Common.{◌≡◌, ℕ, ◌<◌, ◌≤◌, true, false, cond, eqb, List, [], ◌∷◌, length, set, get_or, None, Some, Option, Result, Ok, Err, refl, sym, ap, ◌∙◌, subst, arith, inl, inr, length-set}
+use Rattle.std.specs.Prelude.{unwrap_or}
 use Rattle.std.proofs.lemmas.List.{get_or-set_same, get_or-set_other}
 use Rattle.std.proofs.lemmas.Bool.{eq-eqb, ne_eqb, cases_eq}
 use Rattle.kp_types.specs.declared.limits.Limits.{Limits}
 use Rattle.kp_types.specs.declared.refusal.Refusal.{Refusal}
 use Rattle.kp_model.specs.Log.{end_of}
 use Rattle.kp_model.specs.Transactions.{stable}
-use Rattle.kp_model.specs.World.{LeaderAndIsr, Node, World, with_record}
-use Rattle.kp_model.specs.Event.{Act, Show, Elect, Acts, Changed, Shown}
-use Rattle.kp_model.specs.Local.{Effect, Local, is_down, becomes, elected}
+use Rattle.kp_model.specs.World.{Leader, LeaderAndIsr, Node, World, with_record}
+use Rattle.kp_model.specs.Event.{Act, Show, Elect, Acts, Changed, Refused, Shown}
+use Rattle.kp_model.specs.Laws.{EpochsAreElected}
+use Rattle.kp_model.specs.Local.{Effect, Local, is_down, becomes, elected, last_epoch}
+use Rattle.kp_model.specs.Run.{Run, last}
 use Rattle.kp_model.specs.Step.{ElectsBy, moved, told, IsGiven, elect_cause}
+use Rattle.kp_replica.specs.Adopting.{IsWithin}
 use Rattle.kp_replica.specs.Member.{Member, DoesUnder}
 use Rattle.kp_control.specs.Set.{record_of}
 use Rattle.kp_control.specs.declared.record.LeaderAndIsr.{LeaderAndIsr as CodeRecord}
 use Rattle.kp_world.specs.Answers.{reply_of}
 use Rattle.kp_world.specs.declared.event.Answer.{Answer}
 use Rattle.kp_world.specs.declared.event.Answer.TheVariants as answers
-use Rattle.kp_world.specs.Shown.{IsNode, KeepsReceipt, LeadsOn}
+use Rattle.kp_world.specs.Plays.{LeadOn}
+use Rattle.kp_world.specs.Shown.{IsNode, KeepsReceipt, Stage}
+use Rattle.kp_world.proofs.Playing.{reached_more}
+use Rattle.kp_model.proofs.LogEpochs.{last_occurs}
+use Rattle.kp_model.proofs.RunLaws.{last_is_of}
 use Rattle.kp_model.proofs.Steps.{happened}
 
 -- node n as it is after the call, and the others as they were
@@ -40,46 +48,70 @@ after limits n m members x nodes inside number limits_are state old k d h =
 here : (n : ℕ) (x : Node) (nodes : ℕ → Node) → cond (eqb n n) x (nodes n) ≡ x
 here n x nodes = rw (eq-eqb n n refl) refl
 
+-- no node's log has an epoch above the record's
+within : EpochsAreElected → (count : ℕ) (r : Run count) (n : ℕ) → IsWithin (last r).controller ((last r).nodes n).log
+within elected_all count r n l is = by_last (last_epoch ((last r).nodes n).log) refl
+  where
+    by_last : (o : Option ℕ) → last_epoch ((last r).nodes n).log ≡ o → unwrap_or o 0 ≤ l.epoch
+    by_last None e = omega arith
+    by_last (Some epoch) e =
+        let log = ((last r).nodes n).log in
+        let by = elected_all count r (last r) (last_is_of count r) log (inl (n, refl)) epoch (last_occurs log epoch e) in
+        let same : by.0 ≡ l = (let both = sym by.1 ∙ is in cc) in
+        subst (λ (k : Leader). epoch ≤ k.epoch) same by.2
+
 -- the node x at place i, which is its number, did this and became m
-pub acted : (limits : Limits) (n i : ℕ) (c : LeaderAndIsr) (members : List Member) (x m : Member) (act : Act) (outcome : Result Answer Refusal) → i ≡ n → n < length members → x ≡ get_or members i x
-    → ((w : World) → IsGiven w.messages act) → (x.limits ≡ limits → DoesUnder c x m act (reply_of outcome)) → KeepsReceipt m.state.log outcome
-    → LeadsOn limits (record { controller = c; members = members }) (Acts n act) outcome (record { controller = c; members = set members i m })
-acted limits n i c members x m act outcome same inside there given did receipt w shown =
+pub acted : EpochsAreElected → (limits : Limits) (n i : ℕ) (c : LeaderAndIsr) (members : List Member) (x m : Member) (act : Act) (outcome : Result Answer Refusal) → i ≡ n
+    → n < length members → x ≡ get_or members i x → ((w : World) → IsGiven w.messages act) → (x.limits ≡ limits → IsWithin c x.state.log → DoesUnder c x m act (reply_of outcome))
+    → KeepsReceipt m.state.log outcome
+    → LeadOn limits (record { controller = c; members = members }) (Acts n act ∷ []) (outcome ∷ []) (record { controller = c; members = set members i m })
+acted elected_all limits n i c members x m act outcome same inside there given did receipt count before earlier p =
+    let w = last p.run in
+    let shown = p.shown in
     let old : IsNode limits n x (w.nodes n) =
     subst (λ (y : Member). IsNode limits n y (w.nodes n)) (sym (there ∙ ap (λ (k : ℕ). get_or members k x) same)) (shown.nodes n x inside) in
-    let does = did old.limits_are in
+    let epochs : IsWithin c x.state.log =
+    subst (λ (k : LeaderAndIsr). IsWithin k x.state.log) shown.controller_is
+    (subst (λ (y : Node). IsWithin w.controller y.log) old.state (within elected_all count p.run n)) in
+    let does = did old.limits_are epochs in
     let e : Effect = becomes c m.state (reply_of outcome) in
     let local : Local w.controller n (w.nodes n) act e =
     subst (λ (k : LeaderAndIsr). Local k n (w.nodes n) act e) (sym shown.controller_is)
     (subst (λ (y : Node). Local c n y act e) (sym old.state) (subst (λ (k : ℕ). Local c k x.state act e) old.number_is does.0)) in
-    record {
-      after = moved w n e;
-      step = record { counted = omega (arith, shown.count); given = given w; effect = e; local = local; outcome_is = refl; new_is = refl };
-      receipt = subst (λ (y : Node). KeepsReceipt y.log outcome) (sym (here n m.state w.nodes)) receipt;
-      shown = record {
-        controller_is = refl;
-        count = shown.count ∙ sym (length-set members i m);
-        nodes =
-            subst (λ (k : ℕ). (j : ℕ) (d : Member) → j < length (set members k m) → IsNode limits j (get_or (set members k m) j d) (cond (eqb j n) m.state (w.nodes j))) (sym same)
-            (after limits n m members m.state w.nodes inside (does.1.0 ∙ old.number_is) (does.1.1 ∙ old.limits_are) refl shown.nodes);
-      };
-    }
+    reached_more count limits before earlier _ _ (Acts n act) outcome p (moved w n e)
+    (record { counted = omega (arith, shown.count); given = given w; effect = e; local = local; outcome_is = refl; new_is = refl })
+    (subst (λ (y : Node). KeepsReceipt y.log outcome) (sym (here n m.state w.nodes)) receipt)
+    (record {
+      controller_is = refl;
+      count = shown.count ∙ sym (length-set members i m);
+      nodes =
+          subst (λ (k : ℕ). (j : ℕ) (d : Member) → j < length (set members k m) → IsNode limits j (get_or (set members k m) j d) (cond (eqb j n) m.state (w.nodes j))) (sym same)
+          (after limits n m members m.state w.nodes inside (does.1.0 ∙ old.number_is) (does.1.1 ∙ old.limits_are) refl shown.nodes);
+    })
 
 -- the controller's record changed by an election
 pub elected_on : (limits : Limits) (n : ℕ) (old new : CodeRecord) (members : List Member) → elect_cause (record_of old) n ≡ None → record_of new ≡ elected (record_of old) n
-    → LeadsOn limits (record { controller = record_of old; members = members }) (Elect n) (Ok (answers.Changed new)) (record { controller = record_of new; members = members })
-elected_on limits n old new members free is w shown =
+    → LeadOn limits (record { controller = record_of old; members = members }) (Elect n ∷ []) (Ok (answers.Changed new) ∷ []) (record { controller = record_of new; members = members })
+elected_on limits n old new members free is count before earlier p =
+    let w = last p.run in
+    let shown = p.shown in
     let c = record_of old in
     let changed = record_of new in
     let r = elected w.controller n in
     let same : r ≡ changed = ap (λ (k : LeaderAndIsr). elected k n) shown.controller_is ∙ sym is in
     let unrefused : elect_cause w.controller n ≡ None = ap (λ (k : LeaderAndIsr). elect_cause k n) shown.controller_is ∙ free in
-    record {
-      after = with_record w r;
-      step = (subst (λ (o : Option Refusal). ElectsBy o w n (told (Changed changed)) (with_record w r)) (sym unrefused) (ap (λ (k : LeaderAndIsr). told (Changed k)) (sym same), refl));
-      receipt = tt;
-      shown = record { controller_is = same; count = shown.count; nodes = shown.nodes };
-    }
+    reached_more count limits before earlier _ _ (Elect n) (Ok (answers.Changed new)) p (with_record w r)
+    (subst (λ (o : Option Refusal). ElectsBy o w n (told (Changed changed)) (with_record w r)) (sym unrefused) (ap (λ (k : LeaderAndIsr). told (Changed k)) (sym same), refl)) tt
+    (record { controller_is = same; count = shown.count; nodes = shown.nodes })
+
+-- or the election was refused
+pub not_elected : (limits : Limits) (n : ℕ) (stage : Stage) (refusal : Refusal) → elect_cause stage.controller n ≡ Some refusal
+    → LeadOn limits stage (Elect n ∷ []) (Err refusal ∷ []) stage
+not_elected limits n stage refusal is count before earlier p =
+    let w = last p.run in
+    let refused : elect_cause w.controller n ≡ Some refusal = ap (λ (k : LeaderAndIsr). elect_cause k n) p.shown.controller_is ∙ is in
+    reached_more count limits before earlier stage stage (Elect n) (Err refusal) p w
+    (subst (λ (o : Option Refusal). ElectsBy o w n (told (Refused refusal)) w) (sym refused) (refl, refl)) tt p.shown
 
 -- a node that is up tells its state
 pub showed : (c : LeaderAndIsr) (n : ℕ) (x : Node) (life end mark held : ℕ) → is_down x.mode ≡ false → life ≡ x.life → end ≡ end_of x.log → mark ≡ x.watermark → held ≡ stable x.log x.watermark

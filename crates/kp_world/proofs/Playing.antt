@@ -1,18 +1,19 @@
 -- A run goes on, event by event.
 use Rattle.std.proofs.Common.{◌≡◌, ℕ, zero, suc, List, [], ◌∷◌, ◌++◌, Result, take, refl, sym, ap, ◌∙◌, subst}
 use Rattle.std.specs.Prelude.{map, reverse}
-use Rattle.std.proofs.lemmas.List.{append-nil, map-append, reverse-append}
+use Rattle.std.proofs.lemmas.List.{append_assoc, append-nil, map-append, reverse-append}
 use Rattle.kp_types.specs.declared.limits.Limits.{Limits}
 use Rattle.kp_types.specs.declared.refusal.Refusal.{Refusal}
-use Rattle.kp_model.specs.World.{start}
+use Rattle.kp_model.specs.World.{World, start}
 use Rattle.kp_model.specs.Event.{Event, Outcome}
 use Rattle.kp_model.specs.Run.{Moment, Run, last, extend, IsSafe}
+use Rattle.kp_model.specs.Step.{Step}
 use Rattle.kp_world.specs.Answers.{outcome_of}
 use Rattle.kp_world.specs.Events.{IsEvent, AreEvents}
 use Rattle.kp_world.specs.declared.event.Answer.{Answer}
 use Rattle.kp_world.specs.declared.event.Event.{Event as CodeEvent}
-use Rattle.kp_world.specs.Plays.{HaveReceipts, IsAnswered, IsReached}
-use Rattle.kp_world.specs.Shown.{HasReceipt, IsShown, LeadsOn, Stage}
+use Rattle.kp_world.specs.Plays.{HaveReceipts, IsAnswered, IsReached, LeadOn}
+use Rattle.kp_world.specs.Shown.{HasReceipt, IsShown, Stage}
 
 -- nothing has happened yet
 pub reached_none : (count : ℕ) (limits : Limits) (stage : Stage) → IsShown limits stage (start count) → IsReached count limits [] [] stage
@@ -28,21 +29,36 @@ receipts-push (x ∷ xs) (o ∷ os) m outcome h one = (h.0, receipts-push xs os 
 
 -- one event more
 pub reached_more : (count : ℕ) (limits : Limits) (es : List Event) (os : List (Result Answer Refusal)) (old new : Stage) (e : Event) (o : Result Answer Refusal)
-    → IsReached count limits es os old → LeadsOn limits old e o new → IsReached count limits (es ++ e ∷ []) (os ++ o ∷ []) new
-reached_more count limits es os old new e o p leads =
-    let next = leads (last p.run) p.shown in
-    let m : Moment = record { event = e; outcome = outcome_of o; after = next.after } in
+    (p : IsReached count limits es os old) (after : World) → Step (last p.run) e (outcome_of o) after → HasReceipt e after o → IsShown limits new after
+    → IsReached count limits (es ++ e ∷ []) (os ++ o ∷ []) new
+reached_more count limits es os old new e o p after step receipt shown =
+    let m : Moment = record { event = e; outcome = outcome_of o; after = after } in
     record {
-      run = extend p.run e (outcome_of o) next.after next.step;
+      run = extend p.run e (outcome_of o) after step;
       events_are =
           reverse-append (e ∷ []) (map (λ (m : Moment). m.event) p.run.moments) ∙ ap (λ (xs : List Event). xs ++ e ∷ []) p.events_are;
       outcomes_are =
           reverse-append (outcome_of o ∷ []) (map (λ (m : Moment). m.outcome) p.run.moments) ∙ ap (λ (xs : List Outcome). xs ++ outcome_of o ∷ []) p.outcomes_are
           ∙ sym (map-append outcome_of os (o ∷ []));
       receipts = subst (λ (ms : List Moment). HaveReceipts ms (os ++ o ∷ [])) (sym (reverse-append (m ∷ []) p.run.moments))
-          (receipts-push (reverse p.run.moments) os m o p.receipts next.receipt);
-      shown = next.shown;
+          (receipts-push (reverse p.run.moments) os m o p.receipts receipt);
+      shown = shown;
     }
+
+-- no events lead on to where the run is
+pub lead_none : (limits : Limits) (stage : Stage) (es : List Event) (os : List (Result Answer Refusal)) → es ≡ [] → os ≡ [] → LeadOn limits stage es os stage
+lead_none limits stage es os no_events no_answers count before earlier p =
+    subst (λ (xs : List Event). IsReached count limits xs (earlier ++ os) stage) (sym (ap (λ (xs : List Event). before ++ xs) no_events ∙ append-nil before))
+    (subst (λ (xs : List (Result Answer Refusal)). IsReached count limits before xs stage)
+    (sym (ap (λ (xs : List (Result Answer Refusal)). earlier ++ xs) no_answers ∙ append-nil earlier)) p)
+
+-- and some events and then others, where both lead
+pub lead_more : (limits : Limits) (old mid new : Stage) (es ds : List Event) (os qs : List (Result Answer Refusal)) → LeadOn limits old es os mid → LeadOn limits mid ds qs new
+    → LeadOn limits old (es ++ ds) (os ++ qs) new
+lead_more limits old mid new es ds os qs first second count before earlier p =
+    subst (λ (xs : List Event). IsReached count limits xs (earlier ++ (os ++ qs)) new) (append_assoc before es ds)
+    (subst (λ (xs : List (Result Answer Refusal)). IsReached count limits ((before ++ es) ++ ds) xs new) (append_assoc earlier os qs)
+    (second count (before ++ es) (earlier ++ os) (first count before earlier p)))
 
 -- what is reached is answered, and safe
 pub answered : (count : ℕ) (limits : Limits) (es : List Event) (os : List (Result Answer Refusal)) (stage : Stage) → ((r : Run count) → IsSafe r) → IsReached count limits es os stage
@@ -84,9 +100,3 @@ AreEvents-push max (x ∷ events) event (e ∷ es) h =
 pub AreEvents-none : (max : ℕ) (es : List Event) → AreEvents max [] es → es ≡ []
 AreEvents-none max [] h = refl
 AreEvents-none max (e ∷ es) h = absurd h
-
--- none before none
-pub reached_again : (count : ℕ) (limits : Limits) (before es : List Event) (os : List (Result Answer Refusal)) (stage : Stage) → es ≡ []
-    → IsReached count limits before os stage → IsReached count limits (before ++ es) os stage
-reached_again count limits before es os stage none h =
-    subst (λ (xs : List Event). IsReached count limits xs os stage) (sym (ap (λ (xs : List Event). before ++ xs) none ∙ append-nil before)) h

@@ -35,8 +35,8 @@ MayCome count (model.Elect node) = Unit {0}
 MayCome count (model.Acts node act) = (node < count) × IsAsked act
 MayCome count (model.Deliver number) = ⊥
 
--- Each run goes on with any such events: there are answers to them.
-abbrev pub RunsGoOn : Type 0
-RunsGoOn =
+-- Each run that is played goes on with any such events: there are answers to them.
+abbrev pub PlaysGoOn : Type 0
+PlaysGoOn =
     (count : ℕ) (events more : List ModelEvent) (outcomes : List Outcome) → IsPlayed count events outcomes →
     AllByRecursion (MayCome count) more → (answers : List Outcome) × IsPlayed count (events ++ more) (outcomes ++ answers)

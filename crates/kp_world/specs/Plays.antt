@@ -1,5 +1,5 @@
 -- A run over events, with its answers.
-use Rattle.std.specs.Prelude.{◌≡◌, ℕ, List, [], ◌∷◌, map, reverse, Result}
+use Rattle.std.specs.Prelude.{◌≡◌, ℕ, List, [], ◌∷◌, ◌++◌, map, reverse, Result}
 use Rattle.kp_types.specs.declared.limits.Limits.{Limits}
 use Rattle.kp_types.specs.declared.refusal.Refusal.{Refusal}
 use Rattle.kp_model.specs.Event.{Event, Outcome}
@@ -41,3 +41,9 @@ pub record IsReached (count : ℕ) (limits : Limits) (events : List Event) (outc
   pub outcomes_are : outcomes_of run ≡ map outcome_of outcomes
   pub receipts : HaveReceipts (reverse run.moments) outcomes
   pub shown : IsShown limits stage (last run)
+
+-- The events lead on with these answers: after whatever led to the old stage they lead to the new one.
+abbrev pub LeadOn : Limits → Stage → List Event → List (Result Answer Refusal) → Stage → Type 0
+LeadOn limits old events outcomes new =
+    (count : ℕ) (before : List Event) (earlier : List (Result Answer Refusal)) → IsReached count limits before earlier old
+    → IsReached count limits (before ++ events) (earlier ++ outcomes) new

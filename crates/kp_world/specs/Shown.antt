@@ -5,10 +5,8 @@ use Rattle.kp_types.specs.declared.refusal.Refusal.{Refusal}
 use Rattle.kp_model.specs.Log.{Batch}
 use Rattle.kp_model.specs.World.{LeaderAndIsr, Node, World}
 use Rattle.kp_model.specs.Event.{Event, Elect, Acts, Deliver}
-use Rattle.kp_model.specs.Step.{Step}
 use Rattle.kp_replica.specs.Member.{Member}
 use Rattle.kp_replica.specs.Replies.{IsNamedBy}
-use Rattle.kp_world.specs.Answers.{outcome_of}
 use Rattle.kp_world.specs.declared.event.Answer.{Answer}
 use Rattle.kp_world.specs.declared.event.Answer.TheVariants.{Appended}
 
@@ -40,14 +38,3 @@ abbrev pub HasReceipt : Event → World → Result Answer Refusal → Type 0
 HasReceipt (Elect n) w outcome = Unit {0}
 HasReceipt (Acts n act) w outcome = KeepsReceipt (w.nodes n).log outcome
 HasReceipt (Deliver number) w outcome = Unit {0}
-
--- From each world that was shown the event leads, with this answer, to one that is shown now, in which a receipt's batch
--- stands.
-pub record Leads (limits : Limits) (w : World) (event : Event) (outcome : Result Answer Refusal) (stage : Stage) : Type 0 where
-  pub after : World
-  pub step : Step w event (outcome_of outcome) after
-  pub receipt : HasReceipt event after outcome
-  pub shown : IsShown limits stage after
-
-abbrev pub LeadsOn : Limits → Stage → Event → Result Answer Refusal → Stage → Type 0
-LeadsOn limits old event outcome new = (w : World) → IsShown limits old w → Leads limits w event outcome new

@@ -4,6 +4,7 @@ ghost use Rattle.std.specs.Prelude.{◌≡◌, IfOk, List, Ok, OnErr};
 ghost use Rattle.kp_model.specs.Log.{Batch};
 ghost use Rattle.kp_model.specs.Event.{Act as ModelAct};
 ghost use Rattle.kp_control.specs.Set.{record_of};
+ghost use Rattle.kp_replica.specs.Adopting.{IsWithin};
 ghost use Rattle.kp_replica.specs.Member.{DoesUnder};
 ghost use Rattle.kp_model.specs.Event.{Show as ShowState};
 ghost use Rattle.kp_replica.specs.Member.{Does};
@@ -31,8 +32,9 @@ fn shown(replica: &Replica) -> Answer
     }
 }
 
-/// The node does this, under this record of the controller. An `Err` says that bytes couldn't be shared, and nothing has
-/// happened. The cost is that of the `Replica`'s call, or of what is read.
+/// The node does this, under this record of the controller, where its log has no epoch above the record's, as no log of
+/// a run has. An `Err` says that bytes couldn't be shared, and nothing has happened. The cost is that of the `Replica`'s
+/// call, or of what is read.
 pub(crate) fn act(
     alloc: Global,
     controller: &LeaderAndIsr,
@@ -42,6 +44,7 @@ pub(crate) fn act(
     requires { HandsMarker act.now }
     ensures does { IfOk result (λ outcome. (a : ModelAct)
         → IsAct replica.old.limits.max_batch act.now a
+        → IsWithin (record_of controller.now) replica.old.state.log
         → DoesUnder (record_of controller.now) replica.old replica.new a (reply_of outcome)) }
     ensures receipt { IfOk result (KeepsReceipt replica.new.state.log) }
     ensures err { OnErr result (replica.new ≡ replica.old) }

@@ -3,7 +3,7 @@
 //! and that every run is safe: what once lay below a high watermark stays, at its offset, for ever.
 #![tactic(auto)]
 
-ghost use Rattle.kp_world.specs.Laws.{EventsAreTold, EventsAreToldOnce, RunsGoOn};
+ghost use Rattle.kp_world.specs.Laws.{EventsAreTold, EventsAreToldOnce, PlaysGoOn};
 
 mod acting;
 mod event;
@@ -24,10 +24,10 @@ pub fn events_are_told()
     kp_replica::bytes_are_an_offer();
 }
 
-/// Every run goes on: whatever events of these come next, there are answers to them, so that a run over the first
-/// events of a list is the beginning of one over all of them. It costs nothing.
-pub fn runs_go_on()
-    ensures { RunsGoOn }
+/// Every run that is played goes on: whatever events of these come next, there are answers to them, so that a run over the
+/// first events of a list is the beginning of one over all of them. It costs nothing.
+pub fn plays_go_on()
+    ensures { PlaysGoOn }
 {
     kp_model::runs_are_safe();
     kp_model::runs_keep_count();

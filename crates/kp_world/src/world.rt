@@ -1,17 +1,15 @@
 //! The controller's record, the nodes, and a run over events.
 
-ghost use Rattle.std.specs.Prelude.{◌≡◌, ◌+◌, ◌<◌, ◌≤◌, ℕ, List, [], ◌∷◌, ◌++◌, length, map, take, IfOk, IfErr, OnErr, OnOk, Result};
+ghost use Rattle.std.specs.Prelude.{◌≡◌, ◌+◌, ◌<◌, ◌≤◌, ℕ, List, [], ◌∷◌, length, map, take, IfOk, IfErr, OnErr, OnOk};
 ghost use Rattle.std.specs.List.{AllByRecursion};
 ghost use Rattle.kp_types.specs.declared.limits.Limits.{Limits as LogLimits};
-ghost use Rattle.kp_types.specs.declared.refusal.Refusal.{Refusal as EventRefusal};
 ghost use Rattle.kp_model.specs.World.{start};
 ghost use Rattle.kp_model.specs.Event.{Event as ModelEvent, Elect as ModelElect};
 ghost use Rattle.kp_control.specs.Set.{record_of};
 ghost use Rattle.kp_world.specs.Answers.{outcome_of};
-ghost use Rattle.kp_world.specs.declared.event.Answer.{Answer as EventAnswer};
 ghost use Rattle.kp_world.specs.Events.{AreEvents, HasMarker, IsEvent, node_of};
-ghost use Rattle.kp_world.specs.Plays.{IsAnswered, IsReached};
-ghost use Rattle.kp_world.specs.Shown.{IsShown, LeadsOn};
+ghost use Rattle.kp_world.specs.Plays.{IsAnswered, LeadOn};
+ghost use Rattle.kp_world.specs.Shown.{IsShown};
 
 use crate::acting::act;
 use crate::event::{Answer, Event, Stopped, Trace};
@@ -57,7 +55,7 @@ impl World {
     /// The controller elects a node.
     fn elect(&mut self, node: NodeId) -> Result<Answer, Refusal>
         ensures step { (limits : LogLimits)
-            → LeadsOn limits self.old (ModelElect node) result self.new }
+            → LeadOn limits self.old (ModelElect node ∷ []) (result ∷ []) self.new }
         ensures count { length self.new.members ≡ length self.old.members }
     {
         let changed = self.controller.elected(node)?;
@@ -71,10 +69,11 @@ impl World {
         requires marker { HasMarker event.now }
         ensures step { IfOk result (λ outcome. (limits : LogLimits) (e : ModelEvent)
             → IsEvent limits.max_batch event.now e
-            → LeadsOn limits self.old e outcome self.new) }
+            → LeadOn limits self.old (e ∷ []) (outcome ∷ []) self.new) }
         ensures err { OnErr result (self.new ≡ self.old) }
         ensures count { length self.new.members ≡ length self.old.members }
     {
+        kp_model::epochs_are_elected();
         match event {
             Event::Elect { node } => Ok(self.elect(*node)),
             Event::Acts { node, act: what } => {
@@ -99,16 +98,12 @@ impl World {
         requires nodes { AllByRecursion (λ event.
             node_of event < length self.old.members) events.now }
         requires markers { AllByRecursion HasMarker events.now }
-        ensures played { OnOk result ((count : ℕ) (limits : LogLimits) (before es : List ModelEvent)
-            (earlier : List (Result EventAnswer EventRefusal))
-            → IsReached count limits before earlier self.old
+        ensures played { OnOk result ((limits : LogLimits) (es : List ModelEvent)
             → AreEvents limits.max_batch events.now es
-            → IsReached count limits (before ++ es) (earlier ++ outcomes.new.items) self.new) }
-        ensures stopped { OnErr result ((count : ℕ) (limits : LogLimits) (before es : List ModelEvent)
-            (earlier : List (Result EventAnswer EventRefusal))
-            → IsReached count limits before earlier self.old
+            → LeadOn limits self.old es outcomes.new.items self.new) }
+        ensures stopped { OnErr result ((limits : LogLimits) (es : List ModelEvent)
             → AreEvents limits.max_batch events.now es
-            → (k : ℕ) × IsReached count limits (before ++ take k es) (earlier ++ outcomes.new.items) self.new) }
+            → (k : ℕ) × LeadOn limits self.old (take k es) outcomes.new.items self.new) }
         ensures answered { OnOk result (length outcomes.new.items ≡ length events.now) }
         ensures count { length self.new.members ≡ length self.old.members }
     {

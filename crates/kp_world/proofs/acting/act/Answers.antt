@@ -30,7 +30,7 @@ in_other_words c old new left a b outcome made reply act same is replied h =
     (subst (λ (r : model.Reply). DoesUnder c old left b r) (sym (ap reply_of is ∙ replied)) h))
 
 pub returns-clause-does : goal.returns-clause-does
-returns-clause-does c = λ a is.
+returns-clause-does c = λ a is within.
     let r = record_of c.args.controller.now in
     let old = c.args.replica.now in
     let max = old.limits.max_batch in
@@ -39,7 +39,7 @@ returns-clause-does c = λ a is.
           in_other_words r old c.match-act.replica w.adopt.new.self a model.Adopt c.match-act.outcome w.map-outcome.result (role_reply w.adopt.result)
           (subst (λ (x : Act). IsAct max x a) w.in-Adopt.is is) w.replica-is w.outcome-is
           (mapped Role answers.Adopted role_reply _ w.adopt.result w.map-outcome.result (λ x a h. h) (λ x. refl) (λ f. refl) w.map-outcome.ensures.cases)
-          w.adopt.ensures
+          (w.adopt.ensures.event within)
       | in-Produce+in_ok-shared-in-Produce w ↦
           (let made = subst (λ (x : Act). IsAct max x a) w.in-Produce.is is in
           let offered = subst (λ (bytes : List ℕ). IsOffer max bytes made.0) (sym w.in_ok-shared-in-Produce.ensures) made.1 in

@@ -26,12 +26,12 @@ started c = reached_none c.args.count c.args.limits.now c.in-Ok.world c.in-Ok.en
 pub returns-in-Ok-played-clause-played : goal.returns-in-Ok-played-clause-played
 returns-in-Ok-played-clause-played c = λ es are.
     answered c.args.count c.args.limits.now es c.play-played.new.outcomes.items c.play-played.new.self (c.runs_are_safe.ensures c.args.count)
-    (c.in-Ok-played.ensures.played c.args.count c.args.limits.now [] es [] (started ((goal.at.returns-in-Ok-played-clause-played c).In-Ok)) are)
+    (c.in-Ok-played.ensures.played c.args.limits.now es are c.args.count [] [] (started ((goal.at.returns-in-Ok-played-clause-played c).In-Ok)))
 
 pub returns-clause-stopped : goal.returns-clause-stopped
 returns-clause-stopped c = λ es are.
-    let so_far = c.in-Err.ensures.stopped c.args.count c.args.limits.now [] es [] (started ((goal.at.returns-clause-stopped c).In-Ok)) are in (
+    let so_far = c.in-Err.ensures.stopped c.args.limits.now es are in (
       so_far.0,
       answered c.args.count c.args.limits.now (take so_far.0 es) c.play-played.new.outcomes.items c.play-played.new.self
-          (c.runs_are_safe.ensures c.args.count) so_far.1,
+          (c.runs_are_safe.ensures c.args.count) (so_far.1 c.args.count [] [] (started ((goal.at.returns-clause-stopped c).In-Ok))),
     )
