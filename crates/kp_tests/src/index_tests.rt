@@ -1,7 +1,6 @@
-//! The two indexes of a segment by themselves, the model's plain program, and the laws that cost nothing.
+//! The two indexes of a segment by themselves, and the laws that cost nothing.
 
 use crate::shown::is;
-use kp_model::{Header, end_for};
 use kp_offset_index::{OffsetEntry, OffsetIndex};
 use kp_time_index::{TimeEntry, TimeIndex};
 use kp_types::Refusal;
@@ -100,25 +99,6 @@ fn a_time_is_found_between_two_entries(rt: HostRuntime) {
         beside(rt.alloc(), &[999, 1_001, 1_002, 5_000, 5_001]),
         want,
     );
-}
-
-// A leader with the epochs 1 at 0, 2 at 3 and 4 at 5, whose log ends at 7 (KIP-101, KIP-279).
-#[test]
-fn an_epoch_ends_where_the_next_begins(rt: HostRuntime) {
-    let headers = [(0, 1, 3), (3, 2, 2), (5, 4, 2)].map(|(base, epoch, count)| Header {
-        base,
-        epoch,
-        count,
-    });
-    for (epoch, want) in [
-        (0, None),
-        (1, Some((1, 3))),
-        (3, Some((2, 5))),
-        (4, Some((4, 7))),
-        (9, Some((4, 7))),
-    ] {
-        assert_eq!(rt; end_for(&headers, epoch), want);
-    }
 }
 
 // Each is a public call: it takes nothing, and its contract is a law.

@@ -12,6 +12,8 @@ mod device_tests;
 #[cfg(test)]
 mod epoch_tests;
 #[cfg(test)]
+mod exchange_tests;
+#[cfg(test)]
 mod index_tests;
 #[cfg(test)]
 mod log_tests;
@@ -19,6 +21,8 @@ mod log_tests;
 mod logs;
 #[cfg(test)]
 mod node_tests;
+#[cfg(test)]
+mod played;
 #[cfg(test)]
 mod producer_tests;
 #[cfg(test)]

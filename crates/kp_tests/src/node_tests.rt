@@ -17,7 +17,7 @@ use kp_world::{Act, Answer, Event, Stopped, Trace, run};
 use std::alloc::{AllocError, Global};
 
 // The bytes of the batch of a word.
-fn bytes_of(alloc: Global, word: &str) -> Result<Handed, Refusal> {
+pub(crate) fn bytes_of(alloc: Global, word: &str) -> Result<Handed, Refusal> {
     let mut out = Vec::new(alloc);
     batch_of(alloc, word)?.write(&mut out)?;
     Ok(Handed::raw(Bytes::from_vec(out)?))
@@ -44,6 +44,25 @@ fn elects_only_a_node_in_sync(rt: HostRuntime) {
         "2 record leader none epoch -1 isr 0 version 0\n3 record leader 0 epoch 0 isr 0 version 1\n\
          4 record leader 0 epoch 1 isr 0 version 2\n5 F21 NotInSync\n",
     );
+}
+
+// The word of three nodes' record, at the start and after an election.
+fn words() -> Result<[u64; 2], Refusal> {
+    let initial = LeaderAndIsr::initial(3);
+    Ok([initial.pack(), initial.elected(0)?.pack()])
+}
+
+// The version after one more election of the record that has this word.
+fn version_after(word: u64) -> Option<Result<u32, Refusal>> {
+    let record = LeaderAndIsr::unpack(word)?;
+    Some(record.elected(0).map(|changed| changed.version))
+}
+
+#[test]
+fn a_record_is_one_word(rt: HostRuntime) {
+    assert_eq!(rt; words(), Ok([0xf070_0000_0000_0000, 0x0070_0000_1000_0001]));
+    assert_eq!(rt; version_after(0xf070_0000_0fff_fffe), Some(Ok(0x0fff_ffff)));
+    assert_eq!(rt; version_after(0xf070_0000_0fff_ffff), Some(Err(Refusal::RecordFull)));
 }
 
 // Of two nodes, led by node 0.
