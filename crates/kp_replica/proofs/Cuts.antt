@@ -10,7 +10,7 @@ use Rattle.kp_types.proofs.Causes.{only_none, passed}
 use Rattle.kp_model.specs.Beginning.{Begins}
 use Rattle.kp_model.specs.Epochs.{cut_place}
 use Rattle.kp_model.specs.Log.{Batch, IsLog, IsKin, IsBoundary, below, end_of, is_boundary}
-use Rattle.kp_model.specs.World.{LeaderAndIsr, Following, Mode, Follows, Node, Answer, Answers}
+use Rattle.kp_model.specs.World.{LeaderAndIsr, Following, Follows, Node, Answer, Answers}
 use Rattle.kp_model.specs.Event.{Receive, Refused, Cut}
 use Rattle.kp_model.specs.Letter.{Letter, letter_of, epoch_end_answer}
 use Rattle.kp_model.specs.Local.{Effect, Local, becomes, cause, is_down, has_epoch, mode_epoch, reconciles, cut_cause, cut_cause_for, take_cause}

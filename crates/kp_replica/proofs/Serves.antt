@@ -15,14 +15,14 @@ use Rattle.kp_model.specs.Log.{Batch, written, logged, next_offset, end_of, from
 use Rattle.kp_model.specs.Epochs.{end_for}
 use Rattle.kp_model.specs.World.{Leading, Mode, Leads, Node, Request, Answer, Message, Asks, Answers}
 use Rattle.kp_model.specs.Event.{Receive, Refused}
-use Rattle.kp_model.specs.Letter.{Letter, Asking, From, ForEpoch, Answering, Batches, EpochEnd, asking_of, answering_of, letter_of, fetch_request, epoch_request}
-use Rattle.kp_model.specs.Local.{becomes, at_least_one, piece, epoch_answer, last_epoch, unless_leads, serve_cause, reported_after, answer}
+use Rattle.kp_model.specs.Letter.{Letter, Answering, Batches, EpochEnd, answering_of, letter_of, fetch_request, epoch_request}
+use Rattle.kp_model.specs.Local.{becomes, at_least_one, piece, epoch_answer, unless_leads, serve_cause, reported_after, answer}
 use Rattle.kp_model.specs.Calls.{DoesSending as NodeDoesSending}
 use Rattle.kp_model.specs.declared.message.FetchRequest.{FetchRequest}
 use Rattle.kp_model.specs.declared.message.EpochRequest.{EpochRequest}
 use Rattle.kp_log.specs.Refusals.{read_cause}
 use Rattle.kp_insync.specs.Reports.{with_report}
-use Rattle.kp_model.proofs.Letters.{AsksFrom, asks_from, AsksFor, asks_for}
+use Rattle.kp_model.proofs.Letters.{asks_from, asks_for}
 use Rattle.kp_model.proofs.Logs.{boundary_within}
 use Rattle.kp_model.proofs.Sending.{serves}
 use Rattle.kp_model.proofs.Steps.{was_refused, lacked_memory}

@@ -3,7 +3,7 @@
 ghost use Rattle.std.specs.Prelude.{◌≡◌};
 
 use kp_log::{Kept, PartitionLog};
-use kp_types::{NodeId, Offset};
+use kp_types::{NodeId, Offset, Refusal};
 use std::marker::Model;
 
 /// A node that is down, with its number: what it keeps until it is restarted. Dropped, it is gone.
@@ -30,6 +30,16 @@ impl KeptNode {
     ghost use Rattle.std.specs.Prelude.{◌≡◌, ◌≤◌, true};
     ghost use Rattle.kp_model.specs.Log.{IsBoundary};
     ghost use Rattle.kp_model.specs.Local.{is_down};
+    ghost use Rattle.kp_types.specs.declared.refusal.Refusal.TheVariants.{Down as IsDown};
+
+    /// What the node answers to every call but its restart: F28. O(1).
+    pub fn refusal(&self) -> Refusal
+        ensures value { result ≡ IsDown }
+        ensures down { is_down self.now.state.mode ≡ true }
+    {
+        let _ = &self.life;
+        Refusal::Down
+    }
 
     /// The node's log, settled up to the high watermark at which the node went down, which is a boundary of it. O(1).
     pub fn log(&self) -> &PartitionLog
