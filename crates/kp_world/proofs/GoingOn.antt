@@ -1,6 +1,6 @@
 -- Each run goes on: whatever comes next has an answer.
-use Rattle.std.proofs.Common.{◌≡◌, ℕ, Bool, true, false, List, [], ◌∷◌, ◌++◌, Option, Some, None, refl, sym, ap, ◌∙◌, subst, inl, inr, append_assoc, append-nil}
-use Rattle.std.specs.Prelude.{map, not}
+use Rattle.std.proofs.Common.{◌≡◌, ℕ, Bool, true, false, List, [], ◌∷◌, ◌++◌, Option, Some, None, refl, sym, ap, ◌∙◌, subst, inl, inr, append_assoc, append-nil, arith}
+use Rattle.std.specs.Prelude.{map, not, slice_get, IsFalse}
 use Rattle.std.specs.List.{AllByRecursion}
 use Rattle.std.specs.Option.{option_map_or}
 use Rattle.std.proofs.lemmas.List.{reverse-append}
@@ -9,16 +9,21 @@ use Rattle.kp_types.specs.declared.refusal.Refusal.{Refusal}
 use Rattle.kp_types.specs.declared.refusal.Refusal.TheVariants as refusals
 use Rattle.kp_model.specs.Log.{end_of}
 use Rattle.kp_model.specs.Transactions.{stable}
-use Rattle.kp_model.specs.World.{Leader, LeaderAndIsr, Mode, Down, Idle, Leads, Follows, Message, Node, World, with_record}
-use Rattle.kp_model.specs.Event.{Act, Event, Outcome, Refused, Changed, Shown}
+use Rattle.kp_model.specs.World.{Leader, LeaderAndIsr, Mode, Down, Idle, Leads, Follows, Answer, Message, Asks, Answers, Node, World, addressee, with_record}
+use Rattle.kp_model.specs.Event.{Act, Receive, Event, Outcome, Refused, Changed, Shown}
 use Rattle.kp_model.specs.Event as model
-use Rattle.kp_model.specs.Laws.{RunsAreSafe, RunsKeepCount}
-use Rattle.kp_model.specs.Local.{Adopts, Effect, Local, LocalBy, Raises, WhereLeads, becomes, cause, elected, is_down, raised, unless_leads, under}
+use Rattle.kp_model.specs.Calls.{cut}
+use Rattle.kp_model.specs.Letter.{letter_of}
+use Rattle.kp_model.specs.Laws.{CutIsTheStep, StandsIn, MessagesGoToNodes, NoDeliveryIsRefusedOddly, RunsAreSafe, RunsKeepCount, RunsKeepKin, RunsKeepLogs}
+use Rattle.kp_model.specs.Local.{Adopts, Effect, Local, LocalBy, Raises, WhereLeads, becomes, cause, elected, is_down, piece, raised, unless_leads, under}
 use Rattle.kp_model.specs.Run.{Moment, Run, extend, last}
+use Rattle.kp_model.proofs.Beginnings.{Begins-nil}
 use Rattle.kp_model.proofs.RunLaws.{last_is_of}
-use Rattle.kp_model.specs.Step.{ElectsBy, IsGiven, Step, answered, elect_cause, moved, told}
+use Rattle.kp_model.proofs.Steps.{lacked_memory, was_refused}
+use Rattle.kp_model.specs.Step.{Delivers, ElectsBy, IsGiven, NodeStep, Step, answered, elect_cause, moved, told}
 use Rattle.kp_world.specs.Laws.{IsAsked, MayCome, PlaysGoOn}
 use Rattle.kp_world.specs.Plays.{events_of, outcomes_of}
+use Rattle.kp_world.proofs.Playing.{all_fit}
 
 -- an answer to an event, and the world after it
 record Answering (w : World) (e : Event) : Type 0 where
@@ -65,7 +70,7 @@ does c n x model.Adopt None is asked =
     (done.0, inl done.1)
 does c n x (model.Produce offer) None is asked = (becomes c x (Refused refusals.Memory), inr refl)
 does c n x (model.Mark time producer epoch coordinator commit) None is asked = (becomes c x (Refused refusals.Memory), inr refl)
-does c n x model.Ask None is asked = absurd asked
+does c n x model.Ask None is asked = (becomes c x (Refused refusals.Memory), inr refl)
 does c n x (model.Receive m) None is asked = absurd asked
 does c n x model.Raise None is asked =
     let done = raises c n x x.mode (sym is) in
@@ -87,7 +92,7 @@ given : (messages : List Message) (act : Act) → IsAsked act → IsGiven messag
 given messages model.Adopt asked = tt
 given messages (model.Produce offer) asked = tt
 given messages (model.Mark time producer epoch coordinator commit) asked = tt
-given messages model.Ask asked = absurd asked
+given messages model.Ask asked = tt
 given messages (model.Receive m) asked = absurd asked
 given messages model.Raise asked = tt
 given messages (model.Join member) asked = absurd asked
@@ -99,19 +104,79 @@ given messages model.Show asked = tt
 given messages (model.Read from) asked = tt
 given messages (model.Committed from) asked = tt
 
-answers : (w : World) (e : Event) → MayCome w.count e → Answering w e
-answers w (model.Elect n) comes =
-    let done = elects (elect_cause w.controller n) w n in
-    record { outcome = done.outcome; after = done.after; step = done.step; counted = done.counted }
-answers w (model.Acts n act) comes =
-    let done = acts_locally w.controller n (w.nodes n) act comes.1 in
+-- a message that comes: a request meets want of memory, and so does a fetch answer, which leaves the node down
+receives : (c : LeaderAndIsr) (n : ℕ) (x : Node) (m : Message) (o : Option Refusal) → o ≡ cause c n x (Receive m)
+    → ((a : Answer) → m ≡ Answers a → IsFalse a.request.fetching → (e : Effect) × Local c n x (Receive m) e) → (e : Effect) × Local c n x (Receive m) e
+receives c n x m (Some refusal) is cuts = (becomes c x (Refused refusal), was_refused c n x (Receive m) refusal (sym is))
+receives c n x (Asks r) None is cuts =
+    (becomes c x (Refused refusals.Memory), lacked_memory c n x (Receive (Asks r)) (becomes c x (Refused refusals.Memory)) (sym is) refl)
+receives c n x (Answers a) None is cuts = by a.request.fetching refl
+  where
+    by : (b : Bool) → a.request.fetching ≡ b → (e : Effect) × Local c n x (Receive (Answers a)) e
+    by true fetching =
+        let e = becomes c (record x { log = x.log ++ []; mode = Down }) (Refused refusals.Memory) in
+        (e, lacked_memory c n x (Receive (Answers a)) e (sym is) (fetching, record { some = []; begins = Begins-nil (piece a.log a.request); effect_is = refl }))
+    by false asks = cuts a refl asks
+
+-- the laws of runs by which messages come
+record Laws : Type 0 where
+  go : MessagesGoToNodes
+  keep : RunsKeepCount
+  logs : RunsKeepLogs
+  kin : RunsKeepKin
+  cut_is : CutIsTheStep
+
+comes : Laws → (count : ℕ) (r : Run count) (number : ℕ) (o : Option Message) → slice_get (last r).messages number ≡ o → Answering (last r) (model.Deliver number)
+comes laws count r number None is =
+    let w = last r in record {
+      outcome = told (Refused refusals.StaleAnswer);
+      after = w;
+      step = subst (λ (o : Option Message). Delivers w o (told (Refused refusals.StaleAnswer)) w) (sym is) (refl, refl);
+      counted = refl;
+    }
+comes laws count r number (Some m) is =
+    let w = last r in
+    let is_of = last_is_of count r in
+    let n = addressee m in
+    let x = w.nodes n in
+    let done = receives w.controller n x m (cause w.controller n x (Receive m)) refl (λ a same asks.
+    let stands : StandsIn w a.log = inr (Answers a, (number, is ∙ ap Some same), inr refl) in (
+      cut w.controller n x (letter_of (Answers a)),
+      subst (λ (k : Message). Local w.controller n x (Receive k) (cut w.controller n x (letter_of (Answers a)))) (sym same)
+          (laws.cut_is w.controller n x a asks (laws.logs count r w is_of x.log (inl (n, refl))) (laws.logs count r w is_of a.log stands)
+          (laws.kin count r w w is_of is_of x.log a.log (inl (n, refl)) stands)).0,
+    )) in
+    let two = laws.go count r w is_of m (number, is) in
+    let step : NodeStep w n (Receive m) (answered w.messages done.0) (moved w n done.0) = record {
+      counted = omega (arith, two.1, laws.keep count r w is_of);
+      given = (number, is);
+      effect = done.0;
+      local = done.1;
+      outcome_is = refl;
+      new_is = refl;
+    } in
     record {
       outcome = answered w.messages done.0;
       after = moved w n done.0;
-      step = record { counted = comes.0; given = given w.messages act comes.1; effect = done.0; local = done.1; outcome_is = refl; new_is = refl };
+      step = subst (λ (o : Option Message). Delivers w o (answered w.messages done.0) (moved w n done.0)) (sym is) step;
       counted = refl;
     }
-answers w (model.Deliver number) comes = absurd comes
+
+answers : Laws → (count : ℕ) (r : Run count) (e : Event) → MayCome (last r).count e → Answering (last r) e
+answers laws count r (model.Elect n) come =
+    let w = last r in
+    let done = elects (elect_cause w.controller n) w n in
+    record { outcome = done.outcome; after = done.after; step = done.step; counted = done.counted }
+answers laws count r (model.Acts n act) come =
+    let w = last r in
+    let done = acts_locally w.controller n (w.nodes n) act come.1 in
+    record {
+      outcome = answered w.messages done.0;
+      after = moved w n done.0;
+      step = record { counted = come.0; given = given w.messages act come.1; effect = done.0; local = done.1; outcome_is = refl; new_is = refl };
+      counted = refl;
+    }
+answers laws count r (model.Deliver number) come = comes laws count r number (slice_get (last r).messages number) refl
 
 -- a run that goes on
 record GoesOn (count : ℕ) (events more : List Event) (outcomes : List Outcome) : Type 0 where
@@ -121,18 +186,18 @@ record GoesOn (count : ℕ) (events more : List Event) (outcomes : List Outcome)
   events_are : events_of run ≡ events ++ more
   outcomes_are : outcomes_of run ≡ outcomes ++ added
 
-goes_on : (count : ℕ) (events more : List Event) (outcomes : List Outcome) (r : Run count) → (last r).count ≡ count → events_of r ≡ events → outcomes_of r ≡ outcomes
+goes_on : Laws → (count : ℕ) (events more : List Event) (outcomes : List Outcome) (r : Run count) → (last r).count ≡ count → events_of r ≡ events → outcomes_of r ≡ outcomes
     → AllByRecursion (MayCome count) more → GoesOn count events more outcomes
-goes_on count events [] outcomes r counted es os come =
+goes_on laws count events [] outcomes r counted es os come =
     record { run = r; counted = counted; added = []; events_are = es ∙ sym (append-nil events); outcomes_are = os ∙ sym (append-nil outcomes) }
-goes_on count events (e ∷ more) outcomes r counted es os come =
-    let next = answers (last r) e (subst (λ (k : ℕ). MayCome k e) (sym counted) come.0) in
+goes_on laws count events (e ∷ more) outcomes r counted es os come =
+    let next = answers laws count r e (subst (λ (k : ℕ). MayCome k e) (sym counted) come.0) in
     let then : Run count = extend r e next.outcome next.after next.step in
     let es_then : events_of then ≡ events ++ e ∷ [] =
     reverse-append (e ∷ []) (map (λ (m : Moment). m.event) r.moments) ∙ ap (λ (xs : List Event). xs ++ e ∷ []) es in
     let os_then : outcomes_of then ≡ outcomes ++ next.outcome ∷ [] =
     reverse-append (next.outcome ∷ []) (map (λ (m : Moment). m.outcome) r.moments) ∙ ap (λ (xs : List Outcome). xs ++ next.outcome ∷ []) os in
-    let rest = goes_on count (events ++ e ∷ []) more (outcomes ++ next.outcome ∷ []) then (next.counted ∙ counted) es_then os_then come.1 in
+    let rest = goes_on laws count (events ++ e ∷ []) more (outcomes ++ next.outcome ∷ []) then (next.counted ∙ counted) es_then os_then come.1 in
     record {
       run = rest.run;
       counted = rest.counted;
@@ -141,7 +206,8 @@ goes_on count events (e ∷ more) outcomes r counted es os come =
       outcomes_are = rest.outcomes_are ∙ append_assoc outcomes (next.outcome ∷ []) rest.added;
     }
 
-pub plays_go_on : RunsAreSafe → RunsKeepCount → PlaysGoOn
-plays_go_on safe keeps count events more outcomes played come =
-    let rest = goes_on count events more outcomes played.run (keeps count played.run (last played.run) (last_is_of count played.run)) played.events_are played.outcomes_are come in
-    (rest.added, record { run = rest.run; events_are = rest.events_are; outcomes_are = rest.outcomes_are; safe = safe count rest.run })
+pub plays_go_on : RunsAreSafe → NoDeliveryIsRefusedOddly → RunsKeepCount → MessagesGoToNodes → RunsKeepLogs → RunsKeepKin → CutIsTheStep → PlaysGoOn
+plays_go_on safe odd keeps go logs kin cut_is count events more outcomes played come =
+    let laws : Laws = record { go = go; keep = keeps; logs = logs; kin = kin; cut_is = cut_is } in
+    let rest = goes_on laws count events more outcomes played.run (keeps count played.run (last played.run) (last_is_of count played.run)) played.events_are played.outcomes_are come in
+    (rest.added, record { run = rest.run; events_are = rest.events_are; outcomes_are = rest.outcomes_are; safe = safe count rest.run; fits = all_fit odd count rest.run })

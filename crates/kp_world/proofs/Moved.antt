@@ -1,7 +1,7 @@
 -- What a node or the controller does leads on from each run that was reached.
-use Rattle.std.proofs.Common.{◌≡◌, ℕ, ◌<◌, ◌≤◌, true, false, cond, eqb, List, [], ◌∷◌, length, set, get_or, None, Some, Option, Result, Ok, Err, refl, sym, ap, ◌∙◌, subst, arith, inl, inr, length-set}
+use Rattle.std.proofs.Common.{◌≡◌, ℕ, ◌<◌, ◌≤◌, true, false, cond, eqb, List, [], ◌∷◌, ◌++◌, length, map, set, get_or, None, Some, Option, Result, Ok, Err, refl, sym, ap, ◌∙◌, subst, arith, inl, inr, length-set}
 use Rattle.std.specs.Prelude.{unwrap_or}
-use Rattle.std.proofs.lemmas.List.{get_or-set_same, get_or-set_other}
+use Rattle.std.proofs.lemmas.List.{get_or-set_same, get_or-set_other, map-append}
 use Rattle.std.proofs.lemmas.Bool.{eq-eqb, ne_eqb, cases_eq}
 use Rattle.kp_types.specs.declared.limits.Limits.{Limits}
 use Rattle.kp_types.specs.declared.refusal.Refusal.{Refusal}
@@ -12,16 +12,18 @@ use Rattle.kp_model.specs.Event.{Act, Show, Elect, Acts, Changed, Refused, Shown
 use Rattle.kp_model.specs.Laws.{EpochsAreElected}
 use Rattle.kp_model.specs.Local.{Effect, Local, is_down, becomes, elected, last_epoch}
 use Rattle.kp_model.specs.Run.{Run, last}
-use Rattle.kp_model.specs.Step.{ElectsBy, moved, told, IsGiven, elect_cause}
+use Rattle.kp_model.specs.Letter.{Letter, letter_of}
+use Rattle.kp_model.specs.Step.{ElectsBy, NodeStep, moved, told, IsGiven, elect_cause}
 use Rattle.kp_replica.specs.Adopting.{IsWithin}
-use Rattle.kp_replica.specs.Member.{Member, DoesUnder}
+use Rattle.kp_replica.specs.Member.{Member}
 use Rattle.kp_control.specs.Set.{record_of}
 use Rattle.kp_control.specs.declared.record.LeaderAndIsr.{LeaderAndIsr as CodeRecord}
-use Rattle.kp_world.specs.Answers.{reply_of}
+use Rattle.kp_world.specs.Answers.{outcome_of}
 use Rattle.kp_world.specs.declared.event.Answer.{Answer}
 use Rattle.kp_world.specs.declared.event.Answer.TheVariants as answers
+use Rattle.kp_world.specs.Moves.{Moves}
 use Rattle.kp_world.specs.Plays.{LeadOn}
-use Rattle.kp_world.specs.Shown.{IsNode, KeepsReceipt, Stage}
+use Rattle.kp_world.specs.Shown.{IsNode, IsShown, KeepsReceipt, Stage}
 use Rattle.kp_world.proofs.Playing.{reached_more}
 use Rattle.kp_model.proofs.LogEpochs.{last_occurs}
 use Rattle.kp_model.proofs.RunLaws.{last_is_of}
@@ -60,39 +62,59 @@ within elected_all count r n l is = by_last (last_epoch ((last r).nodes n).log) 
         let same : by.0 ≡ l = (let both = sym by.1 ∙ is in cc) in
         subst (λ (k : Leader). epoch ≤ k.epoch) same by.2
 
--- the node x at place i, which is its number, did this and became m
-pub acted : EpochsAreElected → (limits : Limits) (n i : ℕ) (c : LeaderAndIsr) (members : List Member) (x m : Member) (act : Act) (outcome : Result Answer Refusal) → i ≡ n
-    → n < length members → x ≡ get_or members i x → ((w : World) → IsGiven w.messages act) → (x.limits ≡ limits → IsWithin c x.state.log → DoesUnder c x m act (reply_of outcome))
-    → KeepsReceipt m.state.log outcome
-    → LeadOn limits (record { controller = c; members = members }) (Acts n act ∷ []) (outcome ∷ []) (record { controller = c; members = set members i m })
-acted elected_all limits n i c members x m act outcome same inside there given did receipt count before earlier p =
-    let w = last p.run in
-    let shown = p.shown in
-    let old : IsNode limits n x (w.nodes n) =
-    subst (λ (y : Member). IsNode limits n y (w.nodes n)) (sym (there ∙ ap (λ (k : ℕ). get_or members k x) same)) (shown.nodes n x inside) in
-    let epochs : IsWithin c x.state.log =
-    subst (λ (k : LeaderAndIsr). IsWithin k x.state.log) shown.controller_is
-    (subst (λ (y : Node). IsWithin w.controller y.log) old.state (within elected_all count p.run n)) in
-    let does = did old.limits_are epochs in
-    let e : Effect = becomes c m.state (reply_of outcome) in
+-- a step of node n, after which the stage is this one
+pub record Stepped (limits : Limits) (new : Stage) (m : Member) (w : World) (n : ℕ) (act : Act) (outcome : Result Answer Refusal) : Type 0 where
+  pub after : World
+  pub step : NodeStep w n act (outcome_of outcome) after
+  pub node_is : after.nodes n ≡ m.state
+  pub shown : IsShown limits new after
+
+-- the node x at place n did this and became m
+pub stepped : (limits : Limits) (n : ℕ) (stage : Stage) (x m : Member) (act : Act) (outcome : Result Answer Refusal) (letters : List Letter) (w : World) → n < length stage.members
+    → x ≡ get_or stage.members n x → IsShown limits stage w → IsGiven w.messages act → (x.number ≡ n → x.limits ≡ limits → Moves stage.controller stage.letters x m act outcome letters)
+    → Stepped limits (record { controller = stage.controller; members = set stage.members n m; letters = letters }) m w n act outcome
+stepped limits n stage x m act outcome letters w inside there shown given did =
+    let c = stage.controller in
+    let old : IsNode limits n x (w.nodes n) = subst (λ (y : Member). IsNode limits n y (w.nodes n)) (sym there) (shown.nodes n x inside) in
+    let moves = did old.number_is old.limits_are in
+    let e = moves.effect in
     let local : Local w.controller n (w.nodes n) act e =
     subst (λ (k : LeaderAndIsr). Local k n (w.nodes n) act e) (sym shown.controller_is)
-    (subst (λ (y : Node). Local c n y act e) (sym old.state) (subst (λ (k : ℕ). Local c k x.state act e) old.number_is does.0)) in
-    reached_more count limits before earlier _ _ (Acts n act) outcome p (moved w n e)
-    (record { counted = omega (arith, shown.count); given = given w; effect = e; local = local; outcome_is = refl; new_is = refl })
-    (subst (λ (y : Node). KeepsReceipt y.log outcome) (sym (here n m.state w.nodes)) receipt)
-    (record {
-      controller_is = refl;
-      count = shown.count ∙ sym (length-set members i m);
-      nodes =
-          subst (λ (k : ℕ). (j : ℕ) (d : Member) → j < length (set members k m) → IsNode limits j (get_or (set members k m) j d) (cond (eqb j n) m.state (w.nodes j))) (sym same)
-          (after limits n m members m.state w.nodes inside (does.1.0 ∙ old.number_is) (does.1.1 ∙ old.limits_are) refl shown.nodes);
-    })
+    (subst (λ (y : Node). Local c n y act e) (sym old.state) (subst (λ (k : ℕ). Local c k x.state act e) old.number_is moves.local)) in
+    record {
+      after = moved w n e;
+      step = record { counted = omega (arith, shown.count, inside); given = given; effect = e; local = local; outcome_is = moves.outcome_is w.messages shown.letters_are; new_is = refl };
+      node_is = here n e.node w.nodes ∙ moves.node_is;
+      shown = record {
+        controller_is = moves.record_is;
+        count = shown.count ∙ sym (length-set stage.members n m);
+        nodes = after limits n m stage.members e.node w.nodes inside (moves.same.0 ∙ old.number_is) (moves.same.1 ∙ old.limits_are) moves.node_is shown.nodes;
+        letters_are = map-append letter_of w.messages e.sent ∙ ap (λ (ls : List Letter). ls ++ map letter_of e.sent) shown.letters_are ∙ sym moves.letters_are;
+      };
+    }
+
+-- the node x at place i, which is its number, did this and became m
+pub acted : EpochsAreElected → (limits : Limits) (n i : ℕ) (stage : Stage) (x m : Member) (act : Act) (outcome : Result Answer Refusal) (letters : List Letter) → i ≡ n
+    → n < length stage.members → x ≡ get_or stage.members i x → ((w : World) → IsGiven w.messages act)
+    → (x.limits ≡ limits → IsWithin stage.controller x.state.log → Moves stage.controller stage.letters x m act outcome letters) → KeepsReceipt m.state.log outcome
+    → LeadOn limits stage (Acts n act ∷ []) (outcome ∷ []) (record { controller = stage.controller; members = set stage.members i m; letters = letters })
+acted elected_all limits n i stage x m act outcome letters same inside there given did receipt count before earlier p =
+    let w = last p.run in
+    let there_n : x ≡ get_or stage.members n x = there ∙ ap (λ (k : ℕ). get_or stage.members k x) same in
+    let old : IsNode limits n x (w.nodes n) = subst (λ (y : Member). IsNode limits n y (w.nodes n)) (sym there_n) (p.shown.nodes n x inside) in
+    let epochs : IsWithin stage.controller x.state.log =
+    subst (λ (k : LeaderAndIsr). IsWithin k x.state.log) p.shown.controller_is
+    (subst (λ (y : Node). IsWithin w.controller y.log) old.state (within elected_all count p.run n)) in
+    let s = stepped limits n stage x m act outcome letters w inside there_n p.shown (given w) (λ number_is limits_are. did limits_are epochs) in
+    reached_more count limits before earlier stage _ (Acts n act) outcome p s.after s.step
+    (subst (λ (y : Node). KeepsReceipt y.log outcome) (sym s.node_is) receipt)
+    (subst (λ (k : ℕ). IsShown limits (record { controller = stage.controller; members = set stage.members k m; letters = letters }) s.after) (sym same) s.shown)
 
 -- the controller's record changed by an election
-pub elected_on : (limits : Limits) (n : ℕ) (old new : CodeRecord) (members : List Member) → elect_cause (record_of old) n ≡ None → record_of new ≡ elected (record_of old) n
-    → LeadOn limits (record { controller = record_of old; members = members }) (Elect n ∷ []) (Ok (answers.Changed new) ∷ []) (record { controller = record_of new; members = members })
-elected_on limits n old new members free is count before earlier p =
+pub elected_on : (limits : Limits) (n : ℕ) (old new : CodeRecord) (members : List Member) (letters : List Letter) → elect_cause (record_of old) n ≡ None → record_of new ≡ elected (record_of old) n
+    → LeadOn limits (record { controller = record_of old; members = members; letters = letters }) (Elect n ∷ []) (Ok (answers.Changed new) ∷ [])
+    (record { controller = record_of new; members = members; letters = letters })
+elected_on limits n old new members letters free is count before earlier p =
     let w = last p.run in
     let shown = p.shown in
     let c = record_of old in
@@ -102,7 +124,7 @@ elected_on limits n old new members free is count before earlier p =
     let unrefused : elect_cause w.controller n ≡ None = ap (λ (k : LeaderAndIsr). elect_cause k n) shown.controller_is ∙ free in
     reached_more count limits before earlier _ _ (Elect n) (Ok (answers.Changed new)) p (with_record w r)
     (subst (λ (o : Option Refusal). ElectsBy o w n (told (Changed changed)) (with_record w r)) (sym unrefused) (ap (λ (k : LeaderAndIsr). told (Changed k)) (sym same), refl)) tt
-    (record { controller_is = same; count = shown.count; nodes = shown.nodes })
+    (record { controller_is = same; count = shown.count; nodes = shown.nodes; letters_are = shown.letters_are })
 
 -- or the election was refused
 pub not_elected : (limits : Limits) (n : ℕ) (stage : Stage) (refusal : Refusal) → elect_cause stage.controller n ≡ Some refusal

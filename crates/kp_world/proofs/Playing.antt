@@ -1,18 +1,22 @@
 -- A run goes on, event by event.
 use Rattle.std.proofs.Common.{◌≡◌, ℕ, zero, suc, List, [], ◌∷◌, ◌++◌, Result, take, refl, sym, ap, ◌∙◌, subst}
-use Rattle.std.specs.Prelude.{map, reverse}
+use Rattle.std.specs.Prelude.{map, reverse, slice_get, Option, Some, None}
+use Rattle.std.specs.List.{AllByRecursion}
 use Rattle.std.proofs.lemmas.List.{append_assoc, append-nil, map-append, reverse-append}
 use Rattle.kp_types.specs.declared.limits.Limits.{Limits}
 use Rattle.kp_types.specs.declared.refusal.Refusal.{Refusal}
-use Rattle.kp_model.specs.World.{World, start}
-use Rattle.kp_model.specs.Event.{Event, Outcome}
-use Rattle.kp_model.specs.Run.{Moment, Run, last, extend, IsSafe}
-use Rattle.kp_model.specs.Step.{Step}
+use Rattle.kp_types.specs.declared.refusal.Refusal.TheVariants as refusals
+use Rattle.kp_model.specs.World.{World, Message, start, addressee}
+use Rattle.kp_model.specs.Event.{Event, Elect, Acts, Deliver, Outcome, Refused}
+use Rattle.kp_model.specs.Laws.{NoDeliveryIsRefusedOddly}
+use Rattle.kp_model.specs.Run.{Moment, Run, IsRun, last, extend, IsSafe}
+use Rattle.kp_model.specs.Step.{Step, Delivers}
+use Rattle.kp_model.proofs.RunLaws.{last_is_of}
 use Rattle.kp_world.specs.Answers.{outcome_of}
 use Rattle.kp_world.specs.Events.{IsEvent, AreEvents}
 use Rattle.kp_world.specs.declared.event.Answer.{Answer}
 use Rattle.kp_world.specs.declared.event.Event.{Event as CodeEvent}
-use Rattle.kp_world.specs.Plays.{HaveReceipts, IsAnswered, IsReached, LeadOn}
+use Rattle.kp_world.specs.Plays.{AllFit, Fits, HaveReceipts, IsAnswered, IsReached, LeadOn}
 use Rattle.kp_world.specs.Shown.{HasReceipt, IsShown, Stage}
 
 -- nothing has happened yet
@@ -60,16 +64,37 @@ lead_more limits old mid new es ds os qs first second count before earlier p =
     (subst (λ (xs : List (Result Answer Refusal)). IsReached count limits ((before ++ es) ++ ds) xs new) (append_assoc earlier os qs)
     (second count (before ++ es) (earlier ++ os) (first count before earlier p)))
 
--- what is reached is answered, and safe
-pub answered : (count : ℕ) (limits : Limits) (es : List Event) (os : List (Result Answer Refusal)) (stage : Stage) → ((r : Run count) → IsSafe r) → IsReached count limits es os stage
-    → IsAnswered count es os
-answered count limits es os stage safe p =
-    record { played = record { run = p.run; events_are = p.events_are; outcomes_are = p.outcomes_are; safe = safe p.run }; receipts = p.receipts }
+-- no message of a run is out of place
+fits : NoDeliveryIsRefusedOddly → (count : ℕ) (r : Run count) (event : Event) (outcome : Outcome) (new : World) → Step (last r) event outcome new → Fits event outcome.reply
+fits odd count r (Elect n) outcome new step = tt
+fits odd count r (Acts n act) outcome new step = tt
+fits odd count r (Deliver number) outcome new step = by (slice_get (last r).messages number) step
+  where
+    by : (o : Option Message) → Delivers (last r) o outcome new → Fits (Deliver number) outcome.reply
+    by None refused =
+        let is : outcome.reply ≡ Refused refusals.StaleAnswer = ap (λ (o : Outcome). o.reply) refused.0 in
+        rw is ((λ e. cc), ((λ e. cc), ((λ e. cc), ((λ e. cc), ((λ e. cc), tt)))))
+    by (Some m) came = odd count r (last r) (last_is_of count r) (addressee m) m outcome new came
+
+pub all_fit : NoDeliveryIsRefusedOddly → (count : ℕ) (r : Run count) → AllFit r
+all_fit odd count r = by r.moments r.is_run
+  where
+    by : (moments : List Moment) → IsRun count moments → AllByRecursion (λ (m : Moment). Fits m.event m.outcome.reply) moments
+    by [] is_run = tt
+    by (m ∷ past) is_run = (fits odd count (record { moments = past; is_run = is_run.1 }) m.event m.outcome m.after is_run.0, by past is_run.1)
+
+-- what is reached is answered, safe, and in place
+pub answered : (count : ℕ) (limits : Limits) (es : List Event) (os : List (Result Answer Refusal)) (stage : Stage) → ((r : Run count) → IsSafe r) → NoDeliveryIsRefusedOddly
+    → IsReached count limits es os stage → IsAnswered count es os
+answered count limits es os stage safe odd p = record {
+  played = record { run = p.run; events_are = p.events_are; outcomes_are = p.outcomes_are; safe = safe p.run; fits = all_fit odd count p.run };
+  receipts = p.receipts;
+}
 
 pub nothing_answered : (count : ℕ) → ((r : Run count) → IsSafe r) → IsAnswered count [] []
 nothing_answered count safe =
     let none : Run count = record { moments = []; is_run = tt } in
-    record { played = record { run = none; events_are = refl; outcomes_are = refl; safe = safe none }; receipts = tt }
+    record { played = record { run = none; events_are = refl; outcomes_are = refl; safe = safe none; fits = tt }; receipts = tt }
 
 -- ---- the events of the definitions beside those of the code
 

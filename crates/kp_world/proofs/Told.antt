@@ -6,9 +6,9 @@ use Rattle.kp_model.specs.Event as model
 use Rattle.kp_replica.specs.Offers.{BytesAreAnOffer, OffersAreOne}
 use Rattle.kp_replica.specs.Replies.{mark_of}
 use Rattle.kp_world.specs.declared.event.Event.{Event}
-use Rattle.kp_world.specs.declared.event.Event.TheVariants.{Elect, Acts}
+use Rattle.kp_world.specs.declared.event.Event.TheVariants.{Elect, Acts, Deliver}
 use Rattle.kp_world.specs.declared.event.Act.{Act}
-use Rattle.kp_world.specs.declared.event.Act.TheVariants.{Adopt, Produce, Mark, Raise, Show, Read, Committed}
+use Rattle.kp_world.specs.declared.event.Act.TheVariants.{Adopt, Produce, Mark, Ask, Raise, Show, Read, Committed}
 use Rattle.kp_world.specs.Events.{HandsBytes, HasBytes, IsAct, IsEvent}
 use Rattle.kp_world.specs.Laws.{EventsAreTold, EventsAreToldOnce}
 
@@ -18,6 +18,7 @@ act_told some max (Produce bytes) h =
     let offered = some max bytes h in
     (model.Produce offered.0, (offered.0, offered.1, refl))
 act_told some max (Mark marker) h = (mark_of marker, refl)
+act_told some max Ask h = (model.Ask, refl)
 act_told some max Raise h = (model.Raise, refl)
 act_told some max Show h = (model.Show, refl)
 act_told some max (Read from) h = (model.Read from, refl)
@@ -28,6 +29,7 @@ event_told some max (Elect node) h = (model.Elect node, refl)
 event_told some max (Acts node act) h =
     let told = act_told some max act h in
     (model.Acts node told.0, (told.0, told.1, refl))
+event_told some max (Deliver number) h = (model.Deliver number, refl)
 
 pub events_told : BytesAreAnOffer → EventsAreTold
 events_told some max [] h = ([], tt)
@@ -41,6 +43,7 @@ act_told_once one max Adopt a b h is was = is ∙ sym was
 act_told_once one max (Produce bytes) a b h (offer, of, is) (other, from, was) =
     is ∙ ap (λ (o : Result Body Refusal). model.Produce o) (one max bytes offer other h of from) ∙ sym was
 act_told_once one max (Mark marker) a b h is was = is ∙ sym was
+act_told_once one max Ask a b h is was = is ∙ sym was
 act_told_once one max Raise a b h is was = is ∙ sym was
 act_told_once one max Show a b h is was = is ∙ sym was
 act_told_once one max (Read from) a b h is was = is ∙ sym was
@@ -50,6 +53,7 @@ event_told_once : OffersAreOne → (max : ℕ) (event : Event) (e d : model.Even
 event_told_once one max (Elect node) e d h a b = a ∙ sym b
 event_told_once one max (Acts node act) e d h (a, told, is) (b, other, was) =
     is ∙ ap (λ (x : model.Act). model.Acts node x) (act_told_once one max act a b h told other) ∙ sym was
+event_told_once one max (Deliver number) e d h a b = a ∙ sym b
 
 pub events_told_once : OffersAreOne → EventsAreToldOnce
 events_told_once one max [] [] [] h a b = refl

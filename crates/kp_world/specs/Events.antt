@@ -7,9 +7,9 @@ use Rattle.kp_model.specs.Event as model
 use Rattle.kp_marker.specs.declared.parts.Marker.{Marker}
 use Rattle.kp_replica.specs.Replies.{IsOffer, mark_of}
 use Rattle.kp_world.specs.declared.event.Event.{Event}
-use Rattle.kp_world.specs.declared.event.Event.TheVariants.{Elect, Acts}
+use Rattle.kp_world.specs.declared.event.Event.TheVariants.{Elect, Acts, Deliver}
 use Rattle.kp_world.specs.declared.event.Act.{Act}
-use Rattle.kp_world.specs.declared.event.Act.TheVariants.{Adopt, Produce, Mark, Raise, Show, Read, Committed}
+use Rattle.kp_world.specs.declared.event.Act.TheVariants.{Adopt, Produce, Mark, Ask, Raise, Show, Read, Committed}
 
 -- What a node does is this of the definitions, where batches have at most so many bytes. Bytes that are handed in are a
 -- batch, or what refuses them.
@@ -17,6 +17,7 @@ abbrev pub IsAct : ℕ → Act → model.Act → Type 0
 IsAct max Adopt a = a ≡ model.Adopt
 IsAct max (Produce bytes) a = (offer : Result Body Refusal) × IsOffer max bytes offer × (a ≡ model.Produce offer)
 IsAct max (Mark marker) a = a ≡ mark_of marker
+IsAct max Ask a = a ≡ model.Ask
 IsAct max Raise a = a ≡ model.Raise
 IsAct max Show a = a ≡ model.Show
 IsAct max (Read from) a = a ≡ model.Read from
@@ -26,6 +27,7 @@ IsAct max (Committed from) a = a ≡ model.Committed from
 abbrev pub IsEvent : ℕ → Event → model.Event → Type 0
 IsEvent max (Elect node) e = e ≡ model.Elect node
 IsEvent max (Acts node act) e = (a : model.Act) × IsAct max act a × (e ≡ model.Acts node a)
+IsEvent max (Deliver number) e = e ≡ model.Deliver number
 
 abbrev pub AreEvents : ℕ → List Event → List model.Event → Type 0
 AreEvents max [] [] = Unit {0}
@@ -33,10 +35,11 @@ AreEvents max [] (e ∷ es) = ⊥
 AreEvents max (event ∷ events) [] = ⊥
 AreEvents max (event ∷ events) (e ∷ es) = IsEvent max event e × AreEvents max events es
 
--- the node that acts or is elected
-abbrev pub node_of : Event → ℕ
-node_of (Elect node) = node
-node_of (Acts node act) = node
+-- the node that acts or is elected is one of so many; a message goes where it goes
+abbrev pub IsAmong : (count : ℕ) → Event → Type 0
+IsAmong count (Elect node) = node < count
+IsAmong count (Acts node act) = node < count
+IsAmong count (Deliver number) = Unit {0}
 
 -- what is handed in are bytes
 abbrev pub HandsBytes : Act → Type 0
@@ -46,6 +49,7 @@ HandsBytes _ = Unit {0}
 abbrev pub HasBytes : Event → Type 0
 HasBytes (Elect node) = Unit {0}
 HasBytes (Acts node act) = HandsBytes act
+HasBytes (Deliver number) = Unit {0}
 
 -- the fields of a marker lie in their ranges (Kafka protocol guide, 'Record Batch' and 'Control Batch')
 pub record IsInRange (m : Marker) : Type 0 where
@@ -62,3 +66,4 @@ HandsMarker _ = Unit {0}
 abbrev pub HasMarker : Event → Type 0
 HasMarker (Elect node) = Unit {0}
 HasMarker (Acts node act) = HandsMarker act
+HasMarker (Deliver number) = Unit {0}

@@ -18,22 +18,23 @@ EventsAreToldOnce =
     (max : ℕ) (events : List Event) (es others : List ModelEvent) → AllByRecursion HasBytes events →
     AreEvents max events es → AreEvents max events others → es ≡ others
 
--- An action of those that `Act` has: none in which a node takes part of its own.
+-- An action of those that `Act` has: no in-sync change, checkpoint, stop or restart, and messages come by their numbers alone.
 abbrev pub IsAsked : model.Act → Type 0
 IsAsked model.Adopt = Unit {0}
 IsAsked (model.Produce offer) = Unit {0}
 IsAsked (model.Mark time producer epoch coordinator commit) = Unit {0}
+IsAsked model.Ask = Unit {0}
 IsAsked model.Raise = Unit {0}
 IsAsked model.Show = Unit {0}
 IsAsked (model.Read from) = Unit {0}
 IsAsked (model.Committed from) = Unit {0}
 IsAsked _ = ⊥
 
--- An election, or such an action of one of so many nodes.
+-- An election, such an action of one of so many nodes, or a delivery.
 abbrev pub MayCome : (count : ℕ) → ModelEvent → Type 0
 MayCome count (model.Elect node) = Unit {0}
 MayCome count (model.Acts node act) = (node < count) × IsAsked act
-MayCome count (model.Deliver number) = ⊥
+MayCome count (model.Deliver number) = Unit {0}
 
 -- Each run that is played goes on with any such events: there are answers to them.
 abbrev pub PlaysGoOn : Type 0

@@ -3,4 +3,5 @@ pub mod Answers
 pub mod Events
 pub mod Plays
 pub mod Shown
+pub mod Moves
 pub mod Laws

@@ -1,8 +1,10 @@
 -- A run over events, with its answers.
 use Rattle.std.specs.Prelude.{◌≡◌, ℕ, List, [], ◌∷◌, ◌++◌, map, reverse, Result}
+use Rattle.std.specs.List.{AllByRecursion}
 use Rattle.kp_types.specs.declared.limits.Limits.{Limits}
 use Rattle.kp_types.specs.declared.refusal.Refusal.{Refusal}
-use Rattle.kp_model.specs.Event.{Event, Outcome}
+use Rattle.kp_model.specs.Event.{Event, Deliver, Outcome, Reply, Refused}
+use Rattle.kp_model.specs.Laws.{odd_refusals}
 use Rattle.kp_model.specs.Run.{Moment, Run, IsSafe, last}
 use Rattle.kp_world.specs.declared.event.Answer.{Answer}
 use Rattle.kp_world.specs.Answers.{outcome_of}
@@ -15,12 +17,21 @@ events_of r = reverse (map (λ m. m.event) r.moments)
 abbrev pub outcomes_of : {count : ℕ} → Run count → List Outcome
 outcomes_of r = reverse (map (λ m. m.outcome) r.moments)
 
--- A run of the definitions has these events and these answers, and it is safe.
+-- no message that comes is refused for an offset, a boundary or an epoch that doesn't fit
+abbrev pub Fits : Event → Reply → Type 0
+Fits (Deliver number) reply = AllByRecursion (λ refusal. reply ≡ Refused refusal → ⊥) odd_refusals
+Fits _ reply = Unit {0}
+
+abbrev pub AllFit : {count : ℕ} → Run count → Type 0
+AllFit r = AllByRecursion (λ m. Fits m.event m.outcome.reply) r.moments
+
+-- A run of the definitions has these events and these answers; it is safe, and no message that came in it was out of place.
 pub record IsPlayed (count : ℕ) (events : List Event) (outcomes : List Outcome) : Type 0 where
   pub run : Run count
   pub events_are : events_of run ≡ events
   pub outcomes_are : outcomes_of run ≡ outcomes
   pub safe : IsSafe run
+  pub fits : AllFit run
 
 -- the batch that a receipt names stands in its node's log once it is answered, at each moment, the oldest first
 abbrev pub HaveReceipts : List Moment → List (Result Answer Refusal) → Type 0

@@ -1,20 +1,25 @@
 //! What one node does, and what it answers.
 
-ghost use Rattle.std.specs.Prelude.{◌≡◌, IfOk, List, Ok, OnErr};
+ghost use Rattle.std.specs.Prelude.{◌≡◌, ◌<◌, IfOk, List, None, Ok, OnErr, length, map, vec_capacity};
 ghost use Rattle.kp_model.specs.Log.{Batch};
-ghost use Rattle.kp_model.specs.Event.{Act as ModelAct};
+ghost use Rattle.kp_model.specs.Event.{Act as ModelAct, Ask};
+ghost use Rattle.kp_model.specs.Letter.{letter as letter_in};
+ghost use Rattle.kp_model.specs.World.{LeaderAndIsr as LeaderAndIsrOf};
 ghost use Rattle.kp_control.specs.Set.{record_of};
 ghost use Rattle.kp_replica.specs.Adopting.{IsWithin};
-ghost use Rattle.kp_replica.specs.Member.{DoesUnder};
 ghost use Rattle.kp_model.specs.Event.{Show as ShowState};
 ghost use Rattle.kp_replica.specs.Member.{Does};
-ghost use Rattle.kp_world.specs.Answers.{answer_reply, reply_of};
+ghost use Rattle.kp_world.specs.Answers.{answer_reply, number_in};
 ghost use Rattle.kp_world.specs.Events.{HandsMarker, IsAct};
-ghost use Rattle.kp_world.specs.Shown.{KeepsReceipt};
+ghost use Rattle.kp_world.specs.Moves.{Moves};
+ghost use Rattle.kp_world.specs.Shown.{KeepsReceipt, member_at};
 
 use crate::event::{Act, Answer};
+use crate::place::Place;
 use crate::read::{committed_lines, read_lines};
+use crate::sending::send;
 use kp_control::LeaderAndIsr;
+use kp_model::Letter;
 use kp_replica::Replica;
 use kp_types::Refusal;
 use std::alloc::{AllocError, Global};
@@ -23,6 +28,7 @@ use std::alloc::{AllocError, Global};
 fn shown(replica: &Replica) -> Answer
     ensures does { Does replica.now replica.now ShowState (answer_reply result) }
     ensures plain { (log : List Batch) → KeepsReceipt log (Ok result) }
+    ensures quiet { number_in result ≡ None }
 {
     Answer::Shown {
         life: replica.life(),
@@ -32,23 +38,41 @@ fn shown(replica: &Replica) -> Answer
     }
 }
 
+/// The node asks its leader. There is room for the message.
+fn ask(messages: &mut Vec<Letter>, replica: &Replica) -> Result<Answer, Refusal>
+    requires { length messages.old.items < vec_capacity messages.old }
+    ensures moves { (c : LeaderAndIsrOf) → Moves c (map letter_in messages.old.items)
+        replica.now replica.now Ask result (map letter_in messages.new.items) }
+    ensures plain { (log : List Batch) → KeepsReceipt log result }
+{
+    let letter = replica.ask()?;
+    Ok(send(messages, letter))
+}
+
 /// The node does this, under this record of the controller, where its log has no epoch above the record's, as no log of
-/// a run has. An `Err` says that bytes couldn't be shared, and nothing has happened. The cost is that of the `Replica`'s
-/// call, or of what is read.
+/// a run has. F28 where the node is down. An `Err` says that bytes couldn't be shared, or that there was no room for a
+/// message, and nothing has happened. The cost is that of the `Replica`'s call, or of what is read.
 pub(crate) fn act(
     alloc: Global,
     controller: &LeaderAndIsr,
-    replica: &mut Replica,
+    messages: &mut Vec<Letter>,
+    place: &mut Place,
     act: &Act,
 ) -> Result<Result<Answer, Refusal>, AllocError>
     requires { HandsMarker act.now }
-    ensures does { IfOk result (λ outcome. (a : ModelAct)
-        → IsAct replica.old.limits.max_batch act.now a
-        → IsWithin (record_of controller.now) replica.old.state.log
-        → DoesUnder (record_of controller.now) replica.old replica.new a (reply_of outcome)) }
-    ensures receipt { IfOk result (KeepsReceipt replica.new.state.log) }
-    ensures err { OnErr result (replica.new ≡ replica.old) }
+    ensures moves { IfOk result (λ outcome. (a : ModelAct)
+        → IsAct (member_at place.old).limits.max_batch act.now a
+        → IsWithin (record_of controller.now) (member_at place.old).state.log
+        → Moves (record_of controller.now) (map letter_in messages.old.items)
+        (member_at place.old) (member_at place.new) a outcome (map letter_in messages.new.items)) }
+    ensures receipt { IfOk result (KeepsReceipt (member_at place.new).state.log) }
+    ensures err { OnErr result (place.new ≡ place.old) }
+    ensures none { OnErr result (messages.new.items ≡ messages.old.items) }
 {
+    let replica = match place {
+        Place::Up(replica) => replica,
+        Place::Down(kept) => return Ok(Err(kept.refusal())),
+    };
     let outcome = match act {
         Act::Adopt => replica.adopt(controller).map(Answer::Adopted),
         Act::Produce { bytes } => {
@@ -56,6 +80,10 @@ pub(crate) fn act(
             replica.produce(shared).map(Answer::Appended)
         }
         Act::Mark { marker } => replica.mark(alloc, marker).map(Answer::Appended),
+        Act::Ask => {
+            messages.reserve(1)?;
+            ask(messages, replica)
+        }
         Act::Raise => replica.raise().map(Answer::Watermark),
         Act::Show => Ok(shown(replica)),
         Act::Read { from } => read_lines(alloc, replica, *from).map(Answer::Lines),

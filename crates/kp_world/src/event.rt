@@ -4,8 +4,9 @@ use crate::records::ReadRecords;
 use kp_batch::Handed;
 use kp_control::LeaderAndIsr;
 use kp_marker::Marker;
-use kp_replica::{Receipt, Role};
-use kp_types::{NodeId, Offset, Refusal};
+use kp_model::EpochEnd;
+use kp_replica::{CutBack, Receipt, Role, Taken};
+use kp_types::{Epoch, NodeId, Offset, Refusal};
 
 /// One atomic action of one actor: of the controller, or of a node. (Kafka replication design.)
 #[derive(Drop)]
@@ -14,6 +15,9 @@ pub enum Event {
     Elect { node: NodeId },
     /// The node does this.
     Acts { node: NodeId, act: Act },
+    /// The message of this number comes to the node to which it goes. Messages are numbered from 0 on in the order in which
+    /// they were sent, and each may come any number of times.
+    Deliver { number: u64 },
 }
 
 /// What a node does.
@@ -26,6 +30,8 @@ pub enum Act {
     /// A transaction coordinator hands it this marker, to be appended. Its fields lie in their ranges: `producer_id`
     /// below 2^63, `producer_epoch` below 2^15, `coordinator_epoch` below 2^31, `timestamp` below 2^62. (KIP-98.)
     Mark { marker: Marker },
+    /// It asks the leader that it follows.
+    Ask,
     /// It raises its high watermark, as far as it may.
     Raise,
     /// It tells its state.
@@ -37,6 +43,19 @@ pub enum Act {
     Committed { from: Offset },
 }
 
+/// What a message says.
+#[derive(Clone, Copy, Debug, PartialEq, Eq)]
+pub enum Said {
+    /// A follower asks for the batches from its log's end on.
+    AsksFrom(Offset),
+    /// A follower asks where its last batch's leader epoch ends, or epoch 0 where its log is empty.
+    AsksEpoch(Epoch),
+    /// A leader hands over so many batches, with its high watermark.
+    Batches { count: u64, watermark: Offset },
+    /// A leader says where an epoch of its log ends; none where it has no epoch up to the asked one.
+    EpochEnd(Option<EpochEnd>),
+}
+
 /// What an event that isn't refused answers.
 #[derive(Drop)]
 pub enum Answer {
@@ -44,6 +63,15 @@ pub enum Answer {
     Changed(LeaderAndIsr),
     Adopted(Role),
     Appended(Receipt),
+    /// The node has sent the message of this number.
+    Sent {
+        number: u64,
+        said: Said,
+    },
+    /// It took batches of a fetch answer.
+    Took(Taken),
+    /// It took back its log's tail.
+    Cut(CutBack),
     /// The high watermark.
     Watermark(Offset),
     Shown {

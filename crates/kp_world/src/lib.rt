@@ -6,12 +6,15 @@
 ghost use Rattle.kp_world.specs.Laws.{EventsAreTold, EventsAreToldOnce, PlaysGoOn};
 
 mod acting;
+mod delivering;
 mod event;
+mod place;
 mod read;
 mod records;
+mod sending;
 mod world;
 
-pub use event::{Act, Answer, Event, Stopped, Trace};
+pub use event::{Act, Answer, Event, Said, Stopped, Trace};
 pub use records::{ReadRecord, ReadRecords};
 pub use world::{World, run};
 
@@ -30,5 +33,10 @@ pub fn plays_go_on()
     ensures { PlaysGoOn }
 {
     kp_model::runs_are_safe();
+    kp_model::no_delivery_is_refused_oddly();
     kp_model::runs_keep_count();
+    kp_model::messages_go_to_nodes();
+    kp_model::runs_keep_logs();
+    kp_model::runs_keep_kin();
+    kp_model::cut_is_the_step();
 }

@@ -1,7 +1,7 @@
-use Rattle.std.proofs.Common.{ℕ, ◌<◌, List, [], Result, take, sym, subst}
+use Rattle.std.proofs.Common.{ℕ, List, [], Result, take, sym, subst}
 use Rattle.std.specs.List.{AllByRecursion}
 use Rattle.kp_types.specs.declared.refusal.Refusal.{Refusal}
-use Rattle.kp_world.specs.Events.{node_of}
+use Rattle.kp_world.specs.Events.{IsAmong}
 use Rattle.kp_world.specs.Plays.{IsAnswered, IsReached}
 use Rattle.kp_world.specs.declared.event.Answer.{Answer}
 use Rattle.kp_world.proofs.Playing.{answered, nothing_answered, reached_none}
@@ -17,7 +17,7 @@ returns-in_default-clause-stopped c = λ es are. (
 
 pub play-played-requires-clause-nodes : goal.play-played-requires-clause-nodes
 play-played-requires-clause-nodes c =
-    subst (λ (n : ℕ). AllByRecursion (λ event. node_of event < n) c.args.events.now) (sym c.in-Ok.ensures.count) c.requires.nodes
+    subst (λ (n : ℕ). AllByRecursion (IsAmong n) c.args.events.now) (sym c.in-Ok.ensures.count) c.requires.nodes
 
 -- the start
 started : (c : In-Ok) → IsReached c.args.count c.args.limits.now [] [] c.in-Ok.world
@@ -25,7 +25,7 @@ started c = reached_none c.args.count c.args.limits.now c.in-Ok.world c.in-Ok.en
 
 pub returns-in-Ok-played-clause-played : goal.returns-in-Ok-played-clause-played
 returns-in-Ok-played-clause-played c = λ es are.
-    answered c.args.count c.args.limits.now es c.play-played.new.outcomes.items c.play-played.new.self (c.runs_are_safe.ensures c.args.count)
+    answered c.args.count c.args.limits.now es c.play-played.new.outcomes.items c.play-played.new.self (c.runs_are_safe.ensures c.args.count) c.no_delivery_is_refused_oddly.ensures
     (c.in-Ok-played.ensures.played c.args.limits.now es are c.args.count [] [] (started ((goal.at.returns-in-Ok-played-clause-played c).In-Ok)))
 
 pub returns-clause-stopped : goal.returns-clause-stopped
@@ -33,5 +33,5 @@ returns-clause-stopped c = λ es are.
     let so_far = c.in-Err.ensures.stopped c.args.limits.now es are in (
       so_far.0,
       answered c.args.count c.args.limits.now (take so_far.0 es) c.play-played.new.outcomes.items c.play-played.new.self
-          (c.runs_are_safe.ensures c.args.count) (so_far.1 c.args.count [] [] (started ((goal.at.returns-clause-stopped c).In-Ok))),
+          (c.runs_are_safe.ensures c.args.count) c.no_delivery_is_refused_oddly.ensures (so_far.1 c.args.count [] [] (started ((goal.at.returns-clause-stopped c).In-Ok))),
     )

@@ -1,4 +1,4 @@
-use Rattle.std.proofs.Common.{◌≡◌, [], ◌∷◌, Some, Result, Ok, Err, sym, ap, ◌∙◌, subst}
+use Rattle.std.proofs.Common.{◌≡◌, [], ◌∷◌, Some, Result, Ok, Err, map, sym, ap, ◌∙◌, subst}
 use Rattle.std.proofs.lemmas.Result.{err_from_is_err_and}
 use Rattle.kp_model.specs.Event.{Elect}
 use Rattle.kp_model.specs.Step.{elect_cause}
@@ -8,7 +8,8 @@ use Rattle.kp_types.specs.declared.refusal.Refusal.{Refusal}
 use Rattle.kp_world.specs.declared.event.Answer.{Answer}
 use Rattle.kp_world.specs.declared.event.Answer.TheVariants as answers
 use Rattle.kp_world.specs.Plays.{LeadOn}
-use Rattle.kp_world.specs.Shown.{Stage}
+use Rattle.kp_model.specs.Letter.{letter}
+use Rattle.kp_world.specs.Shown.{Stage, member_at}
 use Rattle.kp_world.proofs.Moved.{elected_on, not_elected}
 use Rattle.kp_world.proofs.world.World.elect.Goals as goal
 use Rattle.kp_types.proofs.Causes.{only_cause, only_none}
@@ -27,7 +28,9 @@ pub returns-clause-step : goal.returns-clause-step
 returns-clause-step c = λ limits.
     let old = c.self.inside.controller in
     let changed = c.in_ok-changed.changed in
-    let new : Stage = record { controller = record_of changed; members = c.self.inside.replicas.items } in
+    let members = map member_at c.self.inside.places.items in
+    let letters = map letter c.self.inside.messages.items in
+    let new : Stage = record { controller = record_of changed; members = members; letters = letters } in
     subst (λ (stage : Stage). LeadOn limits stage (Elect c.args.node ∷ []) (Ok (answers.Changed changed) ∷ []) new) c.self.view_is
-    (elected_on limits c.args.node old changed c.self.inside.replicas.items
+    (elected_on limits c.args.node old changed members letters
     (only_none LeaderAndIsr (elect_cause (record_of old) c.args.node) changed c.in_ok-changed.ensures.refused) c.in_ok-changed.ensures.elected)

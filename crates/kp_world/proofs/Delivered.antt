@@ -1,0 +1,133 @@
+-- What a message that comes leads on to.
+use Rattle.std.proofs.Common.{◌≡◌, ℕ, ◌<◌, ◌≤◌, List, [], ◌∷◌, length, map, set, get_or, None, Some, Option, Result, Err, refl, sym, ap, ◌∙◌, subst, arith, inl, inr}
+use Rattle.std.specs.Prelude.{slice_get, is_some}
+use Rattle.std.proofs.lemmas.Bool.{false≢true}
+use Rattle.std.specs.Option.{option_map}
+use Rattle.std.proofs.lemmas.List.{get_or-map, length-map, map-set}
+use Rattle.std.proofs.lemmas.Option.{slice_get-map}
+use Rattle.kp_types.specs.declared.limits.Limits.{Limits}
+use Rattle.kp_types.specs.declared.refusal.Refusal.{Refusal}
+use Rattle.kp_types.specs.declared.refusal.Refusal.TheVariants as refusals
+use Rattle.kp_model.specs.Log.{IsLog, IsKin}
+use Rattle.kp_model.specs.World.{LeaderAndIsr, Node, Answer as ModelAnswer, Message, Asks, Answers, IsSent, addressee, sender}
+use Rattle.kp_model.specs.Event.{Receive, Refused, Deliver, Reply}
+use Rattle.kp_model.specs.declared.message.EpochAnswer.{EpochAnswer}
+use Rattle.kp_model.specs.Laws.{MessagesGoToNodes, RunsKeepCount, RunsKeepLogs, RunsKeepKin, NoCutBelowTheWatermark, AreTwoNodes, place_of}
+use Rattle.kp_model.specs.Letter.{Letter, epoch_end_answer, letter_of}
+use Rattle.kp_model.specs.Local.{cut_cause}
+use Rattle.kp_model.specs.Run.{Run, last}
+use Rattle.kp_model.specs.Step.{Delivers, NodeStep, told}
+use Rattle.kp_model.proofs.RunLaws.{last_is_of}
+use Rattle.kp_model.proofs.Letters.{asks_for}
+use Rattle.kp_replica.specs.Member.{Member, DoesUnder}
+use Rattle.kp_world.specs.declared.event.Answer.{Answer}
+use Rattle.kp_world.specs.Answers.{outcome_of}
+use Rattle.kp_world.specs.Moves.{IsOfRun, Moves, goes_to}
+use Rattle.kp_world.specs.Plays.{LeadOn}
+use Rattle.kp_world.specs.Shown.{IsNode, Stage, member_at}
+use Rattle.kp_world.specs.declared.place.Place.{Place}
+use Rattle.kp_world.proofs.Moved.{stepped}
+use Rattle.kp_world.proofs.Playing.{reached_more}
+
+-- the message of this number, where its letter stands in the pool
+record Sent (messages : List Message) (number : ℕ) (l : Letter) : Type 0 where
+  message : Message
+  there : slice_get messages number ≡ Some message
+  letter_is : letter_of message ≡ l
+
+sent_there : (messages : List Message) (letters : List Letter) (number : ℕ) (l : Letter) → map letter_of messages ≡ letters → slice_get letters number ≡ Some l → Sent messages number l
+sent_there messages letters number l are is =
+    by (slice_get messages number) refl (sym (slice_get-map letter_of messages number) ∙ ap (λ (ls : List Letter). slice_get ls number) are ∙ is)
+  where
+    by : (o : Option Message) → slice_get messages number ≡ o → option_map letter_of o ≡ Some l → Sent messages number l
+    by None there same = absurd cc
+    by (Some m) there same = record { message = m; there = there; letter_is = cc }
+
+none_there : (messages : List Message) (letters : List Letter) (number : ℕ) → map letter_of messages ≡ letters → slice_get letters number ≡ None → slice_get messages number ≡ None
+none_there messages letters number are is =
+    by (slice_get messages number) refl (sym (slice_get-map letter_of messages number) ∙ ap (λ (ls : List Letter). slice_get ls number) are ∙ is)
+  where
+    by : (o : Option Message) → slice_get messages number ≡ o → option_map letter_of o ≡ None → slice_get messages number ≡ None
+    by None there same = there
+    by (Some m) there same = absurd cc
+
+goes : (m : Message) → goes_to (letter_of m) ≡ addressee m
+goes (Asks r) = refl
+goes (Answers a) = refl
+
+-- what the laws of runs say of a message
+of_run : RunsKeepLogs → RunsKeepKin → NoCutBelowTheWatermark → (count : ℕ) (r : Run count) (number : ℕ) (m : Message) (c : LeaderAndIsr) (x : Member) → slice_get (last r).messages number ≡ Some m
+    → (last r).controller ≡ c → (last r).nodes x.number ≡ x.state → IsOfRun c x m
+of_run keep_logs keep_kin no_cut count r number (Asks q) c x there record_is state = tt
+of_run keep_logs keep_kin no_cut count r number (Answers a) c x there record_is state =
+    let w = last r in
+    let is_of = last_is_of count r in
+    let sent : IsSent w.messages (Answers a) = (number, there) in (
+      keep_logs count r w is_of a.log (inr (Answers a, sent, inr refl)),
+      keep_kin count r w w is_of is_of x.state.log a.log (inl (x.number, ap (λ (y : Node). y.log) (sym state))) (inr (Answers a, sent, inr refl)),
+      λ asks free. subst (λ (y : Node). y.watermark ≤ (place_of y a).0) state
+          (no_cut count r w is_of x.number a sent asks
+          (subst (λ (k : LeaderAndIsr). cut_cause k x.number (w.nodes x.number) a ≡ None) (sym record_is)
+          (subst (λ (y : Node). cut_cause c x.number y a ≡ None) (sym state) free))),
+    )
+
+-- the message came to the node to which it goes
+pub delivered : RunsKeepLogs → RunsKeepKin → NoCutBelowTheWatermark → (limits : Limits) (number : ℕ) (l : Letter) (i : ℕ) (stage : Stage) (x m : Member) (outcome : Result Answer Refusal)
+    (letters : List Letter) → slice_get stage.letters number ≡ Some l → i ≡ goes_to l → i < length stage.members → x ≡ get_or stage.members i x
+    → ((message : Message) → letter_of message ≡ l → IsOfRun stage.controller x message → Moves stage.controller stage.letters x m (Receive message) outcome letters)
+    → LeadOn limits stage (Deliver number ∷ []) (outcome ∷ []) (record { controller = stage.controller; members = set stage.members i m; letters = letters })
+delivered keep_logs keep_kin no_cut limits number l i stage x m outcome letters is goes_there inside there did count before earlier p =
+    let w = last p.run in
+    let sent = sent_there w.messages stage.letters number l p.shown.letters_are is in
+    let message = sent.message in
+    let here : i ≡ addressee message = goes_there ∙ ap goes_to (sym sent.letter_is) ∙ goes message in
+    let old : IsNode limits i x (w.nodes i) = subst (λ (y : Member). IsNode limits i y (w.nodes i)) (sym there) (p.shown.nodes i x inside) in
+    let state : w.nodes x.number ≡ x.state = ap w.nodes old.number_is ∙ old.state in
+    let s = stepped limits i stage x m (Receive message) outcome letters w inside there p.shown (number, sent.there)
+    (λ number_is limits_are. did message sent.letter_is (of_run keep_logs keep_kin no_cut count p.run number message stage.controller x sent.there p.shown.controller_is state)) in
+    reached_more count limits before earlier stage _ (Deliver number) outcome p s.after
+    (subst (λ (o : Option Message). Delivers w o (outcome_of outcome) s.after) (sym sent.there) (subst (λ (k : ℕ). NodeStep w k (Receive message) (outcome_of outcome) s.after) here s.step)) tt s.shown
+
+-- no message has this number
+pub undelivered : (limits : Limits) (number : ℕ) (stage : Stage) → slice_get stage.letters number ≡ None
+    → LeadOn limits stage (Deliver number ∷ []) (Err refusals.StaleAnswer ∷ []) stage
+undelivered limits number stage none count before earlier p =
+    let w = last p.run in
+    reached_more count limits before earlier stage stage (Deliver number) (Err refusals.StaleAnswer) p w
+    (subst (λ (o : Option Message). Delivers w o (told (Refused refusals.StaleAnswer)) w) (sym (none_there w.messages stage.letters number p.shown.letters_are none)) (refl, refl)) tt p.shown
+
+-- no message of a run goes nowhere
+pub goes_nowhere : MessagesGoToNodes → RunsKeepCount → (limits : Limits) (number : ℕ) (l : Letter) (stage new : Stage) (outcome : Result Answer Refusal) → slice_get stage.letters number ≡ Some l
+    → length stage.members ≤ goes_to l → LeadOn limits stage (Deliver number ∷ []) (outcome ∷ []) new
+goes_nowhere go keep limits number l stage new outcome is beyond count before earlier p =
+    let w = last p.run in
+    let is_of = last_is_of count p.run in
+    let sent = sent_there w.messages stage.letters number l p.shown.letters_are is in
+    let two : AreTwoNodes count (sender sent.message) (addressee sent.message) = go count p.run w is_of sent.message (number, sent.there) in
+    let there : goes_to l ≡ addressee sent.message = ap goes_to (sym sent.letter_is) ∙ goes sent.message in
+    absurd (omega (arith, two.1, there, beyond, p.shown.count, keep count p.run w is_of))
+
+-- what an epoch answer does, for each message with its letter
+pub epoch_came : (c : LeaderAndIsr) (old new : Member) (answer : EpochAnswer) (m : Message) (reply : Reply) → letter_of m ≡ epoch_end_answer answer → IsOfRun c old m
+    → ((a : ModelAnswer) → letter_of (Answers a) ≡ epoch_end_answer answer → IsLog a.log → IsKin old.state.log a.log
+    → (cut_cause c old.number old.state a ≡ None → old.state.watermark ≤ (place_of old.state a).0) → DoesUnder c old new (Receive (Answers a)) reply)
+    → DoesUnder c old new (Receive m) reply
+epoch_came c old new answer (Asks q) reply is of event =
+    absurd (false≢true (ap (λ (l : Letter). is_some l.answering) is))
+epoch_came c old new answer (Answers a) reply is of event =
+    event a is of.0 of.1 (λ free. of.2 (asks_for a.request answer.request.last_epoch (ap (λ (l : Letter). l.asking) is)).fetching free)
+
+-- ---- beside the code's places and letters
+
+pub came : RunsKeepLogs → RunsKeepKin → NoCutBelowTheWatermark → (limits : Limits) (number : ℕ) (l : Letter) (i : ℕ) (c : LeaderAndIsr) (places : List Place) (p q : Place)
+    (letters after : List Letter) (outcome : Result Answer Refusal) → slice_get letters number ≡ Some l → i ≡ goes_to l → i < length places → p ≡ get_or places i p
+    → ((message : Message) → letter_of message ≡ l → IsOfRun c (member_at p) message → Moves c letters (member_at p) (member_at q) (Receive message) outcome after)
+    → LeadOn limits (record { controller = c; members = map member_at places; letters = letters }) (Deliver number ∷ []) (outcome ∷ [])
+    (record { controller = c; members = map member_at (set places i q); letters = after })
+came keep_logs keep_kin no_cut limits number l i c places p q letters after outcome is goes_there inside there did =
+    let old : Stage = record { controller = c; members = map member_at places; letters = letters } in
+    let within : i < length (map member_at places) = omega (arith, length-map places member_at, inside) in
+    let stands : member_at p ≡ get_or (map member_at places) i (member_at p) = ap member_at there ∙ sym (get_or-map member_at places i p (member_at p) inside) in
+    subst (λ (members : List Member). LeadOn limits old (Deliver number ∷ []) (outcome ∷ []) (record { controller = c; members = members; letters = after }))
+    (sym (map-set member_at places i q))
+    (delivered keep_logs keep_kin no_cut limits number l i old (member_at p) (member_at q) outcome after is goes_there within stands did)
