@@ -4,7 +4,7 @@ use Rattle.std.specs.Prelude.{IsTrue}
 use Rattle.std.specs.List.{list_all}
 use Rattle.std.specs.Fmt.{decimal}
 use Rattle.std.proofs.lemmas.Fmt.{decimal_injective}
-use Rattle.kp_script.specs.Call.{Call, Sender, Elect, Adopt, Append, Raw, Mark, Raise, Show, Read, Committed, IsSender, IsCallInRange, HasOneCall, is_value, verb_text, fields_text, kind_text, values_text, pieces}
+use Rattle.kp_script.specs.Call.{Call, Sender, Elect, Adopt, Append, Raw, Mark, Ask, Deliver, Raise, Show, Read, Committed, IsSender, IsCallInRange, HasOneCall, is_value, verb_text, fields_text, kind_text, values_text, pieces}
 use Rattle.kp_script.specs.Hex.{hex_text, bytes_of}
 use Rattle.kp_script.specs.Read.{sender_front}
 use Rattle.kp_script.proofs.HexLaws.{bytes_back}
@@ -64,6 +64,8 @@ apart count fits (Raw m bs) p = λ n cs q e.
     same_raw m n bs cs first.0 (sym (bytes_back bs p.2) ∙ ap bytes_of first.1 ∙ bytes_back cs q.2)
 apart count fits (Mark m t v w c x) p = λ n u producer epoch coordinator y q e.
     marks_apart count m n t u v producer w epoch c coordinator x y fits p q e
+apart count fits (Ask m) p = λ n q e. ap Ask (same_node count m n fits p q e)
+apart count fits (Deliver m) p = λ n q e. ap Deliver (decimal_injective m n (omega arith) (omega arith) e)
 apart count fits (Raise m) p = λ n q e. ap Raise (same_node count m n fits p q e)
 apart count fits (Show m) p = λ n q e. ap Show (same_node count m n fits p q e)
 apart count fits (Read m f) p = λ n g q e.

@@ -12,8 +12,8 @@ use Rattle.kp_types.proofs.Fronts.{front_behind}
 use Rattle.kp_types.specs.declared.limits.Limits.{Limits}
 use Rattle.kp_types.specs.declared.refusal.Refusal.{Refusal}
 use Rattle.kp_types.specs.declared.refusal.Refusal.TheVariants as refusals
-use Rattle.kp_model.specs.Event.{Event, Outcome, Acts, Elect as ElectNode, Adopt as AdoptRecord, Produce, Mark as HandMarker, Raise as RaiseMark, Show as ShowState, Read as ReadFrom, Committed as ReadCommitted}
-use Rattle.kp_model.specs.Laws.{RunsAreSafe}
+use Rattle.kp_model.specs.Event.{Event, Outcome, Acts, Elect as ElectNode, Adopt as AdoptRecord, Produce, Mark as HandMarker, Ask as AskLeader, Deliver as DeliverMessage, Raise as RaiseMark, Show as ShowState, Read as ReadFrom, Committed as ReadCommitted}
+use Rattle.kp_model.specs.Laws.{NoDeliveryIsRefusedOddly, RunsAreSafe}
 use Rattle.kp_model.specs.Run.{Moment, Run}
 use Rattle.kp_model.specs.World.{start}
 use Rattle.kp_replica.specs.Offers.{BytesAreAnOffer}
@@ -25,7 +25,7 @@ use Rattle.kp_world.specs.Plays.{IsReached, LeadOn, events_of, outcomes_of}
 use Rattle.kp_world.specs.Shown.{IsShown, Stage}
 use Rattle.kp_world.specs.declared.event.Answer.{Answer}
 use Rattle.kp_world.proofs.Playing.{answered, nothing_answered, reached_none}
-use Rattle.kp_script.specs.Call.{Call, IsCall, IsCallInRange, node_of, Elect, Adopt, Append, Raw, Mark, Raise, Show, Read, Committed}
+use Rattle.kp_script.specs.Call.{Call, IsCall, IsCallInRange, node_of, Elect, Adopt, Append, Raw, Mark, Ask, Deliver, Raise, Show, Read, Committed}
 use Rattle.kp_script.specs.Playing.{BeginFrom, LeadTo, PlayTo}
 use Rattle.kp_script.specs.Told.{IsTold, AreTold, TellsAll, offer_of}
 use Rattle.kp_script.specs.Trace.{trace_text}
@@ -209,14 +209,14 @@ played_more count done calls old new refused more known mid now p q =
     }
 
 -- what has been played is the trace of its calls
-pub traced : RunsAreSafe → (count : ℕ) (done : List (ℕ × Call)) (stage : Stage) (refused : ℕ) (known now : Option (List ℕ)) → (p : HasPlayed count done stage refused known now)
+pub traced : RunsAreSafe → NoDeliveryIsRefusedOddly → (count : ℕ) (done : List (ℕ × Call)) (stage : Stage) (refused : ℕ) (known now : Option (List ℕ)) → (p : HasPlayed count done stage refused known now)
     → IsTraceOf count done (trace_text (numbered done) (map outcome_of p.answers)) refused
-traced safe count done stage refused known now p =
+traced safe odd count done stage refused known now p =
     record {
       events = p.events;
       told = p.told;
       outcomes = map outcome_of p.answers;
-      played = (answered count p.limits p.events p.answers stage (safe count) p.reached).played;
+      played = (answered count p.limits p.events p.answers stage (safe count) odd p.reached).played;
       text_is = refl;
       refused_is = p.refused_is;
     }
@@ -237,6 +237,8 @@ told_of offers count (Raw node bytes) h =
     (Acts node (Produce o.0), ((o.0, o.1, refl), (h.0, tt)))
 told_of offers count (Mark node time producer epoch coordinator commit) h =
     (Acts node (HandMarker time producer epoch coordinator commit), (refl, (h.0, tt)))
+told_of offers count (Ask node) h = (Acts node AskLeader, (refl, (h, tt)))
+told_of offers count (Deliver number) h = (DeliverMessage number, (refl, tt))
 told_of offers count (Raise node) h = (Acts node RaiseMark, (refl, (h, tt)))
 told_of offers count (Show node) h = (Acts node ShowState, (refl, (h, tt)))
 told_of offers count (Read node from) h = (Acts node (ReadFrom from), (refl, (h.0, tt)))
@@ -300,9 +302,9 @@ whole_lines go offers count calls done others text refused old now calls_are law
     (text ++ all.rest, all.refused, all.trace, front_behind old now now text [] all.rest out (0, Appends-nil now))
 
 -- and the beginning of another few
-pub begun_lines : RunsAreSafe → PlaysGoOn → BytesAreAnOffer → (count : ℕ) (all done calls others : List (ℕ × Call)) (stage : Stage) (refused : ℕ) (old mid now : Option (List ℕ))
+pub begun_lines : RunsAreSafe → NoDeliveryIsRefusedOddly → PlaysGoOn → BytesAreAnOffer → (count : ℕ) (all done calls others : List (ℕ × Call)) (stage : Stage) (refused : ℕ) (old mid now : Option (List ℕ))
     → all ≡ done ++ (calls ++ others) → AllByRecursion (λ call. IsCall count call.1) others → HasPlayed count done stage refused old mid → BeginFrom calls stage mid now → Front count all old now
-begun_lines safe go offers count all done calls others stage refused old mid now all_are lawful p q =
+begun_lines safe odd go offers count all done calls others stage refused old mid now all_are lawful p q =
     let next = led count done calls stage q.new refused old mid p q.answers q.lead in
     let so_far = trace_text (numbered done) (map outcome_of p.answers) in
     let begun = trace_text (numbered calls) (map outcome_of q.answers) in
@@ -311,7 +313,7 @@ begun_lines safe go offers count all done calls others stage refused old mid now
       events = p.events ++ q.lead.events;
       told = next.0;
       outcomes = map outcome_of (p.answers ++ q.answers);
-      played = (answered count p.limits (p.events ++ q.lead.events) (p.answers ++ q.answers) q.new (safe count) next.1).played;
+      played = (answered count p.limits (p.events ++ q.lead.events) (p.answers ++ q.answers) q.new (safe count) odd next.1).played;
       text_is = sym next.2;
       refused_is = refl;
     } in

@@ -1,5 +1,5 @@
 -- How far a script is read, and what its first fault is.
-use Rattle.std.proofs.Common.{◌≡◌, ℕ, ◌+◌, ◌≤◌, List, [], ◌∷◌, ◌++◌, refl, sym, ap, ◌∙◌, subst, arith, inl, inr, length, map, length-append}
+use Rattle.std.proofs.Common.{◌≡◌, ℕ, ◌+◌, ◌≤◌, List, [], ◌∷◌, ◌++◌, refl, ap, ◌∙◌, subst, arith, codes, inl, inr, length, map, length-append}
 use Rattle.std.specs.List.{AllByRecursion}
 use Rattle.std.proofs.lemmas.List.{length-map}
 use Rattle.kp_script.specs.Call.{Call, Header, call_text, IsCall, IsHeaderText, IsCallText, SpellsNoHeader, SpellsNoCall}
@@ -7,6 +7,7 @@ use Rattle.kp_script.specs.Lines.{lines, counted, counted_from}
 use Rattle.kp_script.specs.Script.{BeginsScript, IsFaultAt}
 use Rattle.kp_script.specs.Seen.{seen_line}
 use Rattle.kp_script.specs.declared.script.Line.{Line}
+use Rattle.kp_script.proofs.Numbers.{same_field}
 
 -- the line of a call
 abbrev pub text_of : ℕ × Call → ℕ × List ℕ
@@ -48,12 +49,18 @@ begins bytes header items number rest p =
       few = omega (arith, length-map (map seen_line items) text_of, length-map items seen_line, p.few);
     }
 
+-- a text is that of one count of nodes
+one_count : (bytes : List ℕ) (a b : Header) → IsHeaderText bytes a → IsHeaderText bytes b → a.count ≡ b.count
+one_count bytes a b p q =
+    let few : a.count ≤ 7 = p.0.greatest_count in
+    let others : b.count ≤ 7 = q.0.greatest_count in
+    (same_field (codes "nodes ") bytes a.count b.count _ _ (omega arith) (omega arith) p.1 q.1).0
+
 -- a line that is no call's can't stand behind a header
-no_call : (count : ℕ) (first bad : ℕ × List ℕ) (front : List (ℕ × List ℕ)) → count ≡ 1 → SpellsNoCall count bad.1 → BeginsScript first (front ++ bad ∷ []) → ⊥
-no_call count first bad front one none b =
+no_call : (header : Header) (first bad : ℕ × List ℕ) (front : List (ℕ × List ℕ)) → IsHeaderText first.1 header → SpellsNoCall header.count bad.1 → BeginsScript first (front ++ bad ∷ []) → ⊥
+no_call header first bad front is none b =
     let last : Spelled b.header.count bad = all_last (Spelled b.header.count) front bad b.calls in
-    let same : b.header.count ≡ count = b.spelled.0.count ∙ sym one in
-    none last.0 (subst (λ (n : ℕ). IsCall n last.0) same last.1.0) last.1.1
+    none last.0 (subst (λ (n : ℕ). IsCall n last.0) (one_count first.1 b.header header b.spelled is) last.1.0) last.1.1
 
 -- no line can stand behind the last event
 too_many : (first bad : ℕ × List ℕ) (front : List (ℕ × List ℕ)) → length front ≡ 1000000 → BeginsScript first (front ++ bad ∷ []) → ⊥
@@ -79,7 +86,7 @@ pub fault_of_call : (bytes : List ℕ) (header : Header) (items : List Line) (nu
     SpellsNoCall header.count text → IsFaultAt bytes place
 fault_of_call bytes header items number rest place text after left p here none =
     fault_here bytes header items number rest (place, text) after left p here
-    (no_call header.count p.first (place, text) (map text_of (map seen_line items)) p.spelled.0.count none)
+    (no_call header p.first (place, text) (map text_of (map seen_line items)) p.spelled none)
 
 -- the next line is an event too many
 pub fault_of_count : (bytes : List ℕ) (header : Header) (items : List Line) (number : ℕ) (rest : List ℕ) (place : ℕ) (text : List ℕ) (after : ℕ) (left : List ℕ) →

@@ -182,3 +182,9 @@ follows_pushed text a b now leader epoch l e same is p q r =
     grown a b text (codes "follows " ++ decimal leader) (codes " epoch " ++ decimal epoch) _ (q ∙ ap (λ (n : ℕ). a ++ (codes " epoch " ++ decimal n)) is) first refl in
     grown b now text ((codes "follows " ++ decimal leader) ++ (codes " epoch " ++ decimal epoch)) (codes " reconciling") _ r second
     (sym (append_assoc (codes "follows " ++ decimal leader) (codes " epoch " ++ decimal epoch) (codes " reconciling")))
+
+-- what a reconciling follower asks, word by word
+pub asks_pushed : (text mid now : List ℕ) (number epoch e : ℕ) → e ≡ epoch → mid ≡ text ++ (codes "sent " ++ decimal number) → now ≡ mid ++ (codes " asks epoch " ++ decimal e)
+    → now ≡ text ++ spaced (codes "sent" ∷ decimal number ∷ codes "asks epoch" ∷ decimal epoch ∷ [])
+asks_pushed text mid now number epoch e same p q =
+    grown mid now text (codes "sent " ++ decimal number) (codes " asks epoch " ++ decimal epoch) _ (q ∙ ap (λ (n : ℕ). mid ++ (codes " asks epoch " ++ decimal n)) same) p refl

@@ -1,10 +1,13 @@
 -- Calls by their verbs: no two verbs have one text, and none has a space.
-use Rattle.std.proofs.Common.{◌≡◌, ◌≢◌, ℕ, Bool, true, not, eqb, List, [], ◌∷◌, ◌++◌, MatchBool, refl, sym, ◌∙◌, subst, codes}
-use Rattle.std.specs.Prelude.{bytes_eq}
+use Rattle.std.proofs.Common.{◌≡◌, ◌≢◌, ℕ, ◌<◌, Bool, true, not, eqb, List, [], ◌∷◌, ◌++◌, MatchBool, refl, sym, ◌∙◌, subst, codes}
+use Rattle.std.specs.Prelude.{bytes_eq, IfNone, IfSome, None, Option, Some}
+use Rattle.std.specs.Fmt.{decimal}
 use Rattle.std.specs.List.{list_all}
 use Rattle.std.proofs.lemmas.Bool.{and_parts, eqb-false, not-true}
-use Rattle.kp_script.specs.Call.{Call, Sender, Elect, Adopt, Append, Raw, Mark, Raise, Show, Read, Committed, IsCallInRange, SpellsNoCall, verb_text, fields_text}
-use Rattle.kp_script.specs.Read.{Lacks, AreNoFields}
+use Rattle.kp_script.specs.Call.{Call, Sender, Elect, Adopt, Append, Raw, Mark, Ask, Deliver, Raise, Show, Read, Committed, IsCallInRange, SpellsNoCall, verb_text, fields_text}
+use Rattle.kp_script.specs.Read.{Lacks, AreFields, AreNoFields, IsNoNodeVerb}
+use Rattle.kp_script.specs.Seen.{seen_call}
+use Rattle.kp_script.specs.declared.call.Call.{Call as ParsedCall}
 use Rattle.kp_script.proofs.Splitting.{one_parting}
 
 infixr 5 when◌then◌else◌
@@ -21,6 +24,8 @@ Each P verb =
     when bytes_eq verb (codes "raw") then ((node : ℕ) (bytes : List ℕ) → P (Raw node bytes)) else
     when bytes_eq verb (codes "mark") then ((node time producer epoch coordinator : ℕ) (commit : Bool) →
     P (Mark node time producer epoch coordinator commit)) else
+    when bytes_eq verb (codes "ask") then ((node : ℕ) → P (Ask node)) else
+    when bytes_eq verb (codes "deliver") then ((number : ℕ) → P (Deliver number)) else
     when bytes_eq verb (codes "raise") then ((node : ℕ) → P (Raise node)) else
     when bytes_eq verb (codes "show") then ((node : ℕ) → P (Show node)) else
     when bytes_eq verb (codes "read") then ((node from : ℕ) → P (Read node from)) else
@@ -33,6 +38,8 @@ each P (Adopt node) h = h node
 each P (Append node time sender transactional values) h = h node time sender transactional values
 each P (Raw node bytes) h = h node bytes
 each P (Mark node time producer epoch coordinator commit) h = h node time producer epoch coordinator commit
+each P (Ask node) h = h node
+each P (Deliver number) h = h number
 each P (Raise node) h = h node
 each P (Show node) h = h node
 each P (Read node from) h = h node from
@@ -68,26 +75,55 @@ no_call count line verb bytes parted lacks none call is e =
     let parts = one_parting 32 verb (verb_text call) bytes (fields_text call) lacks (verb_lacks call) (sym parted ∙ e) in
     none call is.range parts.0 parts.1
 
--- The text is no verb.
-pub record IsNoVerb (text : List ℕ) : Type 0 where
-  pub elect : text ≢ codes "elect"
-  pub adopt : text ≢ codes "adopt"
+-- The text is no verb of a call that has more, or other, fields than a node.
+pub record IsNoLongVerb (text : List ℕ) : Type 0 where
   pub append : text ≢ codes "append"
   pub raw : text ≢ codes "raw"
   pub mark : text ≢ codes "mark"
-  pub raise : text ≢ codes "raise"
-  pub show : text ≢ codes "show"
+  pub deliver : text ≢ codes "deliver"
   pub read : text ≢ codes "read"
   pub committed : text ≢ codes "committed"
 
--- Such a text is no call's verb.
-pub no_verb : (text : List ℕ) → IsNoVerb text → (call : Call) → text ≢ verb_text call
-no_verb text none (Elect node) = none.elect
-no_verb text none (Adopt node) = none.adopt
-no_verb text none (Append node time sender transactional values) = none.append
-no_verb text none (Raw node bytes) = none.raw
-no_verb text none (Mark node time producer epoch coordinator commit) = none.mark
-no_verb text none (Raise node) = none.raise
-no_verb text none (Show node) = none.show
-no_verb text none (Read node from) = none.read
-no_verb text none (Committed node from) = none.committed
+-- A call of such a verb names a node that there is, and it is all that its fields say.
+pub record NamesNode (count : ℕ) (call : Call) : Type 0 where
+  pub node : ℕ
+  pub within : node < count
+  pub fields : fields_text call ≡ decimal node
+
+pub names_node : (count : ℕ) (text : List ℕ) → IsNoLongVerb text → (call : Call) → IsCallInRange count call → text ≡ verb_text call → NamesNode count call
+names_node count text none (Elect node) range v = record { node = node; within = range; fields = refl }
+names_node count text none (Adopt node) range v = record { node = node; within = range; fields = refl }
+names_node count text none (Append node time sender transactional values) range v = absurd (none.append v)
+names_node count text none (Raw node bytes) range v = absurd (none.raw v)
+names_node count text none (Mark node time producer epoch coordinator commit) range v = absurd (none.mark v)
+names_node count text none (Ask node) range v = record { node = node; within = range; fields = refl }
+names_node count text none (Deliver number) range v = absurd (none.deliver v)
+names_node count text none (Raise node) range v = record { node = node; within = range; fields = refl }
+names_node count text none (Show node) range v = record { node = node; within = range; fields = refl }
+names_node count text none (Read node from) range v = absurd (none.read v)
+names_node count text none (Committed node from) range v = absurd (none.committed v)
+
+-- A text that is neither verb is no call's.
+pub no_verb : (text : List ℕ) → IsNoLongVerb text → IsNoNodeVerb text → (call : Call) → text ≢ verb_text call
+no_verb text none other (Elect node) = other.elect
+no_verb text none other (Adopt node) = other.adopt
+no_verb text none other (Append node time sender transactional values) = none.append
+no_verb text none other (Raw node bytes) = none.raw
+no_verb text none other (Mark node time producer epoch coordinator commit) = none.mark
+no_verb text none other (Ask node) = other.ask
+no_verb text none other (Deliver number) = none.deliver
+no_verb text none other (Raise node) = other.raise
+no_verb text none other (Show node) = other.show
+no_verb text none other (Read node from) = none.read
+no_verb text none other (Committed node from) = none.committed
+
+-- ---- what a call of a node alone comes to
+
+pub found_with : (o : Option ParsedCall) (count node : ℕ) (verb bytes : List ℕ) → bytes ≡ decimal node → node < count
+    → IfSome o (λ call. (k : ℕ) → node < k → AreFields k verb (decimal node) (seen_call call)) → IfSome o (λ call. AreFields count verb bytes (seen_call call))
+found_with None count node verb bytes is within h = tt
+found_with (Some call) count node verb bytes is within h = subst (λ (xs : List ℕ). AreFields count verb xs (seen_call call)) (sym is) (h count within)
+
+pub none_with : (o : Option ParsedCall) (count : ℕ) (verb bytes : List ℕ) → IsNoLongVerb verb → IfNone o (IsNoNodeVerb verb) → IfNone o (AreNoFields count verb bytes)
+none_with None count verb bytes none h = λ call range v e. no_verb verb none h call v
+none_with (Some call) count verb bytes none h = tt

@@ -11,25 +11,29 @@ pub record Sender : Type 0 where
   pub epoch : Option ℕ
   pub sequence : Option ℕ
 
--- what an event's line asks of a node
+-- what an event's line asks for, mostly of a node
 pub data Call : Type 0 where
   Elect : (node : ℕ) → Call
   Adopt : (node : ℕ) → Call
   Append : (node time : ℕ) → (sender : Sender) → (transactional : Bool) → (values : List (List ℕ)) → Call
   Raw : (node : ℕ) → (bytes : List ℕ) → Call
   Mark : (node time producer epoch coordinator : ℕ) → (commit : Bool) → Call
+  Ask : (node : ℕ) → Call
+  Deliver : (number : ℕ) → Call
   Raise : (node : ℕ) → Call
   Show : (node : ℕ) → Call
   Read : (node from : ℕ) → Call
   Committed : (node from : ℕ) → Call
 
--- the node that a call names
+-- The node that a call names. A delivery names none, and none of its replies tells a node: 0 stands there.
 abbrev pub node_of : Call → ℕ
 node_of (Elect node) = node
 node_of (Adopt node) = node
 node_of (Append node time sender transactional values) = node
 node_of (Raw node bytes) = node
 node_of (Mark node time producer epoch coordinator commit) = node
+node_of (Ask node) = node
+node_of (Deliver number) = 0
 node_of (Raise node) = node
 node_of (Show node) = node
 node_of (Read node from) = node
@@ -83,6 +87,8 @@ words_of (Append node time sender transactional values) = (
 words_of (Raw node bytes) = (codes "raw", decimal node ∷ hex_text bytes ∷ [])
 words_of (Mark node time producer epoch coordinator commit) =
     (codes "mark", decimal node ∷ decimal time ∷ decimal producer ∷ decimal epoch ∷ decimal coordinator ∷ ending_text commit ∷ [])
+words_of (Ask node) = (codes "ask", decimal node ∷ [])
+words_of (Deliver number) = (codes "deliver", decimal number ∷ [])
 words_of (Raise node) = (codes "raise", decimal node ∷ [])
 words_of (Show node) = (codes "show", decimal node ∷ [])
 words_of (Read node from) = (codes "read", decimal node ∷ decimal from ∷ [])
@@ -106,9 +112,10 @@ is_value_byte byte = nat_le 33 byte && nat_le byte 126 && not (byte == 44)
 abbrev pub is_value : List ℕ → Bool
 is_value value = nat_le 1 (length value) && list_all is_value_byte value
 
--- A header's numbers are in range. There is one node.
+-- A header's numbers are in range. There are up to seven nodes.
 pub record IsHeader (header : Header) : Type 0 where
-  pub count : header.count ≡ 1
+  pub least_count : 1 ≤ header.count
+  pub greatest_count : header.count ≤ 7
   pub least_segment : 1024 ≤ header.segment
   pub greatest_segment : header.segment ≤ 1073741824
   pub interval : header.interval ≤ 1048576
@@ -129,6 +136,8 @@ IsCallInRange count (Append node time sender transactional values) =
 IsCallInRange count (Raw node bytes) = (node < count) × (0 < length bytes) × AreBytes bytes
 IsCallInRange count (Mark node time producer epoch coordinator commit) =
     (node < count) × (time < 2 ^ 62) × (producer < 2 ^ 63) × (epoch < 2 ^ 15) × (coordinator < 2 ^ 31)
+IsCallInRange count (Ask node) = node < count
+IsCallInRange count (Deliver number) = number < 2 ^ 31
 IsCallInRange count (Raise node) = node < count
 IsCallInRange count (Show node) = node < count
 IsCallInRange count (Read node from) = (node < count) × (from < 2 ^ 62)

@@ -1,6 +1,6 @@
 -- What the parser's values say, apart from where they lie in memory.
 use Rattle.std.specs.Prelude.{ℕ, map}
-use Rattle.kp_script.specs.Call.{Call, Header, Sender, Elect, Adopt, Append, Raw, Mark, Raise, Show, Read, Committed, pieces}
+use Rattle.kp_script.specs.Call.{Call, Header, Sender, Elect, Adopt, Append, Raw, Mark, Ask, Deliver, Raise, Show, Read, Committed, pieces}
 use Rattle.kp_marker.specs.Marker.{commits}
 use Rattle.kp_script.specs.Hex.{bytes_of}
 use Rattle.kp_script.specs.declared.call.Call.{Call as ParsedCall}
@@ -24,6 +24,8 @@ seen_call (parsed.Append node time sender transactional values) = Append node ti
 seen_call (parsed.Raw node digits) = Raw node (bytes_of digits.now)
 seen_call (parsed.Mark node marker) =
     Mark node marker.timestamp marker.producer_id marker.producer_epoch marker.coordinator_epoch (commits marker.kind)
+seen_call (parsed.Ask node) = Ask node
+seen_call (parsed.Deliver number) = Deliver number
 seen_call (parsed.Raise node) = Raise node
 seen_call (parsed.Show node) = Show node
 seen_call (parsed.Read node from) = Read node from

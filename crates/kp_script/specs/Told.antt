@@ -5,11 +5,11 @@ use Rattle.kp_types.specs.declared.refusal.Refusal.{Refusal}
 use Rattle.kp_types.specs.declared.refusal.Refusal.TheVariants.{TooLarge, BadProducerFields}
 use Rattle.kp_record.specs.Record.{Record, records_spelling}
 use Rattle.kp_batch.specs.Batch.{Content, Plain, Produced, Body}
-use Rattle.kp_model.specs.Event.{Event, Elect as ElectNode, Acts, Adopt as AdoptRecord, Produce, Mark as HandMarker, Raise as RaiseMark, Show as ShowState, Read as ReadFrom, Committed as ReadCommitted}
+use Rattle.kp_model.specs.Event.{Event, Elect as ElectNode, Acts, Deliver as DeliverMessage, Adopt as AdoptRecord, Produce, Mark as HandMarker, Ask as AskLeader, Raise as RaiseMark, Show as ShowState, Read as ReadFrom, Committed as ReadCommitted}
 use Rattle.kp_replica.specs.Replies.{IsOffer}
 use Rattle.kp_world.specs.Events.{IsEvent, AreEvents}
 use Rattle.kp_world.specs.declared.event.Event.{Event as CodeEvent}
-use Rattle.kp_script.specs.Call.{Call, Sender, Elect, Adopt, Append, Raw, Mark, Raise, Show, Read, Committed}
+use Rattle.kp_script.specs.Call.{Call, Sender, Elect, Adopt, Append, Raw, Mark, Ask, Deliver, Raise, Show, Read, Committed}
 
 -- a record that has a value alone
 abbrev pub plain_record : (time : ℕ) → List ℕ → Record
@@ -48,6 +48,8 @@ IsTold max (Raw node bytes) e =
     (offer : Result Body Refusal) × IsOffer max bytes offer × (e ≡ Acts node (Produce offer))
 IsTold max (Mark node time producer epoch coordinator commit) e =
     e ≡ Acts node (HandMarker time producer epoch coordinator commit)
+IsTold max (Ask node) e = e ≡ Acts node AskLeader
+IsTold max (Deliver number) e = e ≡ DeliverMessage number
 IsTold max (Raise node) e = e ≡ Acts node RaiseMark
 IsTold max (Show node) e = e ≡ Acts node ShowState
 IsTold max (Read node from) e = e ≡ Acts node (ReadFrom from)

@@ -23,7 +23,7 @@ is_refusal _ = false
 abbrev pub refusals_in : List Outcome → ℕ
 refusals_in outcomes = count_by (λ outcome. is_refusal outcome.reply) outcomes
 
--- the number of each call's line, and the node that it names
+-- the number of each call's line, and the node that the call names
 abbrev pub numbered : List (ℕ × Call) → List (ℕ × ℕ)
 numbered calls = map (λ call. (call.0, node_of call.1)) calls
 

@@ -1,25 +1,28 @@
 //! The header and the calls, and the readers of their lines.
 
-ghost use Rattle.std.specs.Prelude.{◌≡◌, IfSome, IfNone};
+ghost use Rattle.std.specs.Prelude.{◌≡◌, ℕ, ◌<◌, IfSome, IfNone};
+ghost use Rattle.std.specs.Fmt.{decimal};
 ghost use Rattle.kp_script.specs.Call.{IsHeaderText, IsCallText, SpellsNoHeader, SpellsNoCall, HasOneCall};
-ghost use Rattle.kp_script.specs.Read.{AreFields, AreNoFields};
+ghost use Rattle.kp_script.specs.Read.{AreFields, AreNoFields, IsNoNodeVerb};
 ghost use Rattle.kp_script.specs.Seen.{seen_header, seen_call};
 
 use crate::fields::{append_of, mark_of, node_and_offset_of, node_of, raw_of};
 use crate::lines::LONGEST_LINE;
-use crate::words::{field_then, last_field, split_first_at};
+use crate::words::{field_then, last_field, number_below, split_first_at};
 use kp_marker::Marker;
 use kp_types::{GREATEST_SEGMENT_BYTES, LEAST_SEGMENT_BYTES, MAX_INDEX_INTERVAL, NodeId, Offset};
 
 /// The greatest time of a record, 2^62 - 1.
 pub const GREATEST_TIME: u64 = 4_611_686_018_427_387_903;
-/// How many nodes there are.
-const NODES: u64 = 1;
+/// The greatest number of nodes.
+const NODES: u64 = 7;
+/// The greatest number of a message, 2^31 - 1.
+const GREATEST_MESSAGE: u64 = 2_147_483_647;
 
 /// How many nodes there are, and the limits of their segments and indexes.
 #[derive(Clone, Copy, Debug, PartialEq, Eq)]
 pub struct Header {
-    /// How many nodes there are.
+    /// How many nodes there are, 1 to 7.
     pub count: u8,
     /// The most bytes of a segment that has more than one batch.
     pub segment: u32,
@@ -38,7 +41,7 @@ pub struct Sender {
     pub sequence: Option<u32>,
 }
 
-/// What an event's line asks of a node.
+/// What an event's line asks for, mostly of a node.
 #[derive(Clone, Copy, Debug, PartialEq, Eq)]
 pub enum Call<'a> {
     /// The controller elects the node leader, of a new leader epoch.
@@ -70,6 +73,14 @@ pub enum Call<'a> {
         node: NodeId,
         marker: Marker,
     },
+    /// The node asks the leader that it follows.
+    Ask {
+        node: NodeId,
+    },
+    /// The message of this number, below 2^31, comes to the node to which it goes. Messages have the numbers from 0 on.
+    Deliver {
+        number: u64,
+    },
     /// The node raises its high watermark.
     Raise {
         node: NodeId,
@@ -96,7 +107,7 @@ impl Call<'_> {
     ghost use Rattle.kp_script.specs.Call.{node_of};
     ghost use Rattle.kp_script.specs.Seen.{seen_call};
 
-    /// The node that the call names.
+    /// The node that the call names. A delivery names none, and none of its answers tells a node: 0 stands there.
     pub fn node(&self) -> NodeId
         ensures { result ≡ node_of (seen_call self.now) }
     {
@@ -106,10 +117,12 @@ impl Call<'_> {
             | Call::Append { node, .. }
             | Call::Raw { node, .. }
             | Call::Mark { node, .. }
+            | Call::Ask { node }
             | Call::Raise { node }
             | Call::Show { node }
             | Call::Read { node, .. }
             | Call::Committed { node, .. } => *node,
+            Call::Deliver { .. } => 0,
         }
     }
 }
@@ -142,6 +155,22 @@ pub fn header_of(line: &[u8]) -> Option<Header>
     })
 }
 
+/// The call of this verb that names a node and nothing else.
+fn node_call<'a>(verb: &[u8], node: NodeId) -> Option<Call<'a>>
+    ensures found { IfSome result (λ call. (count : ℕ) → node < count
+        → AreFields count verb.now (decimal node) (seen_call call)) }
+    ensures none { IfNone result (IsNoNodeVerb verb.now) }
+{
+    match verb {
+        b"elect" => Some(Call::Elect { node }),
+        b"adopt" => Some(Call::Adopt { node }),
+        b"ask" => Some(Call::Ask { node }),
+        b"raise" => Some(Call::Raise { node }),
+        b"show" => Some(Call::Show { node }),
+        _ => None,
+    }
+}
+
 /// The call that this verb and the whole of these fields spell, where there are so many nodes.
 #[inline(always)]
 fn call_with<'a>(verb: &[u8], fields: &'a [u8], count: NodeId) -> Option<Call<'a>>
@@ -157,11 +186,13 @@ fn call_with<'a>(verb: &[u8], fields: &'a [u8], count: NodeId) -> Option<Call<'a
             node,
             from,
         }),
-        b"elect" => node_of(fields, count).map(|node| Call::Elect { node }),
-        b"adopt" => node_of(fields, count).map(|node| Call::Adopt { node }),
-        b"raise" => node_of(fields, count).map(|node| Call::Raise { node }),
-        b"show" => node_of(fields, count).map(|node| Call::Show { node }),
-        _ => None,
+        b"deliver" => number_below(fields, GREATEST_MESSAGE + 1).map(|number| Call::Deliver {
+            number,
+        }),
+        _ => match node_of(fields, count) {
+            Some(node) => node_call(verb, node),
+            None => None,
+        },
     }
 }
 

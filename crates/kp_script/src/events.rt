@@ -4,7 +4,7 @@ ghost use Rattle.std.specs.Prelude.{◌≡◌, ℕ, ◌<◌, ◌≤◌, ◌^◌,
 ghost use Rattle.std.specs.List.{AllByRecursion};
 ghost use Rattle.kp_types.specs.declared.refusal.Refusal.TheVariants.{Memory};
 ghost use Rattle.kp_record.specs.Made.{record_made};
-ghost use Rattle.kp_world.specs.Events.{node_of, HasMarker};
+ghost use Rattle.kp_world.specs.Events.{HasMarker, IsAmong};
 ghost use Rattle.kp_script.specs.Call.{Append, Raw, IsCall, IsSender, pieces};
 ghost use Rattle.kp_script.specs.Hex.{bytes_of};
 ghost use Rattle.kp_script.specs.Told.{plain_record, Tells, TellsAll};
@@ -66,7 +66,7 @@ fn append_event<'a>(
     requires short { length values.now ≤ 2100000 }
     ensures told { IfOk result
         (λ event. (max : ℕ) → Tells max (Append node time (seen_sender sender) transactional (pieces values.now)) event) }
-    ensures node { IfOk result (λ event. node_of event ≡ node) }
+    ensures node { IfOk result (λ event. (count : ℕ) → node < count → IsAmong count event) }
     ensures marker { IfOk result HasMarker }
     ensures only { IfErr result (λ refusal. refusal ≡ Memory) }
 {
@@ -91,7 +91,7 @@ fn append_event<'a>(
 fn raw_event(alloc: Global, node: NodeId, digits: &[u8]) -> Result<Event, Refusal>
     ensures told { IfOk result (λ event. (max : ℕ)
         → Tells max (Raw node (bytes_of digits.now)) event) }
-    ensures node { IfOk result (λ event. node_of event ≡ node) }
+    ensures node { IfOk result (λ event. (count : ℕ) → node < count → IsAmong count event) }
     ensures marker { IfOk result HasMarker }
     ensures only { IfErr result (λ refusal. refusal ≡ Memory) }
 {
@@ -115,13 +115,14 @@ fn event_of<'a>(
 ) -> Result<Event, Refusal>
     requires { IsCall count (seen_call call.now) }
     ensures told { IfOk result (λ event. (max : ℕ) → Tells max (seen_call call.now) event) }
-    ensures node { IfOk result (λ event. node_of event < count) }
+    ensures node { IfOk result (IsAmong count) }
     ensures marker { IfOk result HasMarker }
     ensures only { IfErr result (λ refusal. refusal ≡ Memory) }
 {
     let _ = count;
     let (node, act) = match *call {
         Call::Elect { node } => return Ok(Event::Elect { node }),
+        Call::Deliver { number } => return Ok(Event::Deliver { number }),
         Call::Append {
             node,
             time,
@@ -132,6 +133,7 @@ fn event_of<'a>(
         Call::Raw { node, digits } => return raw_event(alloc, node, digits),
         Call::Adopt { node } => (node, Act::Adopt),
         Call::Mark { node, marker } => (node, Act::Mark { marker }),
+        Call::Ask { node } => (node, Act::Ask),
         Call::Raise { node } => (node, Act::Raise),
         Call::Show { node } => (node, Act::Show),
         Call::Read { node, from } => (node, Act::Read { from }),
@@ -153,7 +155,7 @@ pub(crate) fn events_of<'a>(
     ensures told { OnOk result
         ((max : ℕ) → TellsAll max (map (λ call.
         call.1) (map seen_line lines.now)) events.new.items) }
-    ensures nodes { OnOk result (AllByRecursion (λ event. node_of event < count) events.new.items) }
+    ensures nodes { OnOk result (AllByRecursion (IsAmong count) events.new.items) }
     ensures markers { OnOk result (AllByRecursion HasMarker events.new.items) }
     ensures only { IfErr result (λ refusal. refusal ≡ Memory) }
 {

@@ -112,6 +112,7 @@ pub fn run_script<R: Read, W: Write>(
 {
     kp_world::plays_go_on();
     kp_model::runs_are_safe();
+    kp_model::no_delivery_is_refused_oddly();
     kp_replica::bytes_are_an_offer();
     let input = reader.read_all(alloc)?;
     let script = parse(alloc, &input)?;

@@ -4,8 +4,8 @@ ghost use Rattle.std.specs.Prelude.{◌≡◌, [], ◌∷◌, ◌++◌, length, 
 ghost use Rattle.std.specs.Option.{option_map};
 ghost use Rattle.kp_types.specs.Texts.{refusal_text};
 ghost use Rattle.kp_control.specs.Set.{leader_of, members_of, record_of};
-ghost use Rattle.kp_replica.specs.Replies.{role_reply, receipt_reply};
-ghost use Rattle.kp_world.specs.Answers.{answer_reply, outcome_of};
+ghost use Rattle.kp_replica.specs.Replies.{role_reply, receipt_reply, cut_reply};
+ghost use Rattle.kp_world.specs.Answers.{answer_reply, number_in, outcome_of, said_reply};
 ghost use Rattle.kp_world.specs.Records.{line_of};
 ghost use Rattle.kp_script.specs.Call.{node_of};
 ghost use Rattle.kp_script.specs.Seen.{seen_call};
@@ -14,9 +14,9 @@ ghost use Rattle.kp_script.specs.Trace.{leader_text, line_text, lines_text, node
 use crate::script::Line;
 use crate::text::{push_hex, push_named, push_number};
 use kp_control::{Leader, LeaderAndIsr, NodeSet};
-use kp_replica::{Receipt, Role};
+use kp_replica::{CutBack, Receipt, Role};
 use kp_types::{NodeId, Refusal};
-use kp_world::{Answer, ReadRecord, ReadRecords};
+use kp_world::{Answer, ReadRecord, ReadRecords, Said};
 use std::alloc::AllocError;
 
 /// Appends a space and a record that was read.
@@ -127,15 +127,56 @@ fn push_receipt(text: &mut Vec<u8>, node: NodeId, receipt: &Receipt) -> Result<(
     }
 }
 
+/// Appends that the message of this number was sent, and what the message says.
+fn push_sent(text: &mut Vec<u8>, node: NodeId, number: u64, said: &Said) -> Result<(), AllocError>
+    ensures { OnOk result
+        (text.new.items ≡ text.old.items ++ reply_text node (Some number) (said_reply said.now)) }
+{
+    push_named(text, b"sent ", number)?;
+    match said {
+        Said::AsksFrom(offset) => push_named(text, b" asks from ", *offset),
+        Said::AsksEpoch(epoch) => push_named(text, b" asks epoch ", u64::from(*epoch)),
+        Said::Batches { count, watermark } => {
+            push_named(text, b" batches ", *count)?;
+            push_named(text, b" mark ", *watermark)
+        }
+        Said::EpochEnd(Some(found)) => {
+            push_named(text, b" epoch ", u64::from(found.epoch))?;
+            push_named(text, b" end ", found.end)
+        }
+        Said::EpochEnd(None) => text.extend_from_slice(b" no epoch"),
+    }
+}
+
+/// Appends what a follower's log was cut to.
+fn push_cut(text: &mut Vec<u8>, node: NodeId, cut: &CutBack) -> Result<(), AllocError>
+    ensures { OnOk result
+        (text.new.items ≡ text.old.items ++ reply_text node None (cut_reply (Ok cut.now))) }
+{
+    push_named(text, b"cut ", cut.end)?;
+    if cut.done {
+        text.extend_from_slice(b" done")
+    } else {
+        text.extend_from_slice(b" again")
+    }
+}
+
 /// Appends what an event that names this node answers.
 fn push_answer(text: &mut Vec<u8>, node: NodeId, answer: &Answer) -> Result<(), AllocError>
     ensures { OnOk result
-        (text.new.items ≡ text.old.items ++ reply_text node None (answer_reply answer.now)) }
+        (text.new.items ≡ text.old.items
+        ++ reply_text node (number_in answer.now) (answer_reply answer.now)) }
 {
     match answer {
         Answer::Changed(controller) => push_record(text, controller),
         Answer::Adopted(role) => push_role(text, node, role),
         Answer::Appended(receipt) => push_receipt(text, node, receipt),
+        Answer::Sent { number, said } => push_sent(text, node, *number, said),
+        Answer::Took(taken) => {
+            push_named(text, b"end ", taken.end)?;
+            push_named(text, b" mark ", taken.watermark)
+        }
+        Answer::Cut(cut) => push_cut(text, node, cut),
         Answer::Watermark(watermark) => push_named(text, b"mark ", *watermark),
         Answer::Shown {
             life,

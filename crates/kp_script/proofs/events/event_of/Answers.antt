@@ -11,7 +11,7 @@ use Rattle.kp_world.specs.declared.event.Event.TheVariants.{Acts}
 use Rattle.kp_script.specs.Told.{Tells}
 use Rattle.kp_script.specs.declared.call.Call.TheVariants as parsed
 use Rattle.kp_script.proofs.events.event_of.Goals as goal
-use Rattle.kp_script.proofs.events.event_of.Goals.{in-Adopt, in-Mark, in-Raise, in-Show, in-Read, in-Committed}
+use Rattle.kp_script.proofs.events.event_of.Goals.{in-Adopt, in-Mark, in-Ask, in-Raise, in-Show, in-Read, in-Committed}
 
 pub append_event-requires-clause-short : goal.append_event-requires-clause-short
 append_event-requires-clause-short c =
@@ -36,6 +36,9 @@ returns-clause-told c = λ max.
       | in-Mark w ↦
           told_by max call (parsed.Mark w.in-Mark.node w.in-Mark.marker) made (w.in-Mark.node, acts.Mark w.in-Mark.marker) w.in-Mark.is w.node-is
           (record { e = model.Acts w.in-Mark.node (mark_of w.in-Mark.marker); told = refl; is = (mark_of w.in-Mark.marker, refl, refl) })
+      | in-Ask w ↦
+          told_by max call (parsed.Ask w.in-Ask.node) made (w.in-Ask.node, acts.Ask) w.in-Ask.is w.node-is
+          (record { e = model.Acts w.in-Ask.node model.Ask; told = refl; is = (model.Ask, refl, refl) })
       | in-Raise w ↦
           told_by max call (parsed.Raise w.in-Raise.node) made (w.in-Raise.node, acts.Raise) w.in-Raise.is w.node-is
           (record { e = model.Acts w.in-Raise.node model.Raise; told = refl; is = (model.Raise, refl, refl) })

@@ -1,4 +1,4 @@
-use Rattle.std.proofs.Common.{◌≡◌, ℕ, ◌+◌, ◌<◌, List, [], ◌∷◌, ◌++◌, take, get_or, sym, ap, ◌∙◌, subst, arith}
+use Rattle.std.proofs.Common.{◌≡◌, ℕ, ◌+◌, List, [], ◌∷◌, ◌++◌, take, get_or, sym, ap, ◌∙◌, subst, arith}
 use Rattle.std.specs.Prelude.{map}
 use Rattle.std.specs.List.{AllByRecursion}
 use Rattle.std.proofs.lemmas.List.{take_all, take_more, map-append}
@@ -7,7 +7,7 @@ use Rattle.kp_script.specs.Seen.{seen_call, seen_line}
 use Rattle.kp_script.specs.Told.{TellsAll}
 use Rattle.kp_script.specs.declared.script.Line.{Line}
 use Rattle.kp_script.specs.declared.call.Call.TheVariants as parsed
-use Rattle.kp_world.specs.Events.{node_of, HasMarker}
+use Rattle.kp_world.specs.Events.{HasMarker, IsAmong}
 use Rattle.kp_world.specs.declared.event.Event.{Event as CodeEvent}
 use Rattle.kp_script.proofs.Telling.{tells_more, each_at_line}
 use Rattle.kp_script.proofs.events.events_of.Goals as goal
@@ -40,8 +40,8 @@ loop-line-preserved c =
           (subst (λ (xs : List CodeEvent). TellsAll max (calls_of (take k lines) ++ seen_call line.call ∷ []) xs) (sym grown)
           (tells_more max (calls_of (take k lines)) c.loop-line.events.items (seen_call line.call) c.in_ok-event_of.field-0 (c.loop-line.invariant.told max) (c.in_ok-event_of.ensures.told max)));
       nodes =
-          subst (λ (xs : List CodeEvent). AllByRecursion (λ event. node_of event < c.args.count) xs) (sym grown)
-          (all_push (λ (event : CodeEvent). node_of event < c.args.count) c.loop-line.events.items c.in_ok-event_of.field-0 c.loop-line.invariant.nodes c.in_ok-event_of.ensures.node);
+          subst (AllByRecursion (IsAmong c.args.count)) (sym grown)
+          (all_push (IsAmong c.args.count) c.loop-line.events.items c.in_ok-event_of.field-0 c.loop-line.invariant.nodes c.in_ok-event_of.ensures.node);
       markers =
           subst (AllByRecursion HasMarker) (sym grown)
           (all_push HasMarker c.loop-line.events.items c.in_ok-event_of.field-0 c.loop-line.invariant.markers c.in_ok-event_of.ensures.marker);

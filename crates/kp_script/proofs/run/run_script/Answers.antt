@@ -51,7 +51,7 @@ returns-in_err-refused-clause-first g c = λ e.
     subst (λ (known : Option (List ℕ)). WritesFirst input old known) (sym kept)
     (writes_first input c.deref.result.now script (map seen_line played.0) (map seen_line c.loop-rest.rest.now) c.loop-rest.refused _ old (g.W.Write.contents (device_of c.loop-rest.writer)) bytes
     c.in_ok-script.ensures.found whole
-    (traced c.runs_are_safe.ensures script.header.count (map seen_line played.0) c.loop-rest.world c.loop-rest.refused old (g.W.Write.contents (device_of c.loop-rest.writer)) played.1.1)
+    (traced c.runs_are_safe.ensures c.no_delivery_is_refused_oddly.ensures script.header.count (map seen_line played.0) c.loop-rest.world c.loop-rest.refused old (g.W.Write.contents (device_of c.loop-rest.writer)) played.1.1)
     played.1.1.written)
 
 pub returns-in_err-refused-clause-front : goal.returns-in_err-refused-clause-front
@@ -78,14 +78,14 @@ returns-in_err-refused-clause-front g c =
     let rest_lawful = rest_calls_lawful count all done rest next others p lawful in
     let front : Front count script.calls old now =
     by_fault r (Front count script.calls old now) c.in_err-refused.ensures.only
-    (λ device. begun_lines c.runs_are_safe.ensures c.plays_go_on.ensures c.bytes_are_an_offer.ensures.some count script.calls (map seen_line done) (map seen_line next) (map seen_line others)
+    (λ device. begun_lines c.runs_are_safe.ensures c.no_delivery_is_refused_oddly.ensures c.plays_go_on.ensures c.bytes_are_an_offer.ensures.some count script.calls (map seen_line done) (map seen_line next) (map seen_line others)
     c.loop-rest.world c.loop-rest.refused old mid now whole (others_lawful count all done rest next others p lawful) played.1.1 (c.in_err-refused.ensures.begun (ap Err device)))
     (λ memory.
     let same : c.play_lines.new.writer ≡ c.loop-rest.writer = c.in_err-refused.ensures.untouched (ap Err memory) in
     let kept : now ≡ mid = ap (λ w. g.W.Write.contents (device_of w)) same in
     subst (λ (known : Option (List ℕ)). Front count script.calls old known) (sym kept)
     (whole_lines c.plays_go_on.ensures c.bytes_are_an_offer.ensures.some count script.calls (map seen_line done) (map seen_line next ++ map seen_line others) _ c.loop-rest.refused old mid whole
-    rest_lawful (traced c.runs_are_safe.ensures count (map seen_line done) c.loop-rest.world c.loop-rest.refused old mid played.1.1) played.1.1.written)) in
+    rest_lawful (traced c.runs_are_safe.ensures c.no_delivery_is_refused_oddly.ensures count (map seen_line done) c.loop-rest.world c.loop-rest.refused old mid played.1.1) played.1.1.written)) in
     always c.from_residual-in_err-refused.result (writes_front input c.deref.result.now script old now bytes c.in_ok-script.ensures.found front)
 
 pub loop-rest-preserved : goal.loop-rest-preserved
@@ -132,5 +132,5 @@ returns-clause-written g c =
     let text = trace_text (numbered (map seen_line played.0)) (map outcome_of played.1.1.answers) in
     writes_all input c.deref.result.now script c.loop-rest.refused text old now bytes c.in_ok-script.ensures.found
     (subst (λ (calls : List (ℕ × Call)). IsTraceOf script.header.count calls text c.loop-rest.refused) whole
-    (traced c.runs_are_safe.ensures script.header.count (map seen_line played.0) c.loop-rest.world c.loop-rest.refused old now played.1.1))
+    (traced c.runs_are_safe.ensures c.no_delivery_is_refused_oddly.ensures script.header.count (map seen_line played.0) c.loop-rest.world c.loop-rest.refused old now played.1.1))
     played.1.1.written
