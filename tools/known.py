@@ -5,6 +5,16 @@ tools/rows holds its own evaluation to the first, and takes the second for the w
 
 OPENING = "2 record leader 0 epoch 0 isr 0 version 1\n3 leads epoch 0 from 0\n"
 
+# A follower's first fetch, of one batch.
+FETCHED = """2 record leader 0 epoch 0 isr 0,1 version 1
+3 leads epoch 0 from 0
+4 follows 0 epoch 0 fetching
+5 at 0
+6 sent 0 asks from 0
+7 sent 1 batches 1 mark 0
+8 end 1 mark 0
+"""
+
 # Command line, and what it leaves.
 KNOWN = {
     "run made_example_first.script": OPENING + """4 at 0
@@ -74,6 +84,320 @@ status 1
 13 mark 4
 14 read 1 0=61
 15 F14 CoordinatorFenced
+status 1
+""",
+    "run made_example_replicate.script": """3 record leader 0 epoch 0 isr 0,1,2 version 1
+4 leads epoch 0 from 0
+5 follows 0 epoch 0 fetching
+6 follows 0 epoch 0 fetching
+7 at 0
+8 at 1
+10 sent 0 asks from 0
+11 sent 1 batches 2 mark 0
+12 end 2 mark 0
+14 F29 StaleAnswer
+16 sent 2 asks from 0
+17 sent 3 batches 2 mark 0
+18 end 2 mark 0
+20 mark 0
+21 sent 4 asks from 2
+22 sent 5 batches 0 mark 0
+23 sent 6 asks from 2
+24 sent 7 batches 0 mark 0
+25 mark 2
+27 sent 8 batches 0 mark 2
+28 end 2 mark 2
+30 read 2 0=61 1=62
+31 read 2 0=61 1=62
+32 read 0
+33 sent 9 asks from 2
+34 sent 10 batches 0 mark 2
+35 end 2 mark 2
+36 read 2 0=61 1=62
+status 1
+""",
+    "run made_example_failover.script": """3 record leader 0 epoch 0 isr 0,1 version 1
+4 leads epoch 0 from 0
+5 follows 0 epoch 0 fetching
+6 at 0
+7 sent 0 asks from 0
+8 sent 1 batches 1 mark 0
+9 end 1 mark 0
+10 sent 2 asks from 1
+11 sent 3 batches 0 mark 0
+12 mark 1
+13 at 1
+15 record leader 1 epoch 1 isr 0,1 version 2
+16 leads epoch 1 from 1
+17 at 1
+19 at 2
+20 mark 1
+22 follows 1 epoch 1 reconciling
+23 sent 4 asks epoch 0
+24 sent 5 epoch 0 end 1
+25 cut 1 done
+27 sent 6 asks from 1
+28 sent 7 batches 1 mark 0
+29 end 2 mark 1
+30 sent 8 asks from 2
+31 sent 9 batches 0 mark 0
+32 mark 2
+33 sent 10 asks from 2
+34 sent 11 batches 0 mark 2
+35 end 2 mark 2
+37 read 2 0=61 1=63
+38 read 2 0=61 1=63
+40 record leader 0 epoch 2 isr 0,1 version 3
+41 leads epoch 2 from 2
+42 F17 FencedLeaderEpoch
+43 F29 StaleAnswer
+status 1
+""",
+    "run first_fetch.script": FETCHED + "status 0\n",
+    "run election_of_a_follower.script": FETCHED + """9 at 1
+10 record leader 1 epoch 1 isr 0,1 version 2
+11 leads epoch 1 from 1
+status 0
+""",
+    "run answer_comes_twice.script": FETCHED + """9 F29 StaleAnswer
+10 mark 0
+11 sent 2 asks from 1
+12 sent 3 batches 0 mark 0
+13 mark 1
+14 end 1 mark 0
+status 1
+""",
+    "run followers_of_one_leader.script": """2 record leader 0 epoch 0 isr 0,1,2 version 1
+3 leads epoch 0 from 0
+4 follows 0 epoch 0 fetching
+5 follows 0 epoch 0 fetching
+6 at 0
+7 at 1
+8 sent 0 asks from 0
+9 sent 1 batches 2 mark 0
+10 end 2 mark 0
+11 sent 2 asks from 2
+12 sent 3 batches 0 mark 0
+13 mark 0
+14 sent 4 asks from 0
+15 sent 5 batches 2 mark 0
+16 mark 0
+17 end 2 mark 0
+18 sent 6 asks from 2
+19 sent 7 batches 0 mark 0
+20 mark 2
+21 end 2 mark 0
+22 sent 8 batches 2 mark 2
+23 F29 StaleAnswer
+24 F15 NotLeader
+25 F15 NotLeader
+status 1
+""",
+    "run fenced_by_leader_epoch.script": """2 record leader 0 epoch 0 isr 0,1 version 1
+3 leads epoch 0 from 0
+4 follows 0 epoch 0 fetching
+5 sent 0 asks from 0
+6 record leader 0 epoch 1 isr 0,1 version 2
+7 follows 0 epoch 1 fetching
+8 sent 1 asks from 0
+9 at 0
+10 F18 UnknownLeaderEpoch
+11 leads epoch 1 from 1
+12 F17 FencedLeaderEpoch
+status 1
+""",
+    "run two_rounds_of_reconciliation.script": FETCHED + """9 at 1
+10 record leader 1 epoch 1 isr 0,1 version 2
+11 leads epoch 1 from 1
+12 at 1
+13 record leader 0 epoch 2 isr 0,1 version 3
+14 leads epoch 2 from 2
+15 at 2
+16 record leader 1 epoch 3 isr 0,1 version 4
+17 leads epoch 3 from 2
+18 at 2
+19 follows 1 epoch 3 reconciling
+20 sent 2 asks epoch 2
+21 sent 3 epoch 1 end 2
+22 cut 2 again
+23 sent 4 asks epoch 0
+24 sent 5 epoch 0 end 1
+25 cut 1 done
+26 F29 StaleAnswer
+27 sent 6 asks from 1
+28 sent 7 batches 2 mark 0
+29 end 3 mark 0
+30 mark 1
+status 1
+""",
+    "run cut_twice.script": """3 record leader 1 epoch 0 isr 0,1 version 1
+4 record leader 1 epoch 1 isr 0,1 version 2
+5 leads epoch 1 from 0
+6 at 0
+7 follows 1 epoch 1 fetching
+8 sent 0 asks from 0
+9 sent 1 batches 1 mark 0
+10 end 3 mark 0
+11 at 3
+12 record leader 0 epoch 2 isr 0,1 version 3
+13 leads epoch 2 from 3
+14 at 3
+15 record leader 1 epoch 3 isr 0,1 version 4
+16 leads epoch 3 from 4
+17 at 4
+18 record leader 0 epoch 4 isr 0,1 version 5
+19 leads epoch 4 from 5
+20 at 5
+21 node 0 life 0 end 7 mark 0 stable 0
+22 node 1 life 0 end 6 mark 0 stable 0
+23 follows 0 epoch 4 reconciling
+24 sent 2 asks epoch 3
+25 sent 3 epoch 2 end 5
+26 cut 4 again
+27 sent 4 asks epoch 1
+28 sent 5 epoch 1 end 3
+29 cut 3 done
+30 sent 6 asks from 3
+31 sent 7 batches 2 mark 0
+32 end 7 mark 0
+33 mark 3
+34 sent 8 asks from 7
+35 sent 9 batches 0 mark 3
+36 mark 7
+37 read 7 0=61 1=62 2=63 3=65 4=66 5=69 6=6a
+status 0
+""",
+    "run late_messages.script": """3 F15 NotLeader
+4 F29 StaleAnswer
+5 record leader 0 epoch 0 isr 0,1,2 version 1
+6 leads epoch 0 from 0
+8 F15 NotLeader
+9 follows 0 epoch 0 fetching
+10 at 0
+11 sent 0 asks from 0
+12 F29 StaleAnswer
+14 sent 1 batches 1 mark 0
+15 at 1
+16 sent 2 batches 2 mark 0
+18 end 2 mark 0
+19 F29 StaleAnswer
+20 F29 StaleAnswer
+22 sent 3 asks from 2
+23 sent 4 batches 0 mark 0
+24 end 2 mark 0
+25 end 2 mark 0
+27 record leader 0 epoch 1 isr 0,1,2 version 2
+28 follows 0 epoch 1 reconciling
+29 F29 StaleAnswer
+30 sent 5 asks epoch 0
+31 F18 UnknownLeaderEpoch
+32 leads epoch 1 from 2
+33 F17 FencedLeaderEpoch
+34 sent 6 epoch 0 end 2
+36 record leader 2 epoch 2 isr 0,1,2 version 3
+37 F22 StaleRecord
+38 leads epoch 2 from 0
+39 follows 2 epoch 2 reconciling
+40 F29 StaleAnswer
+42 sent 7 asks epoch 0
+43 sent 8 no epoch
+44 cut 0 done
+45 F29 StaleAnswer
+46 node 1 life 0 end 0 mark 0 stable 0
+47 sent 9 asks from 0
+48 sent 10 batches 0 mark 0
+49 end 0 mark 0
+50 F22 StaleRecord
+52 follows 2 epoch 2 reconciling
+53 F15 NotLeader
+54 F15 NotLeader
+55 F15 NotLeader
+status 1
+""",
+    "run reports_end_with_a_leadership.script": """2 record leader 0 epoch 0 isr 0,1,2 version 1
+3 leads epoch 0 from 0
+4 follows 0 epoch 0 fetching
+5 follows 0 epoch 0 fetching
+6 at 0
+7 sent 0 asks from 0
+8 sent 1 batches 1 mark 0
+9 end 1 mark 0
+10 sent 2 asks from 0
+11 sent 3 batches 1 mark 0
+12 end 1 mark 0
+13 sent 4 asks from 1
+14 sent 5 batches 0 mark 0
+15 sent 6 asks from 1
+16 sent 7 batches 0 mark 0
+18 record leader 0 epoch 1 isr 0,1,2 version 2
+19 leads epoch 1 from 1
+20 mark 0
+21 follows 0 epoch 1 reconciling
+22 follows 0 epoch 1 reconciling
+24 sent 8 asks epoch 0
+25 sent 9 epoch 0 end 1
+26 mark 0
+27 cut 1 done
+28 sent 10 asks from 1
+29 sent 11 batches 0 mark 0
+30 mark 0
+31 sent 12 asks epoch 0
+32 sent 13 epoch 0 end 1
+33 cut 1 done
+34 sent 14 asks from 1
+35 sent 15 batches 0 mark 0
+36 mark 1
+38 end 1 mark 0
+39 sent 16 batches 0 mark 1
+40 end 1 mark 1
+41 node 1 life 0 end 1 mark 0 stable 0
+42 node 2 life 0 end 1 mark 1 stable 1
+status 0
+""",
+    "run taken_back_and_forgotten.script": """2 record leader 0 epoch 0 isr 0,1 version 1
+3 leads epoch 0 from 0
+4 follows 0 epoch 0 fetching
+5 at 0
+6 at 1
+7 sent 0 asks from 0
+8 sent 1 batches 2 mark 0
+9 end 2 mark 0
+11 at 2
+12 at 3
+13 at 4
+15 record leader 1 epoch 1 isr 0,1 version 2
+16 leads epoch 1 from 2
+17 duplicate 0
+18 at 2
+19 duplicate 1
+20 at 3
+22 follows 1 epoch 1 reconciling
+23 sent 2 asks epoch 0
+24 sent 3 epoch 0 end 2
+25 cut 2 done
+26 node 0 life 0 end 2 mark 0 stable 0
+27 sent 4 asks from 2
+28 sent 5 batches 2 mark 0
+29 end 4 mark 0
+30 sent 6 asks from 4
+31 sent 7 batches 0 mark 0
+32 mark 4
+33 sent 8 asks from 4
+34 sent 9 batches 0 mark 4
+35 end 4 mark 4
+36 read 2 0=61 2=63
+37 read 2 0=61 2=63
+38 read 3 0=61 1=62 2=63
+40 record leader 0 epoch 2 isr 0,1 version 3
+41 leads epoch 2 from 4
+42 duplicate 2
+43 F12 OutOfOrderSequence
+44 at 4
+45 F14 CoordinatorFenced
+46 at 5
+47 mark 4
+48 node 0 life 0 end 6 mark 4 stable 4
+49 read 0
 status 1
 """,
     "inspect made_nothing.log": "end 0\nstatus 0\n",

@@ -2,7 +2,7 @@
 
 ghost use Rattle.std.specs.Prelude.{◌<◌, ◌≤◌};
 ghost use Rattle.std.specs.List.{AllByRecursion};
-ghost use Rattle.kp_world.specs.Events.{node_of, HasMarker};
+ghost use Rattle.kp_world.specs.Events.{HasMarker, IsAmong};
 
 use crate::logs::{batch_of, told};
 use crate::script_tests::trace_of;
@@ -114,7 +114,7 @@ fn a_node_cuts_its_log_by_its_limits(rt: HostRuntime) {
 fn played(alloc: Global, count: NodeId, events: &[Event]) -> Result<String, Refusal>
     requires some { 0 < count }
     requires most { count ≤ 7 }
-    requires nodes { AllByRecursion (λ event. node_of event < count) events.now }
+    requires nodes { AllByRecursion (IsAmong count) events.now }
     requires markers { AllByRecursion HasMarker events.now }
 {
     match run(alloc, count, &LIMITS, events) {

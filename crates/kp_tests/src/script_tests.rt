@@ -1,4 +1,4 @@
-//! The text of a trace of several nodes, which no script has yet.
+//! The text of a trace, answer by answer.
 
 use crate::shown::{is, unhex};
 use kp_control::{Leader, LeaderAndIsr, NodeSet};
