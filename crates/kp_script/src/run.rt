@@ -89,7 +89,8 @@ fn play_lines<W: Write>(
 /// events were refused. F31 with the first line at fault, and then nothing is written; F33, and then the lines of the
 /// first events are, or nothing; F32 where a device failed, and then a beginning of the trace is. All lines are read
 /// before the first event is played, and the lines of some events are written before the next ones are played. Takes
-/// time proportional to the script and its trace, and memory to the script and what the log keeps of it.
+/// time proportional to the script, its trace and the batches that messages carry, and memory to the script, to what the
+/// nodes' logs keep of it and to all messages.
 pub fn run_script<R: Read, W: Write>(
     alloc: Global,
     reader: &mut Counted<R>,
