@@ -17,6 +17,7 @@ pub enum Fault {
     BadProducerFields,
 }
 
+#[derive(Clone)]
 pub struct Batch {
     pub base: u64,
     #[allow(dead_code)]
@@ -287,6 +288,11 @@ impl Batch {
             epoch: None,
             bytes: bytes.into(),
         }
+    }
+
+    #[allow(dead_code)]
+    pub fn bytes(&self) -> &[u8] {
+        &self.bytes
     }
 
     pub fn records(&self) -> Records<'_> {
