@@ -62,7 +62,10 @@ fn version_after(word: u64) -> Option<Result<u32, Refusal>> {
 fn a_record_is_one_word(rt: HostRuntime) {
     assert_eq!(rt; words(), Ok([0xf070_0000_0000_0000, 0x0070_0000_1000_0001]));
     assert_eq!(rt; version_after(0xf070_0000_0fff_fffe), Some(Ok(0x0fff_ffff)));
-    assert_eq!(rt; version_after(0xf070_0000_0fff_ffff), Some(Err(Refusal::RecordFull)));
+    assert_eq!(rt;
+        version_after(0xf070_0000_0fff_ffff),
+        Some(Err(Refusal::RecordFull))
+    );
 }
 
 // Of two nodes, led by node 0.
