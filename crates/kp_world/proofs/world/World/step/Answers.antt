@@ -32,10 +32,6 @@ with_both : {A E : Type 0} (r : Result A E) (P Q R : A → Type 0) → ((x : A) 
 with_both (Ok x) P Q R both p q = both x p q
 with_both (Err e) P Q R both p q = tt
 
-with_one : {A E : Type 0} (r : Result A E) (P R : A → Type 0) → ((x : A) → P x → R x) → IfOk r P → IfOk r R
-with_one (Ok x) P R one p = one x p
-with_one (Err e) P R one p = tt
-
 pub returns-in-Elect-clause-step : goal.returns-in-Elect-clause-step
 returns-in-Elect-clause-step c = λ limits e event.
     let is = subst (λ (d : Event). IsEvent limits.max_batch d e) c.in-Elect.is event in
@@ -71,6 +67,6 @@ returns-in-Acts-clause-step c =
 
 pub returns-in-Deliver-clause-step : goal.returns-in-Deliver-clause-step
 returns-in-Deliver-clause-step c =
-    with_one c.deliver.result _ _ (λ outcome step limits e event.
+    with_both c.deliver.result _ _ _ (λ outcome step again limits e event.
     let is = subst (λ (d : Event). IsEvent limits.max_batch d e) c.in-Deliver.is event in
-    subst (λ (d : model.Event). LeadOn limits c.args.self.now (d ∷ []) (outcome ∷ []) c.deliver.new.self) (sym is) (step limits)) c.deliver.ensures.step
+    subst (λ (d : model.Event). LeadOn limits c.args.self.now (d ∷ []) (outcome ∷ []) c.deliver.new.self) (sym is) (step limits)) c.deliver.ensures.step c.deliver.ensures.step
