@@ -55,8 +55,8 @@ impl<'a> CommittedRecords<'a> {
     // Those of these batches, by the aborted transactions near this place.
     pub(crate) fn of(batches: &'a [Batch], near: Nearby<'a>) -> CommittedRecords<'a>
         requires { AllByRecursion (λ w. next_offset (logged w) ≤ 2 ^ 62) batches.now }
-        ensures { committed_left result
-            ≡ records_in (shown_from near.entry.aborted.now near.entry.place (map logged batches.now)) }
+        ensures { committed_left result ≡ records_in
+            (shown_from near.entry.aborted.now near.entry.place (map logged batches.now)) }
     {
         CommittedRecords {
             near,
