@@ -3,11 +3,10 @@ use Rattle.std.proofs.Common.{◌≡◌, ◌⊎◌, ℕ, zero, suc, ◌+◌, ◌
 use Rattle.std.proofs.Math.Nat.{pow-succ'}
 use Rattle.std.proofs.Math.Arith.{lt_of_le-ne}
 use Rattle.std.specs.Prelude.{if◌then◌else◌}
-use Rattle.std.specs.List.{sum_by}
 use Rattle.std.proofs.lemmas.Bool.{cases_eq, cond_both, eq-eqb, ne_eqb}
 use Rattle.std.proofs.lemmas.List.Sums.{sum_by-cons}
 use Rattle.kp_model.specs.World.{Leader, LeaderAndIsr}
-use Rattle.kp_model.specs.Local.{greatest_epoch, greatest_version}
+use Rattle.kp_model.specs.Local.{greatest_epoch}
 use Rattle.kp_model.specs.Step.{Rise, IsInRange}
 use Rattle.kp_control.specs.Set.{numbers_of}
 use Rattle.kp_control.specs.Word.{leader_field, epoch_field, set_field, packed}

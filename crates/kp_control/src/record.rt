@@ -15,7 +15,7 @@ pub struct NodeSet {
 impl NodeSet {
     ghost use Rattle.std.specs.Prelude.{◌≡◌, ◌<◌, ◌≤◌, IsTrue};
     ghost use Rattle.std.specs.List.{range_with_len};
-    ghost use Rattle.kp_model.specs.Local.{is_member};
+    ghost use Rattle.kp_model.specs.Local.{is_member, with_member, without_member};
     ghost use Rattle.kp_control.specs.Set.{members_of};
 
     /// The nodes 0 to `count` - 1.
@@ -46,6 +46,28 @@ impl NodeSet {
             .copied()
             .unwrap_or(false)
     }
+
+    /// The set with this node in it, whether or not it was. O(1), and no memory.
+    pub fn with(&self, node: NodeId) -> NodeSet
+        requires { node < 7 }
+        ensures { members_of result ≡ with_member node (members_of self.now) }
+    {
+        let mut members = self.members;
+        members[usize::from(node)] = true;
+        NodeSet { members }
+    }
+
+    /// The set without this node, whether or not it was in it. O(1), and no memory.
+    pub fn without(&self, node: NodeId) -> NodeSet
+        ensures { members_of result ≡ without_member node (members_of self.now) }
+    {
+        let mut members = self.members;
+        let place = usize::from(node);
+        if place < members.len() {
+            members[place] = false;
+        }
+        NodeSet { members }
+    }
 }
 
 /// Who leads, in which leader epoch.
@@ -72,9 +94,10 @@ impl LeaderAndIsr {
     ghost use Rattle.std.specs.Prelude.{◌≡◌, ◌≤◌, IfOk};
     ghost use Rattle.kp_types.specs.Causes.{IsRefusedOnlyBy};
     ghost use Rattle.kp_model.specs.World.{initial};
-    ghost use Rattle.kp_model.specs.Local.{elected, has_epoch};
+    ghost use Rattle.kp_model.specs.Local.{altered, elected, has_epoch, same_record};
     ghost use Rattle.kp_model.specs.Step.{elect_cause};
-    ghost use Rattle.kp_control.specs.Set.{record_of};
+    ghost use Rattle.kp_control.specs.Set.{members_of, record_of};
+    ghost use Rattle.kp_control.specs.Altering.{alter_cause};
 
     /// The record before the first election: no leader, all nodes in sync, version 0.
     pub fn initial(count: NodeId) -> LeaderAndIsr
@@ -98,6 +121,13 @@ impl LeaderAndIsr {
         }
     }
 
+    /// Whether the other record is this one: the same leader in the same epoch, the same in-sync replicas and version. O(1).
+    pub fn is_same(&self, other: &LeaderAndIsr) -> bool
+        ensures { result ≡ same_record (record_of self.now) (record_of other.now) }
+    {
+        self == other
+    }
+
     /// The record after this node's election, which takes the next epoch. F21 where the node isn't in sync,
     /// F24 where epoch or version is at its greatest.
     pub fn elected(&self, node: NodeId) -> Result<LeaderAndIsr, Refusal>
@@ -118,6 +148,23 @@ impl LeaderAndIsr {
         Ok(LeaderAndIsr {
             leader: Some(Leader { node, epoch }),
             isr: self.isr,
+            version: self.version + 1,
+        })
+    }
+
+    /// The record with these in-sync replicas, under the same leader in the same epoch. F24 where the version is at its
+    /// greatest. O(1), and no memory.
+    pub fn altered(&self, isr: NodeSet) -> Result<LeaderAndIsr, Refusal>
+        ensures refused { IsRefusedOnlyBy (alter_cause (record_of self.now)) result }
+        ensures altered { IfOk result (λ changed. record_of changed
+            ≡ altered (record_of self.now) (members_of isr)) }
+    {
+        if self.version >= GREATEST_VERSION {
+            return Err(Refusal::RecordFull);
+        }
+        Ok(LeaderAndIsr {
+            leader: self.leader,
+            isr,
             version: self.version + 1,
         })
     }

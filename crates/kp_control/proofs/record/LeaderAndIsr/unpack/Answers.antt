@@ -1,4 +1,4 @@
-use Rattle.std.proofs.Common.{◌≡◌, ◌⊎◌, ℕ, Option, Some, None, sym, ap, ◌∙◌, subst, arith}
+use Rattle.std.proofs.Common.{sym, ◌∙◌, arith}
 use Rattle.kp_control.proofs.Words.{fields, set_one, told, without_leader, with_leader, no_other}
 use Rattle.kp_control.proofs.record.LeaderAndIsr.unpack.Goals as goal
 
