@@ -2,8 +2,9 @@
 use Rattle.std.specs.Prelude.{◌≡◌, ℕ, true, List}
 use Rattle.kp_model.specs.Log.{Batch, end_of}
 use Rattle.kp_model.specs.World.{Leading, Request}
-use Rattle.kp_model.specs.Local.{reported_after, known_ends}
+use Rattle.kp_model.specs.Local.{reported_after, known_ends, is_caught_up}
 use Rattle.kp_insync.specs.Reports.{with_report, ends_over}
+use Rattle.kp_insync.specs.Joining.{has_caught_up}
 
 -- A leader keeps a fetch request's offset as its sender's report.
 abbrev pub ReportsAreKept : Type 0
@@ -14,3 +15,8 @@ ReportsAreKept =
 abbrev pub EndsAreKnown : Type 0
 EndsAreKnown =
     (n : ℕ) (log : List Batch) (l : Leading) → known_ends n log l ≡ ends_over l.isr n (end_of log) l.reported
+
+-- Whom a leader may take into its in-sync set is whom the definitions say.
+abbrev pub JoinersHaveCaughtUp : Type 0
+JoinersHaveCaughtUp =
+    (watermark : ℕ) (l : Leading) (m : ℕ) → is_caught_up watermark l m ≡ has_caught_up l.reported m watermark l.start

@@ -1,16 +1,18 @@
-//! What a leader knows of the other nodes' logs: the end that each reported in this leadership, and the least of them.
+//! What a leader knows of the other nodes' logs in this leadership: reported ends, the least of them, who has caught up.
 //! It stands on kp_control's set of nodes and on kp_model's definition of a leader's reports.
-//! The layer above sees the definitions' list of reports, and the end to which they raise the high watermark.
+//! The layer above sees the definitions' list of reports, the end that raises the high watermark, and who may join.
 #![tactic(auto)]
 
 mod positions;
 
-ghost use Rattle.kp_insync.specs.Laws.{ReportsAreKept, EndsAreKnown};
+ghost use Rattle.kp_insync.specs.Laws.{ReportsAreKept, EndsAreKnown, JoinersHaveCaughtUp};
 
 pub use positions::Positions;
 
-/// A report is kept as the definitions keep a request's, and the ends are those that they compare. It costs nothing.
+/// A report is kept as the definitions keep a request's, the ends are those that they compare, and who may join is whom they
+/// let join. It costs nothing.
 pub fn reports_are_the_definitions()
     ensures kept { ReportsAreKept }
     ensures known { EndsAreKnown }
+    ensures joining { JoinersHaveCaughtUp }
 {}

@@ -1,7 +1,7 @@
 //! The log ends that nodes reported.
 
 use kp_control::NodeSet;
-use kp_types::{NodeId, Offset};
+use kp_types::{NodeId, Offset, Refusal};
 use std::marker::Model;
 
 /// The log end that each other node reported in one leadership, by the node's number: 7 optional numbers, and no memory of
@@ -25,11 +25,13 @@ impl Model for Positions {
 }
 
 impl Positions {
-    ghost use Rattle.std.specs.Prelude.{◌≡◌, ◌⊎◌, ℕ, Some, IfSome};
+    ghost use Rattle.std.specs.Prelude.{◌≡◌, ◌⊎◌, ◌<◌, ℕ, Some, IfSome, OnOk};
+    ghost use Rattle.kp_types.specs.Causes.{IsRefusedOnlyBy};
     ghost use Rattle.kp_control.specs.Set.{members_of};
     ghost use Rattle.kp_model.specs.World.{no_reports};
     ghost use Rattle.kp_model.specs.Local.{least_end};
     ghost use Rattle.kp_insync.specs.Reports.{with_report, ends_over, IsReported};
+    ghost use Rattle.kp_insync.specs.Joining.{join_cause};
 
     /// None has reported yet.
     pub fn new() -> Positions
@@ -65,5 +67,18 @@ impl Positions {
             }
         }
         Some(least)
+    }
+    /// Whether the node may join the in-sync replicas of a leader with this high watermark, which began to lead at the offset
+    /// `start` of its log: it has reported an end that is below neither. F23 where it hasn't. A node that no leader could
+    /// have heard of, from 7 on, never may. O(1), and no memory (own rule; Kafka's leader asks for both bounds too).
+    pub fn may_join(&self, node: NodeId, watermark: Offset, start: Offset) -> Result<(), Refusal>
+        ensures refused { IsRefusedOnlyBy (join_cause self.now node watermark start) result }
+        ensures numbered { OnOk result (node < 7) }
+    {
+        let reported = self.ends.get(usize::from(node)).copied().flatten();
+        match reported {
+            Some(end) if watermark <= end && start <= end => Ok(()),
+            _ => Err(Refusal::NotCaughtUp),
+        }
     }
 }
