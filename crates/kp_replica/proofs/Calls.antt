@@ -1,12 +1,13 @@
 -- What it takes that a node did something.
-use Rattle.std.proofs.Common.{◌≡◌, ℕ, Bool, true, false, cond, eqb, Option, Some, None, refl, sym, ap, subst}
+use Rattle.std.proofs.Common.{◌≡◌, ℕ, ◌+◌, ◌-◌, ◌^◌, ◌<◌, ◌≤◌, leb, Bool, true, false, cond, eqb, Option, Some, None, refl, sym, ap, subst}
+use Rattle.kp_types.specs.declared.refusal.Refusal.{Refusal}
 use Rattle.kp_types.specs.declared.refusal.Refusal.TheVariants as refusals
-use Rattle.std.proofs.lemmas.Bool.{eq-eqb, ne_eqb}
+use Rattle.std.proofs.lemmas.Bool.{eq-eqb, ne_eqb, lt-leb, le-leb}
 use Rattle.kp_model.specs.Log.{end_of}
-use Rattle.kp_model.specs.World.{Leader, LeaderAndIsr, Leading, Mode, Leads, Follows, Node, no_reports}
-use Rattle.kp_model.specs.Event.{Adopt, Raise, Refused, NowLeads, NowFollows, MarkAt}
+use Rattle.kp_model.specs.World.{Leader, LeaderAndIsr, Leading, Mode, Down, Idle, Leads, Follows, Node, no_reports}
+use Rattle.kp_model.specs.Event.{Adopt, Raise, Checkpoint, Stop, Restart, Refused, NowLeads, NowFollows, MarkAt, CheckpointAt, Stopped, Restarted}
 use Rattle.kp_model.specs.Local.{Effect, Local, cause, becomes, is_down, is_news, is_empty, under, Adopts, WhereLeads, Raises, raised}
-use Rattle.kp_model.proofs.Steps.{happened, was_refused}
+use Rattle.kp_model.proofs.Steps.{happened, lacked_memory, was_refused}
 
 -- ---- adopt
 
@@ -46,3 +47,34 @@ raises c n x l mark leads is =
     let e : Effect = becomes c (record x { watermark = mark }) (MarkAt mark) in
     let does : Raises c n x l e = ap (λ (m : ℕ). becomes c (record x { watermark = m }) (MarkAt m)) (sym is) in
     happened c n x Raise e (rw leads refl) (subst (λ (m : Mode). WhereLeads m (λ l. Raises c n x l e)) (sym leads) does)
+
+-- ---- checkpoint, stop
+
+pub checkpoints : (c : LeaderAndIsr) (n : ℕ) (x : Node) → is_down x.mode ≡ false → Local c n x Checkpoint (becomes c (record x { checkpoint = x.watermark }) (CheckpointAt x.watermark))
+checkpoints c n x up = happened c n x Checkpoint (becomes c (record x { checkpoint = x.watermark }) (CheckpointAt x.watermark)) (rw up refl) refl
+
+pub stops : (c : LeaderAndIsr) (n : ℕ) (x : Node) → is_down x.mode ≡ false → Local c n x Stop (becomes c (record x { mode = Down }) Stopped)
+stops c n x up = happened c n x Stop (becomes c (record x { mode = Down }) Stopped) (rw up refl) refl
+
+-- ---- restart
+
+restart_cause : (c : LeaderAndIsr) (n : ℕ) (x : Node) (last : Bool) → is_down x.mode ≡ true → leb (2 ^ 64 - 1) x.life ≡ last
+    → cause c n x Restart ≡ cond last (Some refusals.RecordFull) None
+restart_cause c n x last down is = rw (down, is) refl
+
+pub restarts : (c : LeaderAndIsr) (n : ℕ) (x : Node) → is_down x.mode ≡ true → x.life < 2 ^ 64 - 1
+    → Local c n x Restart (becomes c (record x { watermark = x.checkpoint; life = x.life + 1; mode = Idle }) (Restarted (x.life + 1) (end_of x.log) x.checkpoint))
+restarts c n x down below =
+    let e : Effect = becomes c (record x { watermark = x.checkpoint; life = x.life + 1; mode = Idle }) (Restarted (x.life + 1) (end_of x.log) x.checkpoint) in
+    happened c n x Restart e (restart_cause c n x false down (lt-leb (2 ^ 64 - 1) x.life below)) refl
+
+-- in no life after the greatest
+pub not_again : (c : LeaderAndIsr) (n : ℕ) (x : Node) → is_down x.mode ≡ true → 2 ^ 64 - 1 ≤ x.life → Local c n x Restart (becomes c x (Refused refusals.RecordFull))
+not_again c n x down last = was_refused c n x Restart refusals.RecordFull (restart_cause c n x true down (le-leb (2 ^ 64 - 1) x.life last))
+
+-- nor without memory
+pub lacks_room : (c : LeaderAndIsr) (n : ℕ) (x : Node) (refusal : Refusal) → is_down x.mode ≡ true → x.life < 2 ^ 64 - 1 → refusal ≡ refusals.Memory
+    → Local c n x Restart (becomes c x (Refused refusal))
+lacks_room c n x refusal down below is =
+    lacked_memory c n x Restart (becomes c x (Refused refusal)) (restart_cause c n x false down (lt-leb (2 ^ 64 - 1) x.life below))
+    (ap (λ (r : Refusal). becomes c x (Refused r)) is)

@@ -13,3 +13,4 @@ pub mod Behind
 pub mod Places
 pub mod Cuts
 pub mod Takes
+pub mod Alters

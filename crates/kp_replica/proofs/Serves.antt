@@ -1,10 +1,9 @@
 -- What it takes that a leader served a follower's request, of which it knows the letter alone.
 use Rattle.std.proofs.Common.{◌≡◌, ◌⊎◌, ℕ, zero, suc, ◌≤◌, ◌^◌, max, Bool, true, false, ltb, List, [], ◌∷◌, map, Option, Some, None, Result, Err, refl, sym, ap, ◌∙◌, subst, inl, inr, arith}
-use Rattle.std.specs.Prelude.{◌&&◌, not, is_some, IfErr, IsFalse, if◌then◌else◌, unwrap_or, slice_index_or, slice_set}
+use Rattle.std.specs.Prelude.{◌&&◌, not, is_some, IsFalse, if◌then◌else◌, unwrap_or, slice_index_or, slice_set}
 use Rattle.std.specs.List.{AllByRecursion}
 use Rattle.std.proofs.lemmas.Bool.{cases_lt, le-ltb}
 use Rattle.std.proofs.lemmas.Option.{none-some}
-use Rattle.std.proofs.lemmas.Result.{err_from_is_err_and}
 use Rattle.std.specs.Result.{IsErrAnd}
 use Rattle.kp_types.specs.Causes.{first_of, IsRefusedOnlyBy}
 use Rattle.kp_types.specs.declared.refusal.Refusal.{Refusal}
@@ -32,12 +31,6 @@ use Rattle.kp_replica.specs.Sending.{DoesSending}
 -- ---- refusals
 
 -- what the exit of a `?` returns
-pub refused_as : {T : Type 0} (P : Refusal → Type 0) (result : Result T Refusal) (refusal : Refusal) → IsErrAnd result (λ f. f ≡ refusal) → P refusal
-    → IfErr result P
-refused_as {T} P result refusal h p =
-    let exit = err_from_is_err_and result h in
-    subst (λ (r : Result T Refusal). IfErr r P) (sym (exit.1 ∙ ap Err exit.2)) p
-
 pub memory_exit : {T : Type 0} (result : Result T Refusal) (refusal : Refusal) → IsErrAnd result (λ f. f ≡ refusal) → refusal ≡ refusals.Memory
     → IsErrAnd result (λ f. f ≡ refusals.Memory)
 memory_exit {T} result refusal h is = subst (λ (r : Refusal). IsErrAnd result (λ f. f ≡ r)) is h

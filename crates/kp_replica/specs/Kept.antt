@@ -2,7 +2,7 @@
 use Rattle.std.specs.Prelude.{◌≡◌, ◌≤◌}
 use Rattle.kp_model.specs.Log.{IsBoundary}
 use Rattle.kp_log.specs.Entries.{AreEntriesOf}
-use Rattle.kp_replica.specs.Member.{Member, HasEpochs, HasReports}
+use Rattle.kp_replica.specs.Member.{Member, HasEpochs, HasReports, IsOfRecord}
 use Rattle.kp_replica.specs.Modes.{mode_of}
 use Rattle.kp_model.specs.World.{Down as IsDown}
 use Rattle.kp_replica.specs.declared.replica.Replica.TheInside.{Inside}
@@ -29,6 +29,7 @@ pub record IsKept (r : Inside) : Type 0 where
   pub entries : AreEntriesOf r.log r.entries
   pub epochs : HasEpochs r.log.log (mode_of r.mode)
   pub reports : HasReports r.log.log (mode_of r.mode)
+  pub recorded : IsOfRecord r.number (mode_of r.mode)
   pub boundary : IsBoundary r.log.log r.watermark
   pub settled : r.log.settled ≡ r.watermark
   pub checkpoint : IsBoundary r.log.log r.checkpoint

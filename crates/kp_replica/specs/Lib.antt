@@ -7,3 +7,4 @@ pub mod Sending
 pub mod Adopting
 pub mod Taking
 pub mod Cutting
+pub mod Altering

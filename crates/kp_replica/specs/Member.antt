@@ -34,3 +34,8 @@ HasEpochs log _ = Unit {0}
 abbrev pub HasReports : List Batch → Mode → Type 0
 HasReports log (Leads l) = (m end : ℕ) → report_of l m ≡ Some end → IsBoundary log end
 HasReports log _ = Unit {0}
+
+-- A leader has a number that a record can name, and knows a version that one can have.
+abbrev pub IsOfRecord : ℕ → Mode → Type 0
+IsOfRecord n (Leads l) = (n < 7) × (l.version < 2 ^ 28)
+IsOfRecord n _ = Unit {0}

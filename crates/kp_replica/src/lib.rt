@@ -5,6 +5,7 @@
 
 ghost use Rattle.kp_replica.specs.Offers.{BytesAreAnOffer, OffersAreOne};
 
+mod altering;
 mod asking;
 mod cutting;
 mod kept;
@@ -13,6 +14,7 @@ mod replica;
 mod serving;
 mod taking;
 
+pub use altering::IsrChange;
 pub use cutting::CutBack;
 pub use kept::KeptNode;
 pub use replica::{Receipt, Replica, Role};

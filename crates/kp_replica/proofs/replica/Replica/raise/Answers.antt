@@ -36,6 +36,7 @@ invariant_of-self c =
       entries = c.settle.ensures.kept;
       epochs = subst (λ (log : List Batch). HasEpochs log m.state.mode) same c.self.invariant.epochs;
       reports = subst (λ (log : List Batch). HasReports log m.state.mode) same c.self.invariant.reports;
+      recorded = c.self.invariant.recorded;
       boundary = subst (λ (log : List Batch). IsBoundary log mark) same raised.0;
       settled = c.settle.ensures.reached raised.0 (omega (arith, c.self.invariant.settled, raised.1));
       checkpoint = subst (λ (log : List Batch). IsBoundary log m.state.checkpoint) same c.self.invariant.checkpoint;
