@@ -74,7 +74,7 @@ of_run keep_logs keep_kin no_cut count r number (Answers a) c x there record_is 
 -- the message came to the node to which it goes
 pub delivered : RunsKeepLogs → RunsKeepKin → NoCutBelowTheWatermark → (limits : Limits) (number : ℕ) (l : Letter) (i : ℕ) (stage : Stage) (x m : Member) (outcome : Result Answer Refusal)
     (letters : List Letter) → slice_get stage.letters number ≡ Some l → i ≡ goes_to l → i < length stage.members → x ≡ get_or stage.members i x
-    → ((message : Message) → letter_of message ≡ l → IsOfRun stage.controller x message → Moves stage.controller stage.letters x m (Receive message) outcome letters)
+    → ((message : Message) → letter_of message ≡ l → IsOfRun stage.controller x message → Moves stage.controller stage.controller stage.letters x m (Receive message) outcome letters)
     → LeadOn limits stage (Deliver number ∷ []) (outcome ∷ []) (record { controller = stage.controller; members = set stage.members i m; letters = letters })
 delivered keep_logs keep_kin no_cut limits number l i stage x m outcome letters is goes_there inside there did count before earlier p =
     let w = last p.run in
@@ -83,7 +83,7 @@ delivered keep_logs keep_kin no_cut limits number l i stage x m outcome letters 
     let here : i ≡ addressee message = goes_there ∙ ap goes_to (sym sent.letter_is) ∙ goes message in
     let old : IsNode limits i x (w.nodes i) = subst (λ (y : Member). IsNode limits i y (w.nodes i)) (sym there) (p.shown.nodes i x inside) in
     let state : w.nodes x.number ≡ x.state = ap w.nodes old.number_is ∙ old.state in
-    let s = stepped limits i stage x m (Receive message) outcome letters w inside there p.shown (number, sent.there)
+    let s = stepped limits i stage x m (Receive message) outcome stage.controller letters w inside there p.shown (number, sent.there)
     (λ number_is limits_are. did message sent.letter_is (of_run keep_logs keep_kin no_cut count p.run number message stage.controller x sent.there p.shown.controller_is state)) in
     reached_more count limits before earlier stage _ (Deliver number) outcome p s.after
     (subst (λ (o : Option Message). Delivers w o (outcome_of outcome) s.after) (sym sent.there) (subst (λ (k : ℕ). NodeStep w k (Receive message) (outcome_of outcome) s.after) here s.step)) tt s.shown
@@ -121,7 +121,7 @@ epoch_came c old new answer (Answers a) reply is of event =
 
 pub came : RunsKeepLogs → RunsKeepKin → NoCutBelowTheWatermark → (limits : Limits) (number : ℕ) (l : Letter) (i : ℕ) (c : LeaderAndIsr) (places : List Place) (p q : Place)
     (letters after : List Letter) (outcome : Result Answer Refusal) → slice_get letters number ≡ Some l → i ≡ goes_to l → i < length places → p ≡ get_or places i p
-    → ((message : Message) → letter_of message ≡ l → IsOfRun c (member_at p) message → Moves c letters (member_at p) (member_at q) (Receive message) outcome after)
+    → ((message : Message) → letter_of message ≡ l → IsOfRun c (member_at p) message → Moves c c letters (member_at p) (member_at q) (Receive message) outcome after)
     → LeadOn limits (record { controller = c; members = map member_at places; letters = letters }) (Deliver number ∷ []) (outcome ∷ [])
     (record { controller = c; members = map member_at (set places i q); letters = after })
 came keep_logs keep_kin no_cut limits number l i c places p q letters after outcome is goes_there inside there did =

@@ -9,13 +9,13 @@ use Rattle.kp_types.specs.declared.refusal.Refusal.{Refusal}
 use Rattle.kp_types.specs.declared.refusal.Refusal.TheVariants as refusals
 use Rattle.kp_model.specs.Log.{end_of}
 use Rattle.kp_model.specs.Transactions.{stable}
-use Rattle.kp_model.specs.World.{Leader, LeaderAndIsr, Mode, Down, Idle, Leads, Follows, Answer, Message, Asks, Answers, Node, World, addressee, with_record}
+use Rattle.kp_model.specs.World.{Leader, LeaderAndIsr, Leading, Mode, Down, Idle, Leads, Follows, Answer, Message, Asks, Answers, Node, World, addressee, with_record}
 use Rattle.kp_model.specs.Event.{Act, Receive, Event, Outcome, Refused, Changed, Shown}
 use Rattle.kp_model.specs.Event as model
 use Rattle.kp_model.specs.Calls.{cut}
 use Rattle.kp_model.specs.Letter.{letter_of}
 use Rattle.kp_model.specs.Laws.{CutIsTheStep, StandsIn, MessagesGoToNodes, NoDeliveryIsRefusedOddly, RunsAreSafe, RunsKeepCount, RunsKeepKin, RunsKeepLogs}
-use Rattle.kp_model.specs.Local.{Adopts, Effect, Local, LocalBy, Raises, WhereLeads, becomes, cause, elected, is_down, piece, raised, unless_leads, under}
+use Rattle.kp_model.specs.Local.{Adopts, Alters, Effect, Local, LocalBy, Raises, WhereLeads, altered, becomes, cause, elected, is_down, piece, raised, unless_leads, under, with_member, without_member}
 use Rattle.kp_model.specs.Run.{Moment, Run, extend, last}
 use Rattle.kp_model.proofs.Beginnings.{Begins-nil}
 use Rattle.kp_model.proofs.RunLaws.{last_is_of}
@@ -50,6 +50,16 @@ raises c n x Idle none = absurd cc
 raises c n x (Leads l) none = (becomes c (record x { watermark = raised n x l }) (model.MarkAt (raised n x l)), refl)
 raises c n x (Follows f) none = absurd cc
 
+-- and changes the in-sync replicas
+alters : (c : LeaderAndIsr) (x : Node) (isr : List ℕ → List ℕ) (mode : Mode) (why : Leading → Option Refusal) → unless_leads mode why ≡ None
+    → (e : Effect) × WhereLeads mode (λ l. Alters c x (isr l.isr) l e)
+alters c x isr Down why none = absurd cc
+alters c x isr Idle why none = absurd cc
+alters c x isr (Leads l) why none =
+    let r = altered c (isr l.isr) in
+    (record { node = record x { mode = Leads (record l { isr = isr l.isr; version = r.version }) }; controller = r; sent = []; reply = Changed r }, refl)
+alters c x isr (Follows f) why none = absurd cc
+
 -- a record without a leader is no news
 no_news : (d : Bool) → first_of ((d, refusals.Down) ∷ (true, refusals.StaleRecord) ∷ []) ≡ None → ⊥
 no_news true none = absurd cc
@@ -75,11 +85,15 @@ does c n x (model.Receive m) None is asked = absurd asked
 does c n x model.Raise None is asked =
     let done = raises c n x x.mode (sym is) in
     (done.0, inl done.1)
-does c n x (model.Join member) None is asked = absurd asked
-does c n x (model.Leave member) None is asked = absurd asked
-does c n x model.Checkpoint None is asked = absurd asked
-does c n x model.Stop None is asked = absurd asked
-does c n x model.Restart None is asked = absurd asked
+does c n x (model.Join member) None is asked =
+    let done = alters c x (with_member member) x.mode _ (sym is) in
+    (done.0, inl done.1)
+does c n x (model.Leave member) None is asked =
+    let done = alters c x (without_member member) x.mode _ (sym is) in
+    (done.0, inl done.1)
+does c n x model.Checkpoint None is asked = (becomes c (record x { checkpoint = x.watermark }) (model.CheckpointAt x.watermark), inl refl)
+does c n x model.Stop None is asked = (becomes c (record x { mode = Down }) model.Stopped, inl refl)
+does c n x model.Restart None is asked = (becomes c x (Refused refusals.Memory), inr refl)
 does c n x model.Show None is asked = (becomes c x (Shown x.life (end_of x.log) x.watermark (stable x.log x.watermark)), inl refl)
 does c n x (model.Read from) None is asked = (becomes c x (Refused refusals.Memory), inr refl)
 does c n x (model.Committed from) None is asked = (becomes c x (Refused refusals.Memory), inr refl)
@@ -95,11 +109,11 @@ given messages (model.Mark time producer epoch coordinator commit) asked = tt
 given messages model.Ask asked = tt
 given messages (model.Receive m) asked = absurd asked
 given messages model.Raise asked = tt
-given messages (model.Join member) asked = absurd asked
-given messages (model.Leave member) asked = absurd asked
-given messages model.Checkpoint asked = absurd asked
-given messages model.Stop asked = absurd asked
-given messages model.Restart asked = absurd asked
+given messages (model.Join member) asked = tt
+given messages (model.Leave member) asked = tt
+given messages model.Checkpoint asked = tt
+given messages model.Stop asked = tt
+given messages model.Restart asked = tt
 given messages model.Show asked = tt
 given messages (model.Read from) asked = tt
 given messages (model.Committed from) asked = tt

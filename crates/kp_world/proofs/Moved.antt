@@ -70,10 +70,11 @@ pub record Stepped (limits : Limits) (new : Stage) (m : Member) (w : World) (n :
   pub shown : IsShown limits new after
 
 -- the node x at place n did this and became m
-pub stepped : (limits : Limits) (n : ℕ) (stage : Stage) (x m : Member) (act : Act) (outcome : Result Answer Refusal) (letters : List Letter) (w : World) → n < length stage.members
-    → x ≡ get_or stage.members n x → IsShown limits stage w → IsGiven w.messages act → (x.number ≡ n → x.limits ≡ limits → Moves stage.controller stage.letters x m act outcome letters)
-    → Stepped limits (record { controller = stage.controller; members = set stage.members n m; letters = letters }) m w n act outcome
-stepped limits n stage x m act outcome letters w inside there shown given did =
+pub stepped : (limits : Limits) (n : ℕ) (stage : Stage) (x m : Member) (act : Act) (outcome : Result Answer Refusal) (made : LeaderAndIsr) (letters : List Letter) (w : World)
+    → n < length stage.members → x ≡ get_or stage.members n x → IsShown limits stage w → IsGiven w.messages act
+    → (x.number ≡ n → x.limits ≡ limits → Moves stage.controller made stage.letters x m act outcome letters)
+    → Stepped limits (record { controller = made; members = set stage.members n m; letters = letters }) m w n act outcome
+stepped limits n stage x m act outcome made letters w inside there shown given did =
     let c = stage.controller in
     let old : IsNode limits n x (w.nodes n) = subst (λ (y : Member). IsNode limits n y (w.nodes n)) (sym there) (shown.nodes n x inside) in
     let moves = did old.number_is old.limits_are in
@@ -94,21 +95,21 @@ stepped limits n stage x m act outcome letters w inside there shown given did =
     }
 
 -- the node x at place i, which is its number, did this and became m
-pub acted : EpochsAreElected → (limits : Limits) (n i : ℕ) (stage : Stage) (x m : Member) (act : Act) (outcome : Result Answer Refusal) (letters : List Letter) → i ≡ n
+pub acted : EpochsAreElected → (limits : Limits) (n i : ℕ) (stage : Stage) (x m : Member) (act : Act) (outcome : Result Answer Refusal) (made : LeaderAndIsr) (letters : List Letter) → i ≡ n
     → n < length stage.members → x ≡ get_or stage.members i x → ((w : World) → IsGiven w.messages act)
-    → (x.limits ≡ limits → IsWithin stage.controller x.state.log → Moves stage.controller stage.letters x m act outcome letters) → KeepsReceipt m.state.log outcome
-    → LeadOn limits stage (Acts n act ∷ []) (outcome ∷ []) (record { controller = stage.controller; members = set stage.members i m; letters = letters })
-acted elected_all limits n i stage x m act outcome letters same inside there given did receipt count before earlier p =
+    → (x.limits ≡ limits → IsWithin stage.controller x.state.log → Moves stage.controller made stage.letters x m act outcome letters) → KeepsReceipt m.state.log outcome
+    → LeadOn limits stage (Acts n act ∷ []) (outcome ∷ []) (record { controller = made; members = set stage.members i m; letters = letters })
+acted elected_all limits n i stage x m act outcome made letters same inside there given did receipt count before earlier p =
     let w = last p.run in
     let there_n : x ≡ get_or stage.members n x = there ∙ ap (λ (k : ℕ). get_or stage.members k x) same in
     let old : IsNode limits n x (w.nodes n) = subst (λ (y : Member). IsNode limits n y (w.nodes n)) (sym there_n) (p.shown.nodes n x inside) in
     let epochs : IsWithin stage.controller x.state.log =
     subst (λ (k : LeaderAndIsr). IsWithin k x.state.log) p.shown.controller_is
     (subst (λ (y : Node). IsWithin w.controller y.log) old.state (within elected_all count p.run n)) in
-    let s = stepped limits n stage x m act outcome letters w inside there_n p.shown (given w) (λ number_is limits_are. did limits_are epochs) in
+    let s = stepped limits n stage x m act outcome made letters w inside there_n p.shown (given w) (λ number_is limits_are. did limits_are epochs) in
     reached_more count limits before earlier stage _ (Acts n act) outcome p s.after s.step
     (subst (λ (y : Node). KeepsReceipt y.log outcome) (sym s.node_is) receipt)
-    (subst (λ (k : ℕ). IsShown limits (record { controller = stage.controller; members = set stage.members k m; letters = letters }) s.after) (sym same) s.shown)
+    (subst (λ (k : ℕ). IsShown limits (record { controller = made; members = set stage.members k m; letters = letters }) s.after) (sym same) s.shown)
 
 -- the controller's record changed by an election
 pub elected_on : (limits : Limits) (n : ℕ) (old new : CodeRecord) (members : List Member) (letters : List Letter) → elect_cause (record_of old) n ≡ None → record_of new ≡ elected (record_of old) n

@@ -4,11 +4,12 @@ use Rattle.kp_types.specs.declared.refusal.Refusal.{Refusal}
 use Rattle.kp_batch.specs.Batch.{Body}
 use Rattle.kp_model.specs.Event as model
 use Rattle.kp_replica.specs.Offers.{BytesAreAnOffer, OffersAreOne}
+use Rattle.kp_replica.specs.Altering.{change_act}
 use Rattle.kp_replica.specs.Replies.{mark_of}
 use Rattle.kp_world.specs.declared.event.Event.{Event}
 use Rattle.kp_world.specs.declared.event.Event.TheVariants.{Elect, Acts, Deliver}
 use Rattle.kp_world.specs.declared.event.Act.{Act}
-use Rattle.kp_world.specs.declared.event.Act.TheVariants.{Adopt, Produce, Mark, Ask, Raise, Show, Read, Committed}
+use Rattle.kp_world.specs.declared.event.Act.TheVariants.{Adopt, Produce, Mark, Ask, Raise, Alter, Checkpoint, Stop, Restart, Show, Read, Committed}
 use Rattle.kp_world.specs.Events.{HandsBytes, HasBytes, IsAct, IsEvent}
 use Rattle.kp_world.specs.Laws.{EventsAreTold, EventsAreToldOnce}
 
@@ -20,6 +21,10 @@ act_told some max (Produce bytes) h =
 act_told some max (Mark marker) h = (mark_of marker, refl)
 act_told some max Ask h = (model.Ask, refl)
 act_told some max Raise h = (model.Raise, refl)
+act_told some max (Alter change) h = (change_act change, refl)
+act_told some max Checkpoint h = (model.Checkpoint, refl)
+act_told some max Stop h = (model.Stop, refl)
+act_told some max Restart h = (model.Restart, refl)
 act_told some max Show h = (model.Show, refl)
 act_told some max (Read from) h = (model.Read from, refl)
 act_told some max (Committed from) h = (model.Committed from, refl)
@@ -45,6 +50,10 @@ act_told_once one max (Produce bytes) a b h (offer, of, is) (other, from, was) =
 act_told_once one max (Mark marker) a b h is was = is ∙ sym was
 act_told_once one max Ask a b h is was = is ∙ sym was
 act_told_once one max Raise a b h is was = is ∙ sym was
+act_told_once one max (Alter change) a b h is was = is ∙ sym was
+act_told_once one max Checkpoint a b h is was = is ∙ sym was
+act_told_once one max Stop a b h is was = is ∙ sym was
+act_told_once one max Restart a b h is was = is ∙ sym was
 act_told_once one max Show a b h is was = is ∙ sym was
 act_told_once one max (Read from) a b h is was = is ∙ sym was
 act_told_once one max (Committed from) a b h is was = is ∙ sym was

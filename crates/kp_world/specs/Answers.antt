@@ -3,13 +3,13 @@ use Rattle.std.specs.Prelude.{ℕ, Result, Ok, Err, List, Option, Some, None}
 use Rattle.std.specs.Option.{option_map}
 use Rattle.kp_types.specs.declared.refusal.Refusal.{Refusal}
 use Rattle.kp_model.specs.Event as model
-use Rattle.kp_model.specs.Event.{Line as ModelLine, Reply, Refused, Changed as RecordChanged, SentBatches, SentEpoch, MarkAt, Shown as StateShown, Lines as LinesRead, Outcome}
+use Rattle.kp_model.specs.Event.{Line as ModelLine, Reply, Refused, Changed as RecordChanged, SentBatches, SentEpoch, MarkAt, CheckpointAt, Shown as StateShown, Lines as LinesRead, Outcome}
 use Rattle.kp_control.specs.Set.{record_of}
 use Rattle.kp_replica.specs.Replies.{role_reply, receipt_reply, taken_reply, cut_reply}
 use Rattle.kp_world.specs.declared.event.Said.{Said}
 use Rattle.kp_world.specs.declared.event.Said.TheVariants.{AsksFrom, AsksEpoch, Batches, EpochEnd}
 use Rattle.kp_world.specs.declared.event.Answer.{Answer}
-use Rattle.kp_world.specs.declared.event.Answer.TheVariants.{Changed, Adopted, Appended, Sent, Took, Cut, Watermark, Shown, Lines}
+use Rattle.kp_world.specs.declared.event.Answer.TheVariants.{Changed, Adopted, Appended, Sent, Took, Cut, Watermark, Checkpoint, Stopped, Restarted, Shown, Lines}
 
 abbrev pub said_reply : Said → Reply
 said_reply (AsksFrom offset) = model.AsksFrom offset
@@ -25,6 +25,9 @@ answer_reply (Sent number said) = said_reply said
 answer_reply (Took taken) = taken_reply (Ok taken)
 answer_reply (Cut cut) = cut_reply (Ok cut)
 answer_reply (Watermark watermark) = MarkAt watermark
+answer_reply (Checkpoint watermark) = CheckpointAt watermark
+answer_reply Stopped = model.Stopped
+answer_reply (Restarted life end watermark) = model.Restarted life end watermark
 answer_reply (Shown life end watermark stable) = StateShown life end watermark stable
 answer_reply (Lines lines) = LinesRead lines
 

@@ -5,11 +5,12 @@ use Rattle.kp_record.specs.Record.{AreBytes}
 use Rattle.kp_batch.specs.Batch.{Body}
 use Rattle.kp_model.specs.Event as model
 use Rattle.kp_marker.specs.declared.parts.Marker.{Marker}
+use Rattle.kp_replica.specs.Altering.{change_act}
 use Rattle.kp_replica.specs.Replies.{IsOffer, mark_of}
 use Rattle.kp_world.specs.declared.event.Event.{Event}
 use Rattle.kp_world.specs.declared.event.Event.TheVariants.{Elect, Acts, Deliver}
 use Rattle.kp_world.specs.declared.event.Act.{Act}
-use Rattle.kp_world.specs.declared.event.Act.TheVariants.{Adopt, Produce, Mark, Ask, Raise, Show, Read, Committed}
+use Rattle.kp_world.specs.declared.event.Act.TheVariants.{Adopt, Produce, Mark, Ask, Raise, Alter, Checkpoint, Stop, Restart, Show, Read, Committed}
 
 -- What a node does is this of the definitions, where batches have at most so many bytes. Bytes that are handed in are a
 -- batch, or what refuses them.
@@ -19,6 +20,10 @@ IsAct max (Produce bytes) a = (offer : Result Body Refusal) × IsOffer max bytes
 IsAct max (Mark marker) a = a ≡ mark_of marker
 IsAct max Ask a = a ≡ model.Ask
 IsAct max Raise a = a ≡ model.Raise
+IsAct max (Alter change) a = a ≡ change_act change
+IsAct max Checkpoint a = a ≡ model.Checkpoint
+IsAct max Stop a = a ≡ model.Stop
+IsAct max Restart a = a ≡ model.Restart
 IsAct max Show a = a ≡ model.Show
 IsAct max (Read from) a = a ≡ model.Read from
 IsAct max (Committed from) a = a ≡ model.Committed from

@@ -18,17 +18,10 @@ EventsAreToldOnce =
     (max : ℕ) (events : List Event) (es others : List ModelEvent) → AllByRecursion HasBytes events →
     AreEvents max events es → AreEvents max events others → es ≡ others
 
--- An action of those that `Act` has: no in-sync change, checkpoint, stop or restart, and messages come by their numbers alone.
+-- An action of those that `Act` has: all but that a message comes, which comes by its number.
 abbrev pub IsAsked : model.Act → Type 0
-IsAsked model.Adopt = Unit {0}
-IsAsked (model.Produce offer) = Unit {0}
-IsAsked (model.Mark time producer epoch coordinator commit) = Unit {0}
-IsAsked model.Ask = Unit {0}
-IsAsked model.Raise = Unit {0}
-IsAsked model.Show = Unit {0}
-IsAsked (model.Read from) = Unit {0}
-IsAsked (model.Committed from) = Unit {0}
-IsAsked _ = ⊥
+IsAsked (model.Receive m) = ⊥
+IsAsked _ = Unit {0}
 
 -- An election, such an action of one of so many nodes, or a delivery.
 abbrev pub MayCome : (count : ℕ) → ModelEvent → Type 0

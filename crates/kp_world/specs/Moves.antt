@@ -20,12 +20,12 @@ use Rattle.kp_world.specs.declared.delivering.Came.TheVariants.{Answered, Sends}
 use Rattle.kp_world.specs.Answers.{answer_reply, number_in, outcome_of, said_reply}
 
 -- Under this record, and where messages with these letters have been sent, the node did this and answered so, and is now the
--- new one; messages with the letters after it have been sent now.
-pub record Moves (c : LeaderAndIsr) (letters : List Letter) (old new : Member) (act : Act) (outcome : Result Answer Refusal) (after : List Letter) : Type 0 where
+-- new one; the record is then the made one, and messages with the letters after it have been sent.
+pub record Moves (c made : LeaderAndIsr) (letters : List Letter) (old new : Member) (act : Act) (outcome : Result Answer Refusal) (after : List Letter) : Type 0 where
   pub effect : Effect
   pub local : Local c old.number old.state act effect
   pub node_is : effect.node ≡ new.state
-  pub record_is : effect.controller ≡ c
+  pub record_is : effect.controller ≡ made
   pub letters_are : after ≡ letters ++ map letter_of effect.sent
   pub outcome_is : (messages : List Message) → map letter_of messages ≡ letters → outcome_of outcome ≡ answered messages effect
   pub same : IsSameNode old new

@@ -5,7 +5,7 @@ use kp_batch::Handed;
 use kp_control::LeaderAndIsr;
 use kp_marker::Marker;
 use kp_model::EpochEnd;
-use kp_replica::{CutBack, Receipt, Role, Taken};
+use kp_replica::{CutBack, IsrChange, Receipt, Role, Taken};
 use kp_types::{Epoch, NodeId, Offset, Refusal};
 
 /// One atomic action of one actor: of the controller, or of a node. (Kafka replication design.)
@@ -34,6 +34,14 @@ pub enum Act {
     Ask,
     /// It raises its high watermark, as far as it may.
     Raise,
+    /// It changes the in-sync replicas, which it leads.
+    Alter { change: IsrChange },
+    /// It notes its high watermark, to start from there when it is restarted.
+    Checkpoint,
+    /// It stops, and keeps its log.
+    Stop,
+    /// It starts again, in its next life.
+    Restart,
     /// It tells its state.
     Show,
     /// It reads the records from this offset on that lie below its high watermark.
@@ -74,6 +82,14 @@ pub enum Answer {
     Cut(CutBack),
     /// The high watermark.
     Watermark(Offset),
+    /// The high watermark that was noted.
+    Checkpoint(Offset),
+    Stopped,
+    Restarted {
+        life: u64,
+        end: Offset,
+        watermark: Offset,
+    },
     Shown {
         life: u64,
         end: Offset,

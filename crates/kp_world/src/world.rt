@@ -70,7 +70,8 @@ impl World {
     /// The log of a node, up or down, settled up to the node's high watermark. O(1).
     pub fn log(&self, node: NodeId) -> &PartitionLog
         requires { node < length self.now.members }
-        ensures { (other : Member) → result.now ≡ log_of (slice_index_or self.now.members node other) }
+        ensures { (other : Member) → result.now
+            ≡ log_of (slice_index_or self.now.members node other) }
     {
         match &self.places[usize::from(node)] {
             Place::Up(replica) => replica.log(),
@@ -133,7 +134,7 @@ impl World {
             Event::Elect { node } => Ok(self.elect(*node)),
             Event::Acts { node, act: what } => {
                 let place = &mut self.places[usize::from(*node)];
-                act(alloc, &self.controller, &mut self.messages, place, what)
+                act(alloc, &mut self.controller, &mut self.messages, place, what)
             }
             Event::Deliver { number } => self.deliver(alloc, *number),
         }

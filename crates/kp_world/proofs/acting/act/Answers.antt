@@ -10,6 +10,9 @@ use Rattle.kp_model.specs.Step.{told}
 use Rattle.kp_model.specs.World.{LeaderAndIsr}
 use Rattle.kp_model.specs.declared.message.Letter.{Letter as Body_of_letter}
 use Rattle.kp_replica.specs.Adopting.{IsWithin}
+use Rattle.kp_replica.specs.Altering.{change_act}
+use Rattle.kp_replica.specs.declared.altering.IsrChange.{IsrChange}
+use Rattle.kp_replica.specs.declared.altering.IsrChange.TheVariants as changes
 use Rattle.kp_replica.specs.Member.{DoesUnder, Member}
 use Rattle.kp_replica.specs.Replies.{IsOffer, IsReceiptOf, IsReceiptOfBody, body_of, mark_of, watermark_reply, receipt_reply, role_reply}
 use Rattle.kp_control.specs.Set.{record_of}
@@ -18,89 +21,107 @@ use Rattle.kp_replica.specs.declared.replica.Role.{Role}
 use Rattle.kp_world.specs.Answers.{answer_reply, lines_reply, outcome_of}
 use Rattle.kp_world.specs.Events.{IsAct}
 use Rattle.kp_world.specs.Moves.{Moves}
-use Rattle.kp_world.specs.Laws.{IsAsked}
 use Rattle.kp_world.specs.Shown.{KeepsReceipt, member_at}
 use Rattle.kp_world.specs.declared.place.Place.{Place}
-use Rattle.kp_world.specs.declared.event.Act.TheVariants.{Adopt, Produce, Mark, Ask, Raise, Show, Read, Committed}
+use Rattle.kp_world.specs.declared.event.Act.TheVariants.{Adopt, Produce, Mark, Ask, Raise, Alter, Checkpoint, Stop, Restart, Show, Read, Committed}
 use Rattle.kp_world.specs.declared.event.Act.{Act}
 use Rattle.kp_world.specs.declared.event.Answer.{Answer}
 use Rattle.kp_world.specs.declared.event.Answer.TheVariants as answers
 use Rattle.kp_world.proofs.Mapped.{mapped}
-use Rattle.kp_world.proofs.Downs.{refuses_down}
+use Rattle.kp_world.proofs.Downs.{NeedsUp, refuses_down, refuses_up}
 use Rattle.kp_world.proofs.Moving.{quietly, refusing}
 use Rattle.kp_world.proofs.acting.act.Goals as goal
-use Rattle.kp_world.proofs.acting.act.Goals.{in-Adopt, in-Produce+in_ok-shared-in-Produce, in-Mark, in-Ask+in_ok-reserve-in-Ask, in-Raise, in-Show, in-Read, in-Committed}
+use Rattle.kp_world.proofs.acting.act.Goals.{in-Adopt, in-Produce+in_ok-shared-in-Produce, in-Mark, in-Ask+in_ok-reserve-in-Ask, in-Raise, in-Alter, in-Checkpoint, in-Stop, in-Restart-act, in-Show, in-Read, in-Committed}
 
 -- what a node did and sent nothing, where act, answer and what is left are written in other words
 in_other_words : (c : LeaderAndIsr) (letters after : List Letter) (old new left : Member) (a b : model.Act) (outcome made : Result Answer Refusal) (reply : model.Reply) → a ≡ b → new ≡ left
-    → outcome ≡ made → outcome_of made ≡ told reply → after ≡ letters → DoesUnder c old left b reply → Moves c letters old new a outcome after
-in_other_words c letters after old new left a b outcome made reply act same is replied quiet h =
-    quietly c letters after old new a outcome reply
+    → outcome ≡ made → outcome_of made ≡ told reply → after ≡ letters → DoesUnder c old left b reply → (k : LeaderAndIsr) → k ≡ c → Moves c k letters old new a outcome after
+in_other_words c letters after old new left a b outcome made reply act same is replied quiet h k kept =
+    subst (λ (r : LeaderAndIsr). Moves c r letters old new a outcome after) (sym kept)
+    (quietly c letters after old new a outcome reply
     (subst (λ (x : model.Act). DoesUnder c old new x reply) (sym act) (subst (λ (m : Member). DoesUnder c old m b reply) (sym same) h))
-    (ap outcome_of is ∙ replied) quiet
+    (ap outcome_of is ∙ replied) quiet)
 
--- or, in the same case, sent a message
-in_other_words_sent : (c : LeaderAndIsr) (letters after then : List Letter) (old new left : Member) (a b : model.Act) (outcome made : Result Answer Refusal) → a ≡ b → new ≡ left
-    → outcome ≡ made → after ≡ then → Moves c letters old left b made then → Moves c letters old new a outcome after
-in_other_words_sent c letters after then old new left a b outcome made act same is grown h =
-    subst (λ (x : model.Act). Moves c letters old new x outcome after) (sym act)
-    (subst (λ (m : Member). Moves c letters old m b outcome after) (sym same)
-    (subst (λ (o : Result Answer Refusal). Moves c letters old left b o after) (sym is)
-    (subst (λ (ls : List Letter). Moves c letters old left b made ls) (sym grown) h)))
+-- or what else it did, as it was said of its call
+in_other_words_sent : (c k made_record : LeaderAndIsr) (letters after then : List Letter) (old new left : Member) (a b : model.Act) (outcome made : Result Answer Refusal) → a ≡ b → new ≡ left
+    → outcome ≡ made → after ≡ then → k ≡ made_record → Moves c made_record letters old left b made then → Moves c k letters old new a outcome after
+in_other_words_sent c k made_record letters after then old new left a b outcome made act same is grown kept h =
+    subst (λ (x : model.Act). Moves c k letters old new x outcome after) (sym act)
+    (subst (λ (m : Member). Moves c k letters old m b outcome after) (sym same)
+    (subst (λ (o : Result Answer Refusal). Moves c k letters old left b o after) (sym is)
+    (subst (λ (ls : List Letter). Moves c k letters old left b made ls) (sym grown)
+    (subst (λ (r : LeaderAndIsr). Moves c r letters old left b made then) (sym kept) h))))
 
 pub returns-clause-moves : goal.returns-clause-moves
 returns-clause-moves c = λ a.
     let r = record_of c.args.controller.now in
+    let k = record_of c.match-act-2.controller in
     let old = c.in-Up.replica in
     let max = old.limits.max_batch in
-    let new = (member_at c.match-act.place) in
+    let new = (member_at c.match-act-2.place) in
     let letters = map letter_in c.args.messages.now.items in
-    let after = map letter_in c.match-act.messages.items in
-    let outcome = c.match-act.outcome in
-    subst (λ (p : Place). IsAct (member_at p).limits.max_batch c.args.act.now a → IsWithin r (member_at p).state.log → Moves r letters (member_at p) new a outcome after) (sym c.in-Up.is)
-    (λ is within. elim c.match-act.branch [
+    let after = map letter_in c.match-act-2.messages.items in
+    let outcome = c.match-act-2.outcome in
+    subst (λ (p : Place). IsAct (member_at p).limits.max_batch c.args.act.now a → IsWithin r (member_at p).state.log → Moves r k letters (member_at p) new a outcome after) (sym c.in-Up.is)
+    (λ is within. elim c.match-act-2.branch [
       | in-Adopt w ↦
           in_other_words r letters after old new w.adopt.new.self a model.Adopt outcome w.map-outcome.result (role_reply w.adopt.result)
           (subst (λ (x : Act). IsAct max x a) w.in-Adopt.is is) (ap member_at w.place-is) w.outcome-is
           (mapped Role answers.Adopted role_reply _ w.adopt.result w.map-outcome.result (λ x a h. h) (λ x. refl) (λ f. refl) w.map-outcome.ensures.cases)
-          (ap (λ (v : _). map letter_in v.items) w.messages-is) (w.adopt.ensures.event within)
+          (ap (λ (v : _). map letter_in v.items) w.messages-is) (w.adopt.ensures.event within) k (ap record_of w.controller-is)
       | in-Produce+in_ok-shared-in-Produce w ↦
           (let made = subst (λ (x : Act). IsAct max x a) w.in-Produce.is is in
           let offered = subst (λ (bytes : List ℕ). IsOffer max bytes made.0) (sym w.in_ok-shared-in-Produce.ensures) made.1 in
           in_other_words r letters after old new w.produce.new.self a (model.Produce made.0) outcome w.map-outcome-in-Produce.result (receipt_reply w.produce.result)
           made.2 (ap member_at w.place-is) w.outcome-is
           (mapped Receipt answers.Appended receipt_reply _ w.produce.result w.map-outcome-in-Produce.result (λ x a h. h) (λ x. refl) (λ f. refl) w.map-outcome-in-Produce.ensures.cases)
-          (ap (λ (v : _). map letter_in v.items) w.messages-is) (w.produce.ensures.event made.0 offered r))
+          (ap (λ (v : _). map letter_in v.items) w.messages-is) (w.produce.ensures.event made.0 offered r) k (ap record_of w.controller-is))
       | in-Mark w ↦
           in_other_words r letters after old new w.mark.new.self a (mark_of w.in-Mark.marker) outcome w.map-outcome-in-Mark.result (receipt_reply w.mark.result)
           (subst (λ (x : Act). IsAct max x a) w.in-Mark.is is) (ap member_at w.place-is) w.outcome-is
           (mapped Receipt answers.Appended receipt_reply _ w.mark.result w.map-outcome-in-Mark.result (λ x a h. h) (λ x. refl) (λ f. refl) w.map-outcome-in-Mark.ensures.cases)
-          (ap (λ (v : _). map letter_in v.items) w.messages-is) (w.mark.ensures.event r)
+          (ap (λ (v : _). map letter_in v.items) w.messages-is) (w.mark.ensures.event r) k (ap record_of w.controller-is)
       | in-Ask+in_ok-reserve-in-Ask w ↦
-          in_other_words_sent r letters after (map letter_in w.ask-outcome.new.messages.items) old new old a model.Ask outcome w.ask-outcome.result
-          (subst (λ (x : Act). IsAct max x a) w.in-Ask.is is) (ap member_at w.place-is) w.outcome-is (ap (λ (v : _). map letter_in v.items) w.messages-is)
-          (subst (λ (ms : List Body_of_letter). Moves r (map letter_in ms) old old model.Ask w.ask-outcome.result (map letter_in w.ask-outcome.new.messages.items)) w.reserve.ensures.items
+          in_other_words_sent r k r letters after (map letter_in w.ask-outcome.new.messages.items) old new old a model.Ask outcome w.ask-outcome.result
+          (subst (λ (x : Act). IsAct max x a) w.in-Ask.is is) (ap member_at w.place-is) w.outcome-is (ap (λ (v : _). map letter_in v.items) w.messages-is) (ap record_of w.controller-is)
+          (subst (λ (ms : List Body_of_letter). Moves r r (map letter_in ms) old old model.Ask w.ask-outcome.result (map letter_in w.ask-outcome.new.messages.items)) w.reserve.ensures.items
           (w.ask-outcome.ensures.moves r))
       | in-Raise w ↦
           in_other_words r letters after old new w.raise.new.self a model.Raise outcome w.map-outcome-in-Raise.result (watermark_reply w.raise.result)
           (subst (λ (x : Act). IsAct max x a) w.in-Raise.is is) (ap member_at w.place-is) w.outcome-is
           (mapped ℕ answers.Watermark watermark_reply _ w.raise.result w.map-outcome-in-Raise.result (λ x a h. h) (λ x. refl) (λ f. refl) w.map-outcome-in-Raise.ensures.cases)
-          (ap (λ (v : _). map letter_in v.items) w.messages-is) (w.raise.ensures r)
+          (ap (λ (v : _). map letter_in v.items) w.messages-is) (w.raise.ensures r) k (ap record_of w.controller-is)
+      | in-Alter w ↦
+          in_other_words_sent r k (record_of w.alter-outcome.new.controller) letters after letters old new w.alter-outcome.new.replica a (change_act w.in-Alter.change) outcome w.alter-outcome.result
+          (subst (λ (x : Act). IsAct max x a) w.in-Alter.is is) (ap member_at w.place-is) w.outcome-is (ap (λ (v : _). map letter_in v.items) w.messages-is) (ap record_of w.controller-is)
+          (w.alter-outcome.ensures.moves letters)
+      | in-Checkpoint w ↦
+          in_other_words r letters after old new w.checkpoint.new.self a model.Checkpoint outcome (Ok (answers.Checkpoint w.checkpoint.result)) (model.CheckpointAt w.checkpoint.result)
+          (subst (λ (x : Act). IsAct max x a) w.in-Checkpoint.is is) (ap member_at w.place-is) w.outcome-is refl
+          (ap (λ (v : _). map letter_in v.items) w.messages-is) (w.checkpoint.ensures r) k (ap record_of w.controller-is)
+      | in-Stop w ↦
+          in_other_words_sent r k r letters after letters old new (member_at w.stop-outcome.new.self) a model.Stop outcome w.stop-outcome.result
+          (subst (λ (x : Act). IsAct max x a) w.in-Stop.is is) (ap member_at w.place-is) w.outcome-is (ap (λ (v : _). map letter_in v.items) w.messages-is) (ap record_of w.controller-is)
+          (w.stop-outcome.ensures.moves r letters)
+      | in-Restart-act w ↦
+          in_other_words r letters after old new old a model.Restart outcome (Err w.refusal.result) (model.Refused w.refusal.result)
+          (subst (λ (x : Act). IsAct max x a) w.in-Restart-act.is is) (ap member_at w.place-is) w.outcome-is refl
+          (ap (λ (v : _). map letter_in v.items) w.messages-is) (refuses_up r old w.refusal.result w.refusal.ensures.up w.refusal.ensures.value) k (ap record_of w.controller-is)
       | in-Show w ↦
           in_other_words r letters after old new old a model.Show outcome (Ok w.shown.result) (answer_reply w.shown.result)
           (subst (λ (x : Act). IsAct max x a) w.in-Show.is is) (ap member_at w.place-is) w.outcome-is
           (ap (λ (o : Option ℕ). record { reply = answer_reply w.shown.result; number = o }) w.shown.ensures.quiet)
-          (ap (λ (v : _). map letter_in v.items) w.messages-is) (w.shown.ensures.does r)
+          (ap (λ (v : _). map letter_in v.items) w.messages-is) (w.shown.ensures.does r) k (ap record_of w.controller-is)
       | in-Read w ↦
           in_other_words r letters after old new old a (model.Read w.in-Read.from) outcome w.map-outcome-in-Read.result (lines_reply w.read_lines.result)
           (subst (λ (x : Act). IsAct max x a) w.in-Read.is is) (ap member_at w.place-is) w.outcome-is
           (mapped (List ModelLine) answers.Lines lines_reply _ w.read_lines.result w.map-outcome-in-Read.result (λ x a h. h) (λ x. refl) (λ f. refl) w.map-outcome-in-Read.ensures.cases)
-          (ap (λ (v : _). map letter_in v.items) w.messages-is) (w.read_lines.ensures r)
+          (ap (λ (v : _). map letter_in v.items) w.messages-is) (w.read_lines.ensures r) k (ap record_of w.controller-is)
       | in-Committed w ↦
           in_other_words r letters after old new old a (model.Committed w.in-Committed.from) outcome w.map-outcome-in-Committed.result (lines_reply w.committed_lines.result)
           (subst (λ (x : Act). IsAct max x a) w.in-Committed.is is) (ap member_at w.place-is) w.outcome-is
           (mapped (List ModelLine) answers.Lines lines_reply _ w.committed_lines.result w.map-outcome-in-Committed.result (λ x a h. h) (λ x. refl) (λ f. refl) w.map-outcome-in-Committed.ensures.cases)
-          (ap (λ (v : _). map letter_in v.items) w.messages-is) (w.committed_lines.ensures r)
+          (ap (λ (v : _). map letter_in v.items) w.messages-is) (w.committed_lines.ensures r) k (ap record_of w.controller-is)
     ])
 
 -- an answer that is made of a result keeps its receipt, where the result's value does
@@ -129,51 +150,83 @@ marker_kept body log r receipt is h =
     (named.batch, named.stands, named.named)
 
 pub returns-clause-receipt : goal.returns-clause-receipt
-returns-clause-receipt c = elim c.match-act.branch [
+returns-clause-receipt c = elim c.match-act-2.branch [
   | in-Adopt w ↦
-      in_log (member_at c.match-act.place) w.adopt.new.self c.match-act.outcome w.map-outcome.result (ap member_at w.place-is) w.outcome-is
+      in_log (member_at c.match-act-2.place) w.adopt.new.self c.match-act-2.outcome w.map-outcome.result (ap member_at w.place-is) w.outcome-is
       (kept Role answers.Adopted _ w.adopt.result w.map-outcome.result (λ x is. tt) w.map-outcome.ensures.cases)
   | in-Produce+in_ok-shared-in-Produce w ↦
-      in_log (member_at c.match-act.place) w.produce.new.self c.match-act.outcome w.map-outcome-in-Produce.result (ap member_at w.place-is) w.outcome-is
+      in_log (member_at c.match-act-2.place) w.produce.new.self c.match-act-2.outcome w.map-outcome-in-Produce.result (ap member_at w.place-is) w.outcome-is
       (kept Receipt answers.Appended _ w.produce.result w.map-outcome-in-Produce.result
       (λ receipt is. batch_kept c.in-Up.replica.limits.max_batch _ w.produce.new.self.state.log w.produce.result receipt is w.produce.ensures.receipt) w.map-outcome-in-Produce.ensures.cases)
   | in-Mark w ↦
-      in_log (member_at c.match-act.place) w.mark.new.self c.match-act.outcome w.map-outcome-in-Mark.result (ap member_at w.place-is) w.outcome-is
+      in_log (member_at c.match-act-2.place) w.mark.new.self c.match-act-2.outcome w.map-outcome-in-Mark.result (ap member_at w.place-is) w.outcome-is
       (kept Receipt answers.Appended _ w.mark.result w.map-outcome-in-Mark.result
       (λ receipt is. marker_kept (body_of w.in-Mark.marker) w.mark.new.self.state.log w.mark.result receipt is w.mark.ensures.receipt) w.map-outcome-in-Mark.ensures.cases)
   | in-Ask+in_ok-reserve-in-Ask w ↦
-      in_log (member_at c.match-act.place) c.in-Up.replica c.match-act.outcome w.ask-outcome.result (ap member_at w.place-is) w.outcome-is
+      in_log (member_at c.match-act-2.place) c.in-Up.replica c.match-act-2.outcome w.ask-outcome.result (ap member_at w.place-is) w.outcome-is
       (w.ask-outcome.ensures.plain c.in-Up.replica.state.log)
   | in-Raise w ↦
-      in_log (member_at c.match-act.place) w.raise.new.self c.match-act.outcome w.map-outcome-in-Raise.result (ap member_at w.place-is) w.outcome-is
+      in_log (member_at c.match-act-2.place) w.raise.new.self c.match-act-2.outcome w.map-outcome-in-Raise.result (ap member_at w.place-is) w.outcome-is
       (kept ℕ answers.Watermark _ w.raise.result w.map-outcome-in-Raise.result (λ x is. tt) w.map-outcome-in-Raise.ensures.cases)
+  | in-Alter w ↦
+      in_log (member_at c.match-act-2.place) w.alter-outcome.new.replica c.match-act-2.outcome w.alter-outcome.result (ap member_at w.place-is) w.outcome-is
+      (w.alter-outcome.ensures.plain w.alter-outcome.new.replica.state.log)
+  | in-Checkpoint w ↦
+      in_log (member_at c.match-act-2.place) w.checkpoint.new.self c.match-act-2.outcome (Ok (answers.Checkpoint w.checkpoint.result)) (ap member_at w.place-is) w.outcome-is tt
+  | in-Stop w ↦
+      in_log (member_at c.match-act-2.place) (member_at w.stop-outcome.new.self) c.match-act-2.outcome w.stop-outcome.result (ap member_at w.place-is) w.outcome-is
+      (w.stop-outcome.ensures.plain (member_at w.stop-outcome.new.self).state.log)
+  | in-Restart-act w ↦
+      in_log (member_at c.match-act-2.place) c.in-Up.replica c.match-act-2.outcome (Err w.refusal.result) (ap member_at w.place-is) w.outcome-is tt
   | in-Show w ↦
-      in_log (member_at c.match-act.place) c.in-Up.replica c.match-act.outcome (Ok w.shown.result) (ap member_at w.place-is) w.outcome-is
+      in_log (member_at c.match-act-2.place) c.in-Up.replica c.match-act-2.outcome (Ok w.shown.result) (ap member_at w.place-is) w.outcome-is
       (w.shown.ensures.plain c.in-Up.replica.state.log)
   | in-Read w ↦
-      in_log (member_at c.match-act.place) c.in-Up.replica c.match-act.outcome w.map-outcome-in-Read.result (ap member_at w.place-is) w.outcome-is
+      in_log (member_at c.match-act-2.place) c.in-Up.replica c.match-act-2.outcome w.map-outcome-in-Read.result (ap member_at w.place-is) w.outcome-is
       (kept (List ModelLine) answers.Lines _ w.read_lines.result w.map-outcome-in-Read.result (λ x is. tt) w.map-outcome-in-Read.ensures.cases)
   | in-Committed w ↦
-      in_log (member_at c.match-act.place) c.in-Up.replica c.match-act.outcome w.map-outcome-in-Committed.result (ap member_at w.place-is) w.outcome-is
+      in_log (member_at c.match-act-2.place) c.in-Up.replica c.match-act-2.outcome w.map-outcome-in-Committed.result (ap member_at w.place-is) w.outcome-is
       (kept (List ModelLine) answers.Lines _ w.committed_lines.result w.map-outcome-in-Committed.result (λ x is. tt) w.map-outcome-in-Committed.ensures.cases)
 ]
 
--- an action that is asked for is none of a node by itself
-asked : (max : ℕ) (act : Act) (a : model.Act) → IsAct max act a → IsAsked a
-asked max Adopt a is = subst IsAsked (sym is) tt
-asked max (Produce bytes) a (offer, of, is) = subst IsAsked (sym is) tt
-asked max (Mark marker) a is = subst IsAsked (sym is) tt
-asked max Ask a is = subst IsAsked (sym is) tt
-asked max Raise a is = subst IsAsked (sym is) tt
-asked max Show a is = subst IsAsked (sym is) tt
-asked max (Read from) a is = subst IsAsked (sym is) tt
-asked max (Committed from) a is = subst IsAsked (sym is) tt
+-- what is refused while the node is down
+needs_up : (max : ℕ) (act : Act) (a : model.Act) → IsAct max act a → (act ≡ Restart → ⊥) → NeedsUp a
+needs_up max Adopt a is other = subst NeedsUp (sym is) tt
+needs_up max (Produce bytes) a (offer, of, is) other = subst NeedsUp (sym is) tt
+needs_up max (Mark marker) a is other = subst NeedsUp (sym is) tt
+needs_up max Ask a is other = subst NeedsUp (sym is) tt
+needs_up max Raise a is other = subst NeedsUp (sym is) tt
+needs_up max (Alter change) a is other = subst NeedsUp (sym is) (changed change)
+  where
+    changed : (change : IsrChange) → NeedsUp (change_act change)
+    changed (changes.Join m) = tt
+    changed (changes.Leave m) = tt
+needs_up max Checkpoint a is other = subst NeedsUp (sym is) tt
+needs_up max Stop a is other = subst NeedsUp (sym is) tt
+needs_up max Restart a is other = absurd (other refl)
+needs_up max Show a is other = subst NeedsUp (sym is) tt
+needs_up max (Read from) a is other = subst NeedsUp (sym is) tt
+needs_up max (Committed from) a is other = subst NeedsUp (sym is) tt
 
-pub returns-in-Down-clause-moves : goal.returns-in-Down-clause-moves
-returns-in-Down-clause-moves c = λ a is within.
+pub returns-in-Restart-clause-moves : goal.returns-in-Restart-clause-moves
+returns-in-Restart-clause-moves c = λ a is within.
+    let r = record_of c.args.controller.now in
+    let letters = map letter_in c.args.messages.now.items in
+    let new = member_at c.restart.new.self in
+    let same : a ≡ model.Restart = subst (λ (x : Act). IsAct (member_at c.args.place.now).limits.max_batch x a) c.in-Restart.is is in
+    subst (λ (p : Place). Moves r r letters (member_at p) new a c.restart.result letters) (sym c.in-Down.is)
+    (subst (λ (x : model.Act). Moves r r letters c.in-Down.kept new x c.restart.result letters) (sym same) (c.restart.ensures.moves r letters))
+
+pub returns-in-Restart-clause-receipt : goal.returns-in-Restart-clause-receipt
+returns-in-Restart-clause-receipt c = c.restart.ensures.plain (member_at c.restart.new.self).state.log
+
+pub returns-in_default-clause-moves : goal.returns-in_default-clause-moves
+returns-in_default-clause-moves c = λ a is within.
     let kept = c.in-Down.kept in
     let r = record_of c.args.controller.now in
     let letters = map letter_in c.args.messages.now.items in
-    subst (λ (p : Place). Moves r letters (member_at p) kept a (Err c.refusal.result) letters) (sym c.in-Down.is)
-    (refusing r letters letters kept kept a c.refusal.result
-    (refuses_down r kept a c.refusal.result c.refusal.ensures.down c.refusal.ensures.value (asked (member_at c.args.place.now).limits.max_batch c.args.act.now a is)) refl)
+    let refusal = c.refusal-refusal.result in
+    subst (λ (p : Place). Moves r r letters (member_at p) kept a (Err refusal) letters) (sym c.in-Down.is)
+    (refusing r letters letters kept kept a refusal
+    (refuses_down r kept a refusal c.refusal-refusal.ensures.down c.refusal-refusal.ensures.value
+    (needs_up (member_at c.args.place.now).limits.max_batch c.args.act.now a is c.in_default.not-Restart)) refl)

@@ -16,7 +16,7 @@ returns-in_err-letter-clause-moves c = λ r.
     let same : c.from_residual.result ≡ Err refusal = p.1 ∙ ap Err p.2 in
     let letters = map letter_in c.args.messages.now.items in
     let x = c.args.replica.now in
-    subst (λ (o : Result Answer Refusal). Moves r letters x x Ask o letters) (sym same) (refusing r letters letters x x Ask refusal (c.in_err-letter.ensures.refused r) refl)
+    subst (λ (o : Result Answer Refusal). Moves r r letters x x Ask o letters) (sym same) (refusing r letters letters x x Ask refusal (c.in_err-letter.ensures.refused r) refl)
 
 pub returns-clause-moves : goal.returns-clause-moves
 returns-clause-moves c = λ r.

@@ -7,13 +7,16 @@ use Rattle.kp_model.specs.Letter.{letter}
 use Rattle.kp_model.specs.World.{Message}
 use Rattle.kp_model.specs.Step.{IsGiven}
 use Rattle.kp_control.specs.Set.{record_of}
+use Rattle.kp_replica.specs.Altering.{change_act}
+use Rattle.kp_replica.specs.declared.altering.IsrChange.{IsrChange}
+use Rattle.kp_replica.specs.declared.altering.IsrChange.TheVariants as changes
 use Rattle.kp_replica.specs.Member.{Member}
 use Rattle.kp_world.specs.Events.{IsAct, IsAmong, IsEvent}
 use Rattle.kp_world.specs.Plays.{LeadOn}
 use Rattle.kp_world.specs.Shown.{Stage, member_at}
 use Rattle.kp_world.specs.declared.event.Act.{Act}
 use Rattle.kp_world.specs.declared.event.Event.{Event}
-use Rattle.kp_world.specs.declared.event.Act.TheVariants.{Adopt, Produce, Mark, Ask, Raise, Show, Read, Committed}
+use Rattle.kp_world.specs.declared.event.Act.TheVariants.{Adopt, Produce, Mark, Ask, Raise, Alter, Checkpoint, Stop, Restart, Show, Read, Committed}
 use Rattle.kp_world.proofs.Moved.{acted}
 use Rattle.kp_world.proofs.world.World.step.Goals as goal
 
@@ -24,6 +27,14 @@ given max (Produce bytes) a messages (offer, of, is) = subst (IsGiven messages) 
 given max (Mark marker) a messages is = subst (IsGiven messages) (sym is) tt
 given max Ask a messages is = subst (IsGiven messages) (sym is) tt
 given max Raise a messages is = subst (IsGiven messages) (sym is) tt
+given max (Alter change) a messages is = subst (IsGiven messages) (sym is) (changed change)
+  where
+    changed : (change : IsrChange) → IsGiven messages (change_act change)
+    changed (changes.Join m) = tt
+    changed (changes.Leave m) = tt
+given max Checkpoint a messages is = subst (IsGiven messages) (sym is) tt
+given max Stop a messages is = subst (IsGiven messages) (sym is) tt
+given max Restart a messages is = subst (IsGiven messages) (sym is) tt
 given max Show a messages is = subst (IsGiven messages) (sym is) tt
 given max (Read from) a messages is = subst (IsGiven messages) (sym is) tt
 given max (Committed from) a messages is = subst (IsGiven messages) (sym is) tt
@@ -54,15 +65,16 @@ returns-in-Acts-clause-step c =
     let within : i < length places = omega (arith, counted, below, c.from.ensures, length-map places member_at) in
     let there : member_at p ≡ get_or members i (member_at p) = ap member_at c.index_mut-place.ensures.value ∙ sym (get_or-map member_at places i p (member_at p) within) in
     with_both c.act.result _ _ _ (λ outcome moves receipt limits e event.
-    let made = subst (λ (d : Event). IsEvent limits.max_batch d e) c.in-Acts.is event in
-    let new : Stage = record { controller = record_of inside.controller; members = map member_at (set places i q); letters = after } in
-    subst (λ (d : model.Event). LeadOn limits c.args.self.now (d ∷ []) (outcome ∷ []) new) (sym made.2)
-    (subst (λ (stage : Stage). LeadOn limits stage (model.Acts node made.0 ∷ []) (outcome ∷ []) new) c.self.view_is
-    (subst (λ (ms : List Member). LeadOn limits old (model.Acts node made.0 ∷ []) (outcome ∷ []) (record { controller = record_of inside.controller; members = ms; letters = after }))
+    let told = subst (λ (d : Event). IsEvent limits.max_batch d e) c.in-Acts.is event in
+    let made = record_of c.act.new.controller in
+    let new : Stage = record { controller = made; members = map member_at (set places i q); letters = after } in
+    subst (λ (d : model.Event). LeadOn limits c.args.self.now (d ∷ []) (outcome ∷ []) new) (sym told.2)
+    (subst (λ (stage : Stage). LeadOn limits stage (model.Acts node told.0 ∷ []) (outcome ∷ []) new) c.self.view_is
+    (subst (λ (ms : List Member). LeadOn limits old (model.Acts node told.0 ∷ []) (outcome ∷ []) (record { controller = made; members = ms; letters = after }))
     (sym (map-set member_at places i q))
-    (acted c.epochs_are_elected.ensures limits node i old (member_at p) (member_at q) made.0 outcome after c.from.ensures (omega (arith, within, c.from.ensures, length-map places member_at)) there
-    (λ w. given limits.max_batch what made.0 w.messages made.1)
-    (λ same. moves made.0 (subst (λ (l : Limits). IsAct l.max_batch what made.0) (sym same) made.1)) receipt))))
+    (acted c.epochs_are_elected.ensures limits node i old (member_at p) (member_at q) told.0 outcome made after c.from.ensures (omega (arith, within, c.from.ensures, length-map places member_at)) there
+    (λ w. given limits.max_batch what told.0 w.messages told.1)
+    (λ same. moves told.0 (subst (λ (l : Limits). IsAct l.max_batch what told.0) (sym same) told.1)) receipt))))
     c.act.ensures.moves c.act.ensures.receipt
 
 pub returns-in-Deliver-clause-step : goal.returns-in-Deliver-clause-step
