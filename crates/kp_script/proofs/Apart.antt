@@ -4,7 +4,7 @@ use Rattle.std.specs.Prelude.{IsTrue}
 use Rattle.std.specs.List.{list_all}
 use Rattle.std.specs.Fmt.{decimal}
 use Rattle.std.proofs.lemmas.Fmt.{decimal_injective}
-use Rattle.kp_script.specs.Call.{Call, Sender, Elect, Adopt, Append, Raw, Mark, Ask, Deliver, Raise, Show, Read, Committed, IsSender, IsCallInRange, HasOneCall, is_value, verb_text, fields_text, kind_text, values_text, pieces}
+use Rattle.kp_script.specs.Call.{Call, Sender, Elect, Adopt, Append, Raw, Mark, Ask, Deliver, Raise, Join, Leave, Checkpoint, Stop, Restart, Show, Read, Committed, IsSender, IsCallInRange, HasOneCall, is_value, verb_text, fields_text, kind_text, values_text, pieces}
 use Rattle.kp_script.specs.Hex.{hex_text, bytes_of}
 use Rattle.kp_script.specs.Read.{sender_front}
 use Rattle.kp_script.proofs.HexLaws.{bytes_back}
@@ -42,9 +42,9 @@ same_raw m n bs cs p q = ap (λ (k : ℕ). Raw k bs) p ∙ ap (λ (l : List ℕ)
 same_node : (count m n : ℕ) → count < 2 ^ 64 → m < count → n < count → decimal m ≡ decimal n → m ≡ n
 same_node count m n fits p q e = decimal_injective m n (omega arith) (omega arith) e
 
--- the node and the offset that end a line
-same_place : (count m n f g : ℕ) → count < 2 ^ 64 → (m < count) × (f < 2 ^ 62) → (n < count) × (g < 2 ^ 62) → decimal m ++ 32 ∷ decimal f ≡ decimal n ++ 32 ∷ decimal g → (m ≡ n) × (f ≡ g)
-same_place count m n f g fits p q e =
+-- the node that ends a line with a number below the limit behind it
+same_place : (count limit m n f g : ℕ) → count < 2 ^ 64 → limit < 2 ^ 64 → (m < count) × (f < limit) → (n < count) × (g < limit) → decimal m ++ 32 ∷ decimal f ≡ decimal n ++ 32 ∷ decimal g → (m ≡ n) × (f ≡ g)
+same_place count limit m n f g fits small p q e =
     let first = same_field [] (decimal m ++ 32 ∷ decimal f) m n (decimal f) (decimal g) (omega (arith, p.0)) (omega (arith, q.0)) refl e in
     (first.0, decimal_injective f g (omega (arith, p.1)) (omega (arith, q.1)) first.1)
 
@@ -67,12 +67,21 @@ apart count fits (Mark m t v w c x) p = λ n u producer epoch coordinator y q e.
 apart count fits (Ask m) p = λ n q e. ap Ask (same_node count m n fits p q e)
 apart count fits (Deliver m) p = λ n q e. ap Deliver (decimal_injective m n (omega arith) (omega arith) e)
 apart count fits (Raise m) p = λ n q e. ap Raise (same_node count m n fits p q e)
+apart count fits (Join m f) p = λ n g q e.
+    let same = same_place count count m n f g fits fits p q e in
+    ap (λ (k : ℕ). Join k f) same.0 ∙ ap (λ (k : ℕ). Join n k) same.1
+apart count fits (Leave m f) p = λ n g q e.
+    let same = same_place count count m n f g fits fits p q e in
+    ap (λ (k : ℕ). Leave k f) same.0 ∙ ap (λ (k : ℕ). Leave n k) same.1
+apart count fits (Checkpoint m) p = λ n q e. ap Checkpoint (same_node count m n fits p q e)
+apart count fits (Stop m) p = λ n q e. ap Stop (same_node count m n fits p q e)
+apart count fits (Restart m) p = λ n q e. ap Restart (same_node count m n fits p q e)
 apart count fits (Show m) p = λ n q e. ap Show (same_node count m n fits p q e)
 apart count fits (Read m f) p = λ n g q e.
-    let same = same_place count m n f g fits p q e in
+    let same = same_place count (2 ^ 62) m n f g fits (omega arith) p q e in
     ap (λ (k : ℕ). Read k f) same.0 ∙ ap (λ (k : ℕ). Read n k) same.1
 apart count fits (Committed m f) p = λ n g q e.
-    let same = same_place count m n f g fits p q e in
+    let same = same_place count (2 ^ 62) m n f g fits (omega arith) p q e in
     ap (λ (k : ℕ). Committed k f) same.0 ∙ ap (λ (k : ℕ). Committed n k) same.1
 
 -- Two calls in range with one text are one call.

@@ -12,7 +12,7 @@ use Rattle.kp_types.proofs.Fronts.{front_behind}
 use Rattle.kp_types.specs.declared.limits.Limits.{Limits}
 use Rattle.kp_types.specs.declared.refusal.Refusal.{Refusal}
 use Rattle.kp_types.specs.declared.refusal.Refusal.TheVariants as refusals
-use Rattle.kp_model.specs.Event.{Event, Outcome, Acts, Elect as ElectNode, Adopt as AdoptRecord, Produce, Mark as HandMarker, Ask as AskLeader, Deliver as DeliverMessage, Raise as RaiseMark, Show as ShowState, Read as ReadFrom, Committed as ReadCommitted}
+use Rattle.kp_model.specs.Event.{Event, Outcome, Acts, Elect as ElectNode, Adopt as AdoptRecord, Produce, Mark as HandMarker, Ask as AskLeader, Deliver as DeliverMessage, Raise as RaiseMark, Join as AddInSync, Leave as RemoveInSync, Checkpoint as NoteMark, Stop as StopNode, Restart as RestartNode, Show as ShowState, Read as ReadFrom, Committed as ReadCommitted}
 use Rattle.kp_model.specs.Laws.{NoDeliveryIsRefusedOddly, RunsAreSafe}
 use Rattle.kp_model.specs.Run.{Moment, Run}
 use Rattle.kp_model.specs.World.{start}
@@ -25,7 +25,7 @@ use Rattle.kp_world.specs.Plays.{IsReached, LeadOn, events_of, outcomes_of}
 use Rattle.kp_world.specs.Shown.{IsShown, Stage}
 use Rattle.kp_world.specs.declared.event.Answer.{Answer}
 use Rattle.kp_world.proofs.Playing.{answered, nothing_answered, reached_none}
-use Rattle.kp_script.specs.Call.{Call, IsCall, IsCallInRange, node_of, Elect, Adopt, Append, Raw, Mark, Ask, Deliver, Raise, Show, Read, Committed}
+use Rattle.kp_script.specs.Call.{Call, IsCall, IsCallInRange, node_of, Elect, Adopt, Append, Raw, Mark, Ask, Deliver, Raise, Join, Leave, Checkpoint, Stop, Restart, Show, Read, Committed}
 use Rattle.kp_script.specs.Playing.{BeginFrom, LeadTo, PlayTo}
 use Rattle.kp_script.specs.Told.{IsTold, AreTold, TellsAll, offer_of}
 use Rattle.kp_script.specs.Trace.{trace_text}
@@ -240,6 +240,11 @@ told_of offers count (Mark node time producer epoch coordinator commit) h =
 told_of offers count (Ask node) h = (Acts node AskLeader, (refl, (h, tt)))
 told_of offers count (Deliver number) h = (DeliverMessage number, (refl, tt))
 told_of offers count (Raise node) h = (Acts node RaiseMark, (refl, (h, tt)))
+told_of offers count (Join node member) h = (Acts node (AddInSync member), (refl, (h.0, tt)))
+told_of offers count (Leave node member) h = (Acts node (RemoveInSync member), (refl, (h.0, tt)))
+told_of offers count (Checkpoint node) h = (Acts node NoteMark, (refl, (h, tt)))
+told_of offers count (Stop node) h = (Acts node StopNode, (refl, (h, tt)))
+told_of offers count (Restart node) h = (Acts node RestartNode, (refl, (h, tt)))
 told_of offers count (Show node) h = (Acts node ShowState, (refl, (h, tt)))
 told_of offers count (Read node from) h = (Acts node (ReadFrom from), (refl, (h.0, tt)))
 told_of offers count (Committed node from) h = (Acts node (ReadCommitted from), (refl, (h.0, tt)))

@@ -4,7 +4,7 @@ use Rattle.std.specs.Prelude.{bytes_eq, IfNone, IfSome, None, Option, Some}
 use Rattle.std.specs.Fmt.{decimal}
 use Rattle.std.specs.List.{list_all}
 use Rattle.std.proofs.lemmas.Bool.{and_parts, eqb-false, not-true}
-use Rattle.kp_script.specs.Call.{Call, Sender, Elect, Adopt, Append, Raw, Mark, Ask, Deliver, Raise, Show, Read, Committed, IsCallInRange, SpellsNoCall, verb_text, fields_text}
+use Rattle.kp_script.specs.Call.{Call, Sender, Elect, Adopt, Append, Raw, Mark, Ask, Deliver, Raise, Join, Leave, Checkpoint, Stop, Restart, Show, Read, Committed, IsCallInRange, SpellsNoCall, verb_text, fields_text}
 use Rattle.kp_script.specs.Read.{Lacks, AreFields, AreNoFields, IsNoNodeVerb}
 use Rattle.kp_script.specs.Seen.{seen_call}
 use Rattle.kp_script.specs.declared.call.Call.{Call as ParsedCall}
@@ -27,6 +27,11 @@ Each P verb =
     when bytes_eq verb (codes "ask") then ((node : ℕ) → P (Ask node)) else
     when bytes_eq verb (codes "deliver") then ((number : ℕ) → P (Deliver number)) else
     when bytes_eq verb (codes "raise") then ((node : ℕ) → P (Raise node)) else
+    when bytes_eq verb (codes "join") then ((node member : ℕ) → P (Join node member)) else
+    when bytes_eq verb (codes "leave") then ((node member : ℕ) → P (Leave node member)) else
+    when bytes_eq verb (codes "checkpoint") then ((node : ℕ) → P (Checkpoint node)) else
+    when bytes_eq verb (codes "stop") then ((node : ℕ) → P (Stop node)) else
+    when bytes_eq verb (codes "restart") then ((node : ℕ) → P (Restart node)) else
     when bytes_eq verb (codes "show") then ((node : ℕ) → P (Show node)) else
     when bytes_eq verb (codes "read") then ((node from : ℕ) → P (Read node from)) else
     when bytes_eq verb (codes "committed") then ((node from : ℕ) → P (Committed node from)) else
@@ -41,6 +46,11 @@ each P (Mark node time producer epoch coordinator commit) h = h node time produc
 each P (Ask node) h = h node
 each P (Deliver number) h = h number
 each P (Raise node) h = h node
+each P (Join node member) h = h node member
+each P (Leave node member) h = h node member
+each P (Checkpoint node) h = h node
+each P (Stop node) h = h node
+each P (Restart node) h = h node
 each P (Show node) h = h node
 each P (Read node from) h = h node from
 each P (Committed node from) h = h node from
@@ -80,6 +90,8 @@ pub record IsNoLongVerb (text : List ℕ) : Type 0 where
   pub append : text ≢ codes "append"
   pub raw : text ≢ codes "raw"
   pub mark : text ≢ codes "mark"
+  pub join : text ≢ codes "join"
+  pub leave : text ≢ codes "leave"
   pub deliver : text ≢ codes "deliver"
   pub read : text ≢ codes "read"
   pub committed : text ≢ codes "committed"
@@ -99,6 +111,11 @@ names_node count text none (Mark node time producer epoch coordinator commit) ra
 names_node count text none (Ask node) range v = record { node = node; within = range; fields = refl }
 names_node count text none (Deliver number) range v = absurd (none.deliver v)
 names_node count text none (Raise node) range v = record { node = node; within = range; fields = refl }
+names_node count text none (Join node member) range v = absurd (none.join v)
+names_node count text none (Leave node member) range v = absurd (none.leave v)
+names_node count text none (Checkpoint node) range v = record { node = node; within = range; fields = refl }
+names_node count text none (Stop node) range v = record { node = node; within = range; fields = refl }
+names_node count text none (Restart node) range v = record { node = node; within = range; fields = refl }
 names_node count text none (Show node) range v = record { node = node; within = range; fields = refl }
 names_node count text none (Read node from) range v = absurd (none.read v)
 names_node count text none (Committed node from) range v = absurd (none.committed v)
@@ -113,6 +130,11 @@ no_verb text none other (Mark node time producer epoch coordinator commit) = non
 no_verb text none other (Ask node) = other.ask
 no_verb text none other (Deliver number) = none.deliver
 no_verb text none other (Raise node) = other.raise
+no_verb text none other (Join node member) = none.join
+no_verb text none other (Leave node member) = none.leave
+no_verb text none other (Checkpoint node) = other.checkpoint
+no_verb text none other (Stop node) = other.stop
+no_verb text none other (Restart node) = other.restart
 no_verb text none other (Show node) = other.show
 no_verb text none other (Read node from) = none.read
 no_verb text none other (Committed node from) = none.committed

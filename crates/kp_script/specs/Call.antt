@@ -21,6 +21,11 @@ pub data Call : Type 0 where
   Ask : (node : ℕ) → Call
   Deliver : (number : ℕ) → Call
   Raise : (node : ℕ) → Call
+  Join : (node member : ℕ) → Call
+  Leave : (node member : ℕ) → Call
+  Checkpoint : (node : ℕ) → Call
+  Stop : (node : ℕ) → Call
+  Restart : (node : ℕ) → Call
   Show : (node : ℕ) → Call
   Read : (node from : ℕ) → Call
   Committed : (node from : ℕ) → Call
@@ -35,6 +40,11 @@ node_of (Mark node time producer epoch coordinator commit) = node
 node_of (Ask node) = node
 node_of (Deliver number) = 0
 node_of (Raise node) = node
+node_of (Join node member) = node
+node_of (Leave node member) = node
+node_of (Checkpoint node) = node
+node_of (Stop node) = node
+node_of (Restart node) = node
 node_of (Show node) = node
 node_of (Read node from) = node
 node_of (Committed node from) = node
@@ -90,6 +100,11 @@ words_of (Mark node time producer epoch coordinator commit) =
 words_of (Ask node) = (codes "ask", decimal node ∷ [])
 words_of (Deliver number) = (codes "deliver", decimal number ∷ [])
 words_of (Raise node) = (codes "raise", decimal node ∷ [])
+words_of (Join node member) = (codes "join", decimal node ∷ decimal member ∷ [])
+words_of (Leave node member) = (codes "leave", decimal node ∷ decimal member ∷ [])
+words_of (Checkpoint node) = (codes "checkpoint", decimal node ∷ [])
+words_of (Stop node) = (codes "stop", decimal node ∷ [])
+words_of (Restart node) = (codes "restart", decimal node ∷ [])
 words_of (Show node) = (codes "show", decimal node ∷ [])
 words_of (Read node from) = (codes "read", decimal node ∷ decimal from ∷ [])
 words_of (Committed node from) = (codes "committed", decimal node ∷ decimal from ∷ [])
@@ -139,6 +154,11 @@ IsCallInRange count (Mark node time producer epoch coordinator commit) =
 IsCallInRange count (Ask node) = node < count
 IsCallInRange count (Deliver number) = number < 2 ^ 31
 IsCallInRange count (Raise node) = node < count
+IsCallInRange count (Join node member) = (node < count) × (member < count)
+IsCallInRange count (Leave node member) = (node < count) × (member < count)
+IsCallInRange count (Checkpoint node) = node < count
+IsCallInRange count (Stop node) = node < count
+IsCallInRange count (Restart node) = node < count
 IsCallInRange count (Show node) = node < count
 IsCallInRange count (Read node from) = (node < count) × (from < 2 ^ 62)
 IsCallInRange count (Committed node from) = (node < count) × (from < 2 ^ 62)

@@ -43,4 +43,7 @@ pub record IsNoNodeVerb (verb : List ℕ) : Type 0 where
   pub adopt : verb ≢ codes "adopt"
   pub ask : verb ≢ codes "ask"
   pub raise : verb ≢ codes "raise"
+  pub checkpoint : verb ≢ codes "checkpoint"
+  pub stop : verb ≢ codes "stop"
+  pub restart : verb ≢ codes "restart"
   pub show : verb ≢ codes "show"

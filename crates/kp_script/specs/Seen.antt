@@ -1,6 +1,6 @@
 -- What the parser's values say, apart from where they lie in memory.
 use Rattle.std.specs.Prelude.{ℕ, map}
-use Rattle.kp_script.specs.Call.{Call, Header, Sender, Elect, Adopt, Append, Raw, Mark, Ask, Deliver, Raise, Show, Read, Committed, pieces}
+use Rattle.kp_script.specs.Call.{Call, Header, Sender, Elect, Adopt, Append, Raw, Mark, Ask, Deliver, Raise, Join, Leave, Checkpoint, Stop, Restart, Show, Read, Committed, pieces}
 use Rattle.kp_marker.specs.Marker.{commits}
 use Rattle.kp_script.specs.Hex.{bytes_of}
 use Rattle.kp_script.specs.declared.call.Call.{Call as ParsedCall}
@@ -27,6 +27,11 @@ seen_call (parsed.Mark node marker) =
 seen_call (parsed.Ask node) = Ask node
 seen_call (parsed.Deliver number) = Deliver number
 seen_call (parsed.Raise node) = Raise node
+seen_call (parsed.Join node member) = Join node member
+seen_call (parsed.Leave node member) = Leave node member
+seen_call (parsed.Checkpoint node) = Checkpoint node
+seen_call (parsed.Stop node) = Stop node
+seen_call (parsed.Restart node) = Restart node
 seen_call (parsed.Show node) = Show node
 seen_call (parsed.Read node from) = Read node from
 seen_call (parsed.Committed node from) = Committed node from

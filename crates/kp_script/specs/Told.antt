@@ -5,11 +5,11 @@ use Rattle.kp_types.specs.declared.refusal.Refusal.{Refusal}
 use Rattle.kp_types.specs.declared.refusal.Refusal.TheVariants.{TooLarge, BadProducerFields}
 use Rattle.kp_record.specs.Record.{Record, records_spelling}
 use Rattle.kp_batch.specs.Batch.{Content, Plain, Produced, Body}
-use Rattle.kp_model.specs.Event.{Event, Elect as ElectNode, Acts, Deliver as DeliverMessage, Adopt as AdoptRecord, Produce, Mark as HandMarker, Ask as AskLeader, Raise as RaiseMark, Show as ShowState, Read as ReadFrom, Committed as ReadCommitted}
+use Rattle.kp_model.specs.Event.{Event, Elect as ElectNode, Acts, Deliver as DeliverMessage, Adopt as AdoptRecord, Produce, Mark as HandMarker, Ask as AskLeader, Raise as RaiseMark, Join as AddInSync, Leave as RemoveInSync, Checkpoint as NoteMark, Stop as StopNode, Restart as RestartNode, Show as ShowState, Read as ReadFrom, Committed as ReadCommitted}
 use Rattle.kp_replica.specs.Replies.{IsOffer}
 use Rattle.kp_world.specs.Events.{IsEvent, AreEvents}
 use Rattle.kp_world.specs.declared.event.Event.{Event as CodeEvent}
-use Rattle.kp_script.specs.Call.{Call, Sender, Elect, Adopt, Append, Raw, Mark, Ask, Deliver, Raise, Show, Read, Committed}
+use Rattle.kp_script.specs.Call.{Call, Sender, Elect, Adopt, Append, Raw, Mark, Ask, Deliver, Raise, Join, Leave, Checkpoint, Stop, Restart, Show, Read, Committed}
 
 -- a record that has a value alone
 abbrev pub plain_record : (time : ℕ) → List ℕ → Record
@@ -51,6 +51,11 @@ IsTold max (Mark node time producer epoch coordinator commit) e =
 IsTold max (Ask node) e = e ≡ Acts node AskLeader
 IsTold max (Deliver number) e = e ≡ DeliverMessage number
 IsTold max (Raise node) e = e ≡ Acts node RaiseMark
+IsTold max (Join node member) e = e ≡ Acts node (AddInSync member)
+IsTold max (Leave node member) e = e ≡ Acts node (RemoveInSync member)
+IsTold max (Checkpoint node) e = e ≡ Acts node NoteMark
+IsTold max (Stop node) e = e ≡ Acts node StopNode
+IsTold max (Restart node) e = e ≡ Acts node RestartNode
 IsTold max (Show node) e = e ≡ Acts node ShowState
 IsTold max (Read node from) e = e ≡ Acts node (ReadFrom from)
 IsTold max (Committed node from) e = e ≡ Acts node (ReadCommitted from)

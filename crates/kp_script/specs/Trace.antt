@@ -54,6 +54,10 @@ number_text None = codes "none"
 abbrev pub sent_text : (number : Option ℕ) → List (List ℕ) → List ℕ
 sent_text number words = spaced (codes "sent" ∷ number_text number ∷ words)
 
+-- a node's life, its log's end and its high watermark
+abbrev pub life_text : (life end watermark : ℕ) → List ℕ
+life_text life end watermark = spaced (codes "life" ∷ decimal life ∷ codes "end" ∷ decimal end ∷ codes "mark" ∷ decimal watermark ∷ [])
+
 -- the reply of an event that names this node and sent the message of this number
 abbrev pub reply_text : (node : ℕ) → (number : Option ℕ) → Reply → List ℕ
 reply_text node number (Refused refusal) = refusal_text refusal
@@ -75,8 +79,7 @@ reply_text node number (Cut end done) = spaced (codes "cut" ∷ decimal end ∷ 
 reply_text node number (MarkAt watermark) = spaced (codes "mark" ∷ decimal watermark ∷ [])
 reply_text node number (CheckpointAt watermark) = spaced (codes "checkpoint" ∷ decimal watermark ∷ [])
 reply_text node number Stopped = codes "stopped"
-reply_text node number (Restarted life end watermark) =
-    spaced (codes "life" ∷ decimal life ∷ codes "end" ∷ decimal end ∷ codes "mark" ∷ decimal watermark ∷ [])
+reply_text node number (Restarted life end watermark) = life_text life end watermark
 reply_text node number (Shown life end watermark stable) =
     spaced (codes "node" ∷ decimal node ∷ codes "life" ∷ decimal life ∷ codes "end" ∷ decimal end
     ∷ codes "mark" ∷ decimal watermark ∷ codes "stable" ∷ decimal stable ∷ [])

@@ -6,7 +6,7 @@ ghost use Rattle.kp_script.specs.Call.{IsHeaderText, IsCallText, SpellsNoHeader,
 ghost use Rattle.kp_script.specs.Read.{AreFields, AreNoFields, IsNoNodeVerb};
 ghost use Rattle.kp_script.specs.Seen.{seen_header, seen_call};
 
-use crate::fields::{append_of, mark_of, node_and_offset_of, node_of, raw_of};
+use crate::fields::{append_of, mark_of, node_and_offset_of, node_of, raw_of, two_nodes_of};
 use crate::lines::LONGEST_LINE;
 use crate::words::{field_then, last_field, number_below, split_first_at};
 use kp_marker::Marker;
@@ -85,6 +85,28 @@ pub enum Call<'a> {
     Raise {
         node: NodeId,
     },
+    /// The node, which leads, adds the other node to the in-sync replicas.
+    Join {
+        node: NodeId,
+        member: NodeId,
+    },
+    /// The node, which leads, takes the other node away from the in-sync replicas.
+    Leave {
+        node: NodeId,
+        member: NodeId,
+    },
+    /// The node notes its high watermark, to start from there when it is restarted.
+    Checkpoint {
+        node: NodeId,
+    },
+    /// The node stops, and keeps its log.
+    Stop {
+        node: NodeId,
+    },
+    /// The node starts again, in its next life.
+    Restart {
+        node: NodeId,
+    },
     /// The node's state is shown.
     Show {
         node: NodeId,
@@ -119,6 +141,11 @@ impl Call<'_> {
             | Call::Mark { node, .. }
             | Call::Ask { node }
             | Call::Raise { node }
+            | Call::Join { node, .. }
+            | Call::Leave { node, .. }
+            | Call::Checkpoint { node }
+            | Call::Stop { node }
+            | Call::Restart { node }
             | Call::Show { node }
             | Call::Read { node, .. }
             | Call::Committed { node, .. } => *node,
@@ -166,6 +193,9 @@ fn node_call<'a>(verb: &[u8], node: NodeId) -> Option<Call<'a>>
         b"adopt" => Some(Call::Adopt { node }),
         b"ask" => Some(Call::Ask { node }),
         b"raise" => Some(Call::Raise { node }),
+        b"checkpoint" => Some(Call::Checkpoint { node }),
+        b"stop" => Some(Call::Stop { node }),
+        b"restart" => Some(Call::Restart { node }),
         b"show" => Some(Call::Show { node }),
         _ => None,
     }
@@ -181,6 +211,8 @@ fn call_with<'a>(verb: &[u8], fields: &'a [u8], count: NodeId) -> Option<Call<'a
         b"append" => append_of(fields, count),
         b"raw" => raw_of(fields, count),
         b"mark" => mark_of(fields, count),
+        b"join" => two_nodes_of(fields, count).map(|(node, member)| Call::Join { node, member }),
+        b"leave" => two_nodes_of(fields, count).map(|(node, member)| Call::Leave { node, member }),
         b"read" => node_and_offset_of(fields, count).map(|(node, from)| Call::Read { node, from }),
         b"committed" => node_and_offset_of(fields, count).map(|(node, from)| Call::Committed {
             node,

@@ -16,6 +16,7 @@ use crate::script::Line;
 use crate::words::split_first_at;
 use bytes::Bytes;
 use kp_batch::{Fields, Handed, Parts, Speller};
+use kp_replica::IsrChange;
 use kp_types::{NodeId, Refusal};
 use kp_world::{Act, Event};
 use std::alloc::{AllocError, Global};
@@ -64,8 +65,9 @@ fn append_event<'a>(
     requires early { time < 2 ^ 62 }
     requires sender { IsSender (seen_sender sender) }
     requires short { length values.now ≤ 2100000 }
-    ensures told { IfOk result
-        (λ event. (max : ℕ) → Tells max (Append node time (seen_sender sender) transactional (pieces values.now)) event) }
+    ensures told { IfOk result (λ event. (max : ℕ)
+        → Tells max (Append node time (seen_sender sender) transactional (pieces values.now))
+        event) }
     ensures node { IfOk result (λ event. (count : ℕ) → node < count → IsAmong count event) }
     ensures marker { IfOk result HasMarker }
     ensures only { IfErr result (λ refusal. refusal ≡ Memory) }
@@ -135,6 +137,17 @@ fn event_of<'a>(
         Call::Mark { node, marker } => (node, Act::Mark { marker }),
         Call::Ask { node } => (node, Act::Ask),
         Call::Raise { node } => (node, Act::Raise),
+        Call::Join { node, member } => {
+            let change = IsrChange::Join(member);
+            (node, Act::Alter { change })
+        }
+        Call::Leave { node, member } => {
+            let change = IsrChange::Leave(member);
+            (node, Act::Alter { change })
+        }
+        Call::Checkpoint { node } => (node, Act::Checkpoint),
+        Call::Stop { node } => (node, Act::Stop),
+        Call::Restart { node } => (node, Act::Restart),
         Call::Show { node } => (node, Act::Show),
         Call::Read { node, from } => (node, Act::Read { from }),
         Call::Committed { node, from } => (node, Act::Committed { from }),

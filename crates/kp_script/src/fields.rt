@@ -70,6 +70,25 @@ pub fn node_and_offset_of(fields: &[u8], count: NodeId) -> Option<(NodeId, Offse
     }
 }
 
+/// The two nodes that the whole of these bytes name, with a space between them.
+#[inline(always)]
+pub fn two_nodes_of(fields: &[u8], count: NodeId) -> Option<(NodeId, NodeId)>
+    ensures found { IfSome result
+        (λ (node, member). (fields.now ≡ decimal node ++ 32 ∷ decimal member) × (node < count)
+        × (member < count)) }
+    ensures none { IfNone result
+        ((node member : ℕ) → node < count → member < count
+        → fields.now ≢ decimal node ++ 32 ∷ decimal member) }
+{
+    let Some((node, rest)) = node_then(fields, count) else {
+        return None;
+    };
+    match node_of(rest, count) {
+        Some(member) => Some((node, member)),
+        None => None,
+    }
+}
+
 /// Whether each piece between the commas can be the value of a record. Takes time proportional to the bytes.
 fn are_values(values: &[u8]) -> bool
     ensures { result ≡ list_all is_value (pieces values.now) }

@@ -36,7 +36,11 @@ struct Lists {
 
 /// The limits of the log that the header asks for.
 fn limits_of(header: &Header) -> Limits
-    ensures { result.max_batch ≡ largest_batch }
+    ensures { result ≡ record {
+      segment_bytes = header.now.segment;
+      index_interval = header.now.interval;
+      max_batch = largest_batch;
+    } }
 {
     Limits {
         segment_bytes: header.segment,

@@ -9,13 +9,13 @@ ghost use Rattle.kp_world.specs.Answers.{answer_reply, number_in, outcome_of, sa
 ghost use Rattle.kp_world.specs.Records.{line_of};
 ghost use Rattle.kp_script.specs.Call.{node_of};
 ghost use Rattle.kp_script.specs.Seen.{seen_call};
-ghost use Rattle.kp_script.specs.Trace.{leader_text, line_text, lines_text, nodes_text, record_text, reply_text, outcome_text, trace_text};
+ghost use Rattle.kp_script.specs.Trace.{leader_text, life_text, line_text, lines_text, nodes_text, record_text, reply_text, outcome_text, trace_text};
 
 use crate::script::Line;
 use crate::text::{push_hex, push_named, push_number};
 use kp_control::{Leader, LeaderAndIsr, NodeSet};
 use kp_replica::{CutBack, Receipt, Role};
-use kp_types::{NodeId, Refusal};
+use kp_types::{NodeId, Offset, Refusal};
 use kp_world::{Answer, ReadRecord, ReadRecords, Said};
 use std::alloc::AllocError;
 
@@ -161,6 +161,20 @@ fn push_cut(text: &mut Vec<u8>, node: NodeId, cut: &CutBack) -> Result<(), Alloc
     }
 }
 
+/// Appends a node's life, its log's end and its high watermark.
+fn push_life(
+    text: &mut Vec<u8>,
+    life: u64,
+    end: Offset,
+    watermark: Offset,
+) -> Result<(), AllocError>
+    ensures { OnOk result (text.new.items ≡ text.old.items ++ life_text life end watermark) }
+{
+    push_named(text, b"life ", life)?;
+    push_named(text, b" end ", end)?;
+    push_named(text, b" mark ", watermark)
+}
+
 /// Appends what an event that names this node answers.
 fn push_answer(text: &mut Vec<u8>, node: NodeId, answer: &Answer) -> Result<(), AllocError>
     ensures { OnOk result
@@ -178,6 +192,13 @@ fn push_answer(text: &mut Vec<u8>, node: NodeId, answer: &Answer) -> Result<(), 
         }
         Answer::Cut(cut) => push_cut(text, node, cut),
         Answer::Watermark(watermark) => push_named(text, b"mark ", *watermark),
+        Answer::Checkpoint(watermark) => push_named(text, b"checkpoint ", *watermark),
+        Answer::Stopped => text.extend_from_slice(b"stopped"),
+        Answer::Restarted {
+            life,
+            end,
+            watermark,
+        } => push_life(text, *life, *end, *watermark),
         Answer::Shown {
             life,
             end,
@@ -185,9 +206,8 @@ fn push_answer(text: &mut Vec<u8>, node: NodeId, answer: &Answer) -> Result<(), 
             stable,
         } => {
             push_named(text, b"node ", u64::from(node))?;
-            push_named(text, b" life ", *life)?;
-            push_named(text, b" end ", *end)?;
-            push_named(text, b" mark ", *watermark)?;
+            text.push(b' ')?;
+            push_life(text, *life, *end, *watermark)?;
             push_named(text, b" stable ", *stable)
         }
         Answer::Lines(lines) => push_lines(text, lines),
@@ -230,7 +250,8 @@ pub fn push_trace(
 ) -> Result<(), AllocError>
     requires { length outcomes.now ≡ length lines.now }
     ensures { OnOk result (text.new.items ≡ text.old.items ++ trace_text
-        (map (λ l. (l.number, node_of (seen_call l.call))) lines.now) (map outcome_of outcomes.now)) }
+        (map (λ l. (l.number, node_of (seen_call l.call))) lines.now)
+        (map outcome_of outcomes.now)) }
 {
     for (line, outcome) in lines.iter().zip(outcomes) {
         push_number(text, line.number)?;

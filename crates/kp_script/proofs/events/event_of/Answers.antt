@@ -5,13 +5,14 @@ use Rattle.kp_script.specs.declared.call.Call.{Call as ParsedCall}
 use Rattle.kp_script.proofs.Spelling.{values_short}
 use Rattle.kp_model.specs.Event as model
 use Rattle.kp_replica.specs.Replies.{mark_of}
+use Rattle.kp_replica.specs.declared.altering.IsrChange.TheVariants as changes
 use Rattle.kp_world.specs.declared.event.Act.{Act}
 use Rattle.kp_world.specs.declared.event.Act.TheVariants as acts
 use Rattle.kp_world.specs.declared.event.Event.TheVariants.{Acts}
 use Rattle.kp_script.specs.Told.{Tells}
 use Rattle.kp_script.specs.declared.call.Call.TheVariants as parsed
 use Rattle.kp_script.proofs.events.event_of.Goals as goal
-use Rattle.kp_script.proofs.events.event_of.Goals.{in-Adopt, in-Mark, in-Ask, in-Raise, in-Show, in-Read, in-Committed}
+use Rattle.kp_script.proofs.events.event_of.Goals.{in-Adopt, in-Mark, in-Ask, in-Raise, in-Join, in-Leave, in-Checkpoint, in-Stop, in-Restart, in-Show, in-Read, in-Committed}
 
 pub append_event-requires-clause-short : goal.append_event-requires-clause-short
 append_event-requires-clause-short c =
@@ -42,6 +43,21 @@ returns-clause-told c = λ max.
       | in-Raise w ↦
           told_by max call (parsed.Raise w.in-Raise.node) made (w.in-Raise.node, acts.Raise) w.in-Raise.is w.node-is
           (record { e = model.Acts w.in-Raise.node model.Raise; told = refl; is = (model.Raise, refl, refl) })
+      | in-Join w ↦
+          told_by max call (parsed.Join w.in-Join.node w.in-Join.member) made (w.in-Join.node, acts.Alter (changes.Join w.in-Join.member)) w.in-Join.is w.node-is
+          (record { e = model.Acts w.in-Join.node (model.Join w.in-Join.member); told = refl; is = (model.Join w.in-Join.member, refl, refl) })
+      | in-Leave w ↦
+          told_by max call (parsed.Leave w.in-Leave.node w.in-Leave.member) made (w.in-Leave.node, acts.Alter (changes.Leave w.in-Leave.member)) w.in-Leave.is w.node-is
+          (record { e = model.Acts w.in-Leave.node (model.Leave w.in-Leave.member); told = refl; is = (model.Leave w.in-Leave.member, refl, refl) })
+      | in-Checkpoint w ↦
+          told_by max call (parsed.Checkpoint w.in-Checkpoint.node) made (w.in-Checkpoint.node, acts.Checkpoint) w.in-Checkpoint.is w.node-is
+          (record { e = model.Acts w.in-Checkpoint.node model.Checkpoint; told = refl; is = (model.Checkpoint, refl, refl) })
+      | in-Stop w ↦
+          told_by max call (parsed.Stop w.in-Stop.node) made (w.in-Stop.node, acts.Stop) w.in-Stop.is w.node-is
+          (record { e = model.Acts w.in-Stop.node model.Stop; told = refl; is = (model.Stop, refl, refl) })
+      | in-Restart w ↦
+          told_by max call (parsed.Restart w.in-Restart.node) made (w.in-Restart.node, acts.Restart) w.in-Restart.is w.node-is
+          (record { e = model.Acts w.in-Restart.node model.Restart; told = refl; is = (model.Restart, refl, refl) })
       | in-Show w ↦
           told_by max call (parsed.Show w.in-Show.node) made (w.in-Show.node, acts.Show) w.in-Show.is w.node-is
           (record { e = model.Acts w.in-Show.node model.Show; told = refl; is = (model.Show, refl, refl) })

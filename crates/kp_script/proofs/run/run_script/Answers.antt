@@ -2,6 +2,7 @@ use Rattle.std.proofs.Common.{◌≡◌, ◌∙◌, ℕ, ◌+◌, List, [], ◌+
 use Rattle.std.proofs.lemmas.Result.{err_from_is_err_and}
 use Rattle.std.proofs.lemmas.List.{map-append}
 use Rattle.kp_types.specs.Devices.{device_of}
+use Rattle.kp_types.specs.declared.limits.Limits.{Limits}
 use Rattle.kp_types.specs.declared.refusal.Refusal.TheVariants as refusals
 use Rattle.kp_world.specs.Answers.{outcome_of}
 use Rattle.kp_script.specs.Call.{Call}
@@ -17,7 +18,7 @@ pub loop-rest-init : goal.loop-rest-init
 loop-rest-init g c = record {
   played = (
     [],
-    (refl, played_none c.in_ok-script.script.header.count c.limits_of.result c.in_ok-world.world (g.W.Write.contents (device_of c.args.writer.now)) c.limits_of.ensures c.in_ok-world.ensures.shown),
+    (refl, played_none c.in_ok-script.script.header.count c.limits_of.result c.in_ok-world.world (g.W.Write.contents (device_of c.args.writer.now)) (ap (λ (l : Limits). l.max_batch) c.limits_of.ensures) c.in_ok-world.ensures.shown),
   );
   nodes = c.in_ok-world.ensures.count;
   few = omega arith;

@@ -1,0 +1,9 @@
+use Rattle.std.proofs.Common.{[], arith}
+use Rattle.kp_script.proofs.Numbers.{same_field}
+use Rattle.kp_script.proofs.fields.two_nodes_of.Goals as goal
+
+pub returns-in-None-clause-none : goal.returns-in-None-clause-none
+returns-in-None-clause-none c = λ node member inside among e.
+    let found = c.in-Some.ensures.found in
+    let first = same_field [] c.args.fields.now c.in-Some.node node c.in-Some.rest.now _ (omega arith) (omega arith) found.0 e in
+    c.in-None.ensures.none member among first.1
