@@ -111,19 +111,27 @@ fn out_is(rt: &impl std::process::Abort, out: &Out, bytes: &[u8], failed: u64) {
     assert_eq!(rt; (out.0.as_slice(), out.1, out.2), (bytes, refused, failed));
 }
 
-#[test]
-fn short_writes_go_on_and_failed_ones_are_counted(rt: HostRuntime) {
+fn short_ones_go_on(rt: &impl std::process::Abort, alloc: Global) {
     for (room, bytes, failed) in [
         (9, b"hello".as_slice(), 0),
         (5, b"hello", 0),
         (4, b"hell", 1),
         (0, b"", 1),
     ] {
-        out_is(&rt, &write_narrow(rt.alloc(), room), bytes, failed);
+        out_is(rt, &write_narrow(alloc, room), bytes, failed);
     }
+}
+
+fn failed_ones_are_counted(rt: &impl std::process::Abort, alloc: Global) {
     for (fails, bytes, failed) in [(0, b"".as_slice(), 1), (1, b"hello", 0)] {
-        out_is(&rt, &write_failing(rt.alloc(), fails), bytes, failed);
+        out_is(rt, &write_failing(alloc, fails), bytes, failed);
     }
+}
+
+#[test]
+fn short_writes_go_on_and_failed_ones_are_counted(rt: HostRuntime) {
+    short_ones_go_on(&rt, rt.alloc());
+    failed_ones_are_counted(&rt, rt.alloc());
 }
 
 /// A device of which every second call is interrupted, the first one too.

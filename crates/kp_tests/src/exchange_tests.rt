@@ -273,7 +273,7 @@ fn refused_requests_report_nothing(rt: HostRuntime) {
 }
 
 // The text is the first of these, or where memory was refused another of them, or none.
-fn is_one_of(rt: &impl Abort, found: Result<String, Refusal>, wanted: &[&str]) {
+pub(crate) fn is_one_of(rt: &impl Abort, found: Result<String, Refusal>, wanted: &[&str]) {
     match found {
         Ok(text) => {
             let is_wanted = wanted.iter().any(|want| *want == text.as_str());

@@ -28,6 +28,8 @@ mod producer_tests;
 #[cfg(test)]
 mod record_tests;
 #[cfg(test)]
+mod restart_tests;
+#[cfg(test)]
 mod script_tests;
 #[cfg(test)]
 mod shown;

@@ -1,7 +1,8 @@
 //! Nodes by themselves, and runs of several nodes.
 
-ghost use Rattle.std.specs.Prelude.{◌<◌, ◌≤◌};
+ghost use Rattle.std.specs.Prelude.{◌≡◌, ◌<◌, ◌≤◌};
 ghost use Rattle.std.specs.List.{AllByRecursion};
+ghost use Rattle.kp_world.specs.declared.event.Event.TheVariants.{Acts};
 ghost use Rattle.kp_world.specs.Events.{HasMarker, IsAmong};
 
 use crate::logs::{batch_of, told};
@@ -103,7 +104,7 @@ fn told_of_two(alloc: Global) -> Result<String, Refusal> {
     Ok(told(alloc, node.log())?)
 }
 
-// No contract says by which limits a node's log is cut.
+// `Replica::log` says by which limits a node's log is cut; these are the segments that come of them.
 #[test]
 fn a_node_cuts_its_log_by_its_limits(rt: HostRuntime) {
     is(
@@ -145,53 +146,29 @@ fn push_receipt(text: &mut String, receipt: &Receipt) -> Result<(), AllocError> 
     )
 }
 
+fn acts(node: NodeId, act: Act) -> Event
+    ensures { result ≡ Acts node act }
+{
+    Event::Acts { node, act }
+}
+
 // Node 6 leads, then node 0.
 fn seven(alloc: Global) -> Result<String, Refusal> {
     let bytes = bytes_of(alloc, "p10")?;
     let again = bytes.share()?;
     let events = [
-        Event::Acts {
-            node: 6,
-            act: Act::Show,
-        },
+        acts(6, Act::Show),
         Event::Elect { node: 6 },
-        Event::Acts {
-            node: 6,
-            act: Act::Adopt,
-        },
-        Event::Acts {
-            node: 0,
-            act: Act::Adopt,
-        },
-        Event::Acts {
-            node: 0,
-            act: Act::Produce { bytes: again },
-        },
-        Event::Acts {
-            node: 6,
-            act: Act::Produce { bytes },
-        },
-        Event::Acts {
-            node: 6,
-            act: Act::Raise,
-        },
-        Event::Acts {
-            node: 0,
-            act: Act::Raise,
-        },
-        Event::Acts {
-            node: 6,
-            act: Act::Show,
-        },
+        acts(6, Act::Adopt),
+        acts(0, Act::Adopt),
+        acts(0, Act::Produce { bytes: again }),
+        acts(6, Act::Produce { bytes }),
+        acts(6, Act::Raise),
+        acts(0, Act::Raise),
+        acts(6, Act::Show),
         Event::Elect { node: 0 },
-        Event::Acts {
-            node: 0,
-            act: Act::Adopt,
-        },
-        Event::Acts {
-            node: 6,
-            act: Act::Adopt,
-        },
+        acts(0, Act::Adopt),
+        acts(6, Act::Adopt),
     ];
     played(alloc, 7, &events)
 }
@@ -225,43 +202,16 @@ fn three_twice(alloc: Global) -> Result<String, Refusal> {
     let marker = MARKER;
     let events = [
         Event::Elect { node: 0 },
-        Event::Acts {
-            node: 0,
-            act: Act::Adopt,
-        },
-        Event::Acts {
-            node: 0,
-            act: Act::Mark { marker },
-        },
-        Event::Acts {
-            node: 0,
-            act: Act::Produce { bytes },
-        },
+        acts(0, Act::Adopt),
+        acts(0, Act::Mark { marker }),
+        acts(0, Act::Produce { bytes }),
         Event::Elect { node: 0 },
-        Event::Acts {
-            node: 0,
-            act: Act::Adopt,
-        },
-        Event::Acts {
-            node: 0,
-            act: Act::Produce { bytes: again },
-        },
-        Event::Acts {
-            node: 0,
-            act: Act::Mark { marker },
-        },
-        Event::Acts {
-            node: 0,
-            act: Act::Raise,
-        },
-        Event::Acts {
-            node: 0,
-            act: Act::Committed { from: 2 },
-        },
-        Event::Acts {
-            node: 0,
-            act: Act::Read { from: 3 },
-        },
+        acts(0, Act::Adopt),
+        acts(0, Act::Produce { bytes: again }),
+        acts(0, Act::Mark { marker }),
+        acts(0, Act::Raise),
+        acts(0, Act::Committed { from: 2 }),
+        acts(0, Act::Read { from: 3 }),
     ];
     played(alloc, 1, &events)
 }

@@ -6,7 +6,7 @@ use kp_batch::Batch;
 use kp_control::LeaderAndIsr;
 use kp_log::PartitionLog;
 use kp_model::{EpochAnswer, EpochRequest, FetchAnswer, FetchRequest, Letter};
-use kp_replica::{KeptNode, Replica, Role};
+use kp_replica::{IsrChange, KeptNode, Replica, Role};
 use kp_types::{Epoch, NodeId, Offset, Refusal};
 use std::alloc::{AllocError, Global};
 
@@ -33,6 +33,11 @@ pub(crate) enum Call {
     /// Node 1 gets an answer that no leader made: to such a request, with these batches and this watermark.
     Take((Epoch, Offset), Batches, Offset),
     Raise(NodeId),
+    /// The node, a leader, changes the in-sync replicas.
+    Alter(NodeId, IsrChange),
+    Checkpoint(NodeId),
+    Stop(NodeId),
+    Restart(NodeId),
     Show(NodeId),
 }
 
@@ -178,6 +183,32 @@ fn take_epoch(
     Ok(write!(text, "cut {} {next}", cut.end)?)
 }
 
+fn stop(text: &mut String, place: &mut Option<Node>) -> Result<(), Refusal> {
+    match place.take() {
+        Some(Ok(node)) => {
+            *place = Some(Err(node.stop()));
+            Ok(text.push_str("stopped")?)
+        }
+        other => {
+            *place = other;
+            Err(Refusal::Down)
+        }
+    }
+}
+
+fn restart(alloc: Global, text: &mut String, place: &mut Option<Node>) -> Result<(), Refusal> {
+    let (node, said) = match place.take() {
+        Some(Err(kept)) => match Replica::restart(alloc, kept) {
+            Ok(node) => (Some(Ok(node)), Ok(())),
+            Err((kept, refusal)) => (Some(Err(kept)), Err(refusal)),
+        },
+        other => (other, Err(Refusal::Down)),
+    };
+    *place = node;
+    said?;
+    Ok(push_node(text, place)?)
+}
+
 fn fetch_request(epoch: Epoch, offset: Offset) -> FetchRequest {
     FetchRequest {
         from: 1,
@@ -258,6 +289,17 @@ impl Play {
         }
     }
 
+    // What the leader makes of the record that it knows is what it said before that it would make.
+    fn alter(&mut self, text: &mut String, node: NodeId, change: IsrChange) -> Result<(), Refusal> {
+        let leader = up(&mut self.nodes, node)?;
+        let foreseen = leader.would_alter(change);
+        let made = leader.alter(change, &self.record)?;
+        if foreseen? != made {
+            return Err(Refusal::BadCount);
+        }
+        self.change(text, made)
+    }
+
     fn find_end(
         &mut self,
         text: &mut String,
@@ -311,8 +353,28 @@ impl Play {
                 let watermark = up(&mut self.nodes, *node)?.raise()?;
                 Ok(write!(text, "mark {watermark}")?)
             }
+            Call::Alter(node, change) => self.alter(text, *node, *change),
+            Call::Checkpoint(node) => {
+                let checkpoint = up(&mut self.nodes, *node)?.checkpoint();
+                Ok(write!(text, "checkpoint {checkpoint}")?)
+            }
+            Call::Stop(node) => stop(text, place(&mut self.nodes, *node)?),
+            Call::Restart(node) => restart(alloc, text, place(&mut self.nodes, *node)?),
             Call::Show(node) => Ok(push_node(text, place(&mut self.nodes, *node)?)?),
         }
+    }
+
+    // Of these calls none may be refused.
+    fn answer_all(
+        &mut self,
+        alloc: Global,
+        text: &mut String,
+        calls: &[Call],
+    ) -> Result<(), Refusal> {
+        for call in calls {
+            self.answer(alloc, text, call)?;
+        }
+        Ok(())
     }
 }
 
@@ -326,9 +388,7 @@ pub(crate) fn played(
 ) -> Result<String, Refusal> {
     let mut play = Play::new(alloc, count)?;
     let mut text = String::with_capacity(alloc, 4096)?;
-    for call in first {
-        play.answer(alloc, &mut text, call)?;
-    }
+    play.answer_all(alloc, &mut text, first)?;
     text.clear();
     for call in then {
         if let Err(refusal) = play.answer(alloc, &mut text, call) {

@@ -104,13 +104,17 @@ fn kind_of(batch: &Batch) -> &'static str {
     }
 }
 
+fn push_fields(text: &mut String, batch: &Batch) -> Result<(), AllocError> {
+    for (name, field) in fields_of(batch) {
+        push_field(text, name, field)?;
+    }
+    text.push_str(kind_of(batch))
+}
+
 /// A line of the batch's fields, and a line for each of its records.
 pub(crate) fn batch_text(alloc: Global, batch: &Batch) -> Result<String, AllocError> {
     let mut text = String::new(alloc);
-    for (name, field) in fields_of(batch) {
-        push_field(&mut text, name, field)?;
-    }
-    text.push_str(kind_of(batch))?;
+    push_fields(&mut text, batch)?;
     for record in batch.records() {
         push_record(&mut text, record)?;
     }

@@ -1,0 +1,115 @@
+//! Nodes that stop, start again, and change the in-sync replicas, over the calls of a node alone.
+
+use crate::exchange_tests::is_one_of;
+use crate::played::{Call, played};
+use crate::shown::is;
+use kp_replica::IsrChange;
+
+const STOPPED: [Call; 14] = [
+    Call::Elect(0),
+    Call::Adopt(0),
+    Call::Append(0, "p10"),
+    Call::Raise(0),
+    Call::Append(0, "p20"),
+    Call::Checkpoint(0),
+    Call::Stop(0),
+    Call::Raise(0),
+    Call::Restart(0),
+    Call::Restart(0),
+    Call::Raise(0),
+    Call::Adopt(0),
+    Call::Alter(0, IsrChange::Leave(0)),
+    Call::Raise(0),
+];
+
+#[test]
+fn a_node_starts_again_at_its_checkpoint(rt: HostRuntime) {
+    is(
+        &rt,
+        played(rt.alloc(), 1, &[], &STOPPED),
+        "record leader 0 epoch 0 version 1\nleads epoch 0 from 0\nat 0\nmark 1\nat 1\ncheckpoint 1\nstopped\n\
+         F28 Down\nend 2 mark 1 life 1, 0 epoch 0 time 10, 1 epoch 0 time 20\nF28 Down\nF15 NotLeader\n\
+         leads epoch 0 from 2\nF21 NotInSync\nmark 2\n",
+    );
+}
+
+// A leader whose high watermark is 7, and which began to lead at 10.
+const CAUGHT_UP: [Call; 12] = [
+    Call::Elect(0),
+    Call::Adopt(0),
+    Call::Append(0, "d9.0.0.3"),
+    Call::Append(0, "d9.0.3.3"),
+    Call::Append(0, "p10"),
+    Call::Append(0, "p20"),
+    Call::Append(0, "d9.0.6.2"),
+    Call::Fetch(0, 7),
+    Call::Raise(0),
+    Call::Elect(0),
+    Call::Adopt(0),
+    Call::Alter(0, IsrChange::Leave(1)),
+];
+
+// A node that has told nothing, then an end below the start, then one at the start; under another record, and again.
+const JOINS: [Call; 9] = [
+    Call::Alter(0, IsrChange::Join(1)),
+    Call::Fetch(1, 8),
+    Call::Alter(0, IsrChange::Join(1)),
+    Call::Fetch(1, 10),
+    Call::SwapRecords,
+    Call::Alter(0, IsrChange::Join(1)),
+    Call::SwapRecords,
+    Call::Alter(0, IsrChange::Join(1)),
+    Call::Alter(1, IsrChange::Leave(0)),
+];
+
+#[test]
+fn a_node_joins_where_it_has_caught_up(rt: HostRuntime) {
+    is(
+        &rt,
+        played(rt.alloc(), 2, &CAUGHT_UP, &JOINS),
+        "F23 NotCaughtUp\nsent 1 batches 1 mark 7\nF23 NotCaughtUp\nsent 2 batches 0 mark 7\n\
+         record leader 0 epoch 1 version 2\nF22 StaleRecord\nrecord leader 0 epoch 1 version 3\n\
+         record leader 0 epoch 1 version 4\nF15 NotLeader\n",
+    );
+}
+
+// Node 1 has a batch, and notes the watermark 1.
+const NOTED: [Call; 6] = [
+    Call::Elect(0),
+    Call::Elect(0),
+    Call::Elect(0),
+    Call::Adopt(1),
+    Call::Take((2, 0), &[(0, 1, "p10")], 1),
+    Call::Checkpoint(1),
+];
+
+const AGAIN: [Call; 4] = [
+    Call::Take((2, 1), &[(1, 1, "p20"), (2, 2, "p30")], 3),
+    Call::Restart(1),
+    Call::Stop(1),
+    Call::Restart(1),
+];
+
+// All that is told where memory is ample; or the node was downed by the take, with one batch or two, and starts again with
+// those; or there is no room for its tables, and it stays down; or there was none for the answer, before the node had it.
+const STARTED: [&str; 5] = [
+    "end 3 mark 3\nF28 Down\nstopped\n\
+     end 3 mark 1 life 1, 0 epoch 1 time 10, 1 epoch 1 time 20, 2 epoch 2 time 30\n",
+    "end 3 mark 3\nF28 Down\nstopped\nF33 Memory\n",
+    "F33 Memory\nend 1 mark 1 life 1, 0 epoch 1 time 10\nstopped\nend 1 mark 1 life 2, 0 epoch 1 time 10\n",
+    "F33 Memory\nend 2 mark 1 life 1, 0 epoch 1 time 10, 1 epoch 1 time 20\nstopped\n\
+     end 2 mark 1 life 2, 0 epoch 1 time 10, 1 epoch 1 time 20\n",
+    "F33 Memory\nF28 Down\nstopped\nend 1 mark 1 life 1, 0 epoch 1 time 10\n",
+];
+
+#[test]
+fn a_node_without_room_starts_again(rt: HostRuntime) {
+    is(&rt, played(rt.alloc(), 2, &NOTED, &AGAIN), STARTED[0]);
+}
+
+// This one holds also where an allocation is refused.
+#[test]
+fn a_restart_without_memory_keeps_the_node(rt: HostRuntime) {
+    let found = played(rt.alloc(), 2, &NOTED, &AGAIN);
+    is_one_of(&rt, found, &STARTED);
+}
