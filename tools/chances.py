@@ -5,8 +5,9 @@
 
 A script of a cluster is made beside the world of tools/cluster.py in which it is played, so that most of its lines do
 something there. Calm times, in which followers fetch and watermarks rise, take turns with storms of elections, in which
-leaders that know nothing of one another take batches in. Messages are lost, come late, in another order, twice, and some
-numbers were never sent.
+leaders that know nothing of one another take batches in. A leader removes who is slow from the in-sync set, and takes in
+again who has caught up. Nodes stop and come up again, leaders too, and several may be down at once. Messages are lost, come
+late, in another order, twice, in another life, and some numbers were never sent.
 """
 import re
 import sys
@@ -14,7 +15,7 @@ from collections import Counter
 
 import dumps
 import scripts
-from cluster import Answer, Follows, Leads, World, last_epoch
+from cluster import Answer, Down, Follows, Idle, Leads, World, last_epoch
 from decoder import Refused
 from dumps import batches_of, coordinator, end_of, kept_batches
 
@@ -103,7 +104,7 @@ class Replicas(Chance):
     def __init__(self, seed):
         super().__init__(seed)
         self.count = 1 + seed % scripts.MAX_NODES
-        self.world, self.events, self.unread = World(self.count), [], []
+        self.world, self.events, self.unread, self.planned = World(self.count), [], [], []
         self.at, self.left, self.is_calm, self.is_late, self.rivals = 0, 0, True, False, []
 
     # What the world says
@@ -117,11 +118,14 @@ class Replicas(Chance):
     def behind(self):
         """The nodes that have yet to take the record up, but for a leader that is the last to know."""
         named, epoch, *_ = self.world.record
-        return [node.number for node in self.world.nodes
-                if node.mode.epoch < epoch and not (self.is_late and node.number == named)]
+        return [n for n in self.up()
+                if self.world.nodes[n].mode.epoch < epoch and not (self.is_late and n == named)]
 
-    def of_mode(self, mode):
-        return [node.number for node in self.world.nodes if isinstance(node.mode, mode)]
+    def of_mode(self, *modes):
+        return [node.number for node in self.world.nodes if isinstance(node.mode, modes)]
+
+    def up(self):
+        return self.of_mode(Idle, Leads, Follows)
 
     def any_node(self):
         return self.n.below(self.count)
@@ -157,11 +161,16 @@ class Replicas(Chance):
         return f"mark {node} {n.below(1000)} {pid} {epoch} {said} {n.one_of(['commit', 'abort'])}"
 
     def elect(self):
-        """In a storm mostly one of two rivals, whose logs part with each reign; else often the same node again."""
-        n, named = self.n, self.world.record.leader
+        """In a storm mostly one of two rivals, whose logs part with each reign; else often the same node again, or one in
+        sync that is up; now and then any."""
+        n, (named, _, isr, _) = self.n, self.world.record
         self.is_late = n.once_in(2)
-        chosen = self.any_node() if n.once_in(5) or named is None else n.one_of([named, self.any_node()])
-        return f"elect {chosen if self.is_calm or n.once_in(4) else n.one_of(self.rivals)}"
+        if n.once_in(12):
+            return f"elect {self.any_node()}"
+        if not self.is_calm and not n.once_in(4):
+            return f"elect {n.one_of([m for m in self.rivals if m in isr] or isr)}"
+        fit = [m for m in isr if m in self.up()] or isr
+        return f"elect {named if named in fit and n.once_in(2) else n.one_of(fit)}"
 
     def adopt(self):
         """Of a node to which the record is news; now and then of any."""
@@ -176,6 +185,8 @@ class Replicas(Chance):
         named, leader = self.world.record.leader, self.leader()
         if named is None or self.n.once_in(9):
             return self.elect()
+        if named in self.of_mode(Down):
+            return f"restart {named}" if self.n.once_in(2) else self.elect()
         if leader is None:
             return f"adopt {named}"
         return self.elect() if last_epoch(leader.log) == leader.mode.epoch else self.append()
@@ -222,6 +233,52 @@ class Replicas(Chance):
     def raise_mark(self):
         return f"raise {self.node()}"
 
+    def keep_set(self):
+        """The leader takes in who has caught up, else it removes who has reported the least, more often where a member is down,
+        and may raise its watermark at once; now and then anyone takes in or removes anyone."""
+        n, leader = self.n, self.leader()
+        if leader is None or n.once_in(5):
+            return f"{n.one_of(['join', 'leave'])} {self.node()} {self.any_node()}"
+        said, mode = leader.number, leader.mode
+        ends = {m: mode.reported.get(m, -1) for m in range(self.count) if m != said}
+        back = [m for m in ends if m not in mode.isr and ends[m] >= max(leader.mark, mode.start)]
+        if back and not n.once_in(6):
+            return f"join {said} {n.one_of(back)}"
+        slow = [m for m in ends if m in mode.isr and ends[m] < end_of(leader.log)]
+        if slow and (n.once_in(4) or len(mode.isr) > 2 and any(m in self.of_mode(Down) for m in slow)):
+            self.planned = [f"raise {said}"] * n.below(2)
+            return f"leave {said} {min(slow, key=ends.get)}"
+        return f"join {said} {self.any_node()}" if n.once_in(4) else self.forward()
+
+    def note_mark(self):
+        return f"checkpoint {self.n.one_of(self.up() or range(self.count))}"
+
+    def come_and_go(self):
+        """A node that is down comes up, or one stops; in a storm as often the one as the other."""
+        n, down, up = self.n, self.of_mode(Down), self.up()
+        comes = down and (not up or not n.once_in(4 if self.is_calm else 2))
+        return f"restart {n.one_of(down)}" if comes else f"stop {n.one_of(up)}"
+
+    def bounce(self):
+        """A node stops and comes up at once, mostly one to which an answer is on its way, so that it is of an earlier life."""
+        n, messages = self.n, self.world.messages
+        due = [messages[k].request for k in self.unread if isinstance(messages[k], Answer)]
+        waiting = [request.sender for request in sorted(due, key=lambda request: request.fetching)]
+        chosen = n.one_of([m for m in waiting if m in self.up()][:2] or self.up() or range(self.count))
+        self.planned = [f"restart {chosen}", f"adopt {chosen}"][:n.one_of([1, 2, 2, 2])]
+        return f"stop {chosen}"
+
+    def disturb(self):
+        """A node that is stopped is asked for something, or one that is up to come up."""
+        n, down = self.n, self.of_mode(Down)
+        if not down or n.once_in(9):
+            return f"restart {n.one_of(self.up() or range(self.count))}" if n.once_in(3) else self.forward()
+        line = n.one_of([self.adopt, self.append, self.raw, self.mark, self.ask, self.raise_mark, self.note_mark, self.look,
+                         lambda: f"stop {self.any_node()}", lambda: f"join {self.node()} {self.any_node()}",
+                         lambda: f"leave {self.node()} {self.any_node()}"])()
+        verb, _, *words = line.split(" ")
+        return " ".join([verb, str(n.one_of(down)), *words])
+
     def look(self):
         """At the end of a log, or above it."""
         node = self.n.one_of(self.world.nodes)
@@ -229,24 +286,32 @@ class Replicas(Chance):
         return self.n.one_of([f"show {node.number}", f"read {node.number} {start}", f"committed {node.number} {start}"])
 
     def write(self):
+        """Where nobody leads, mostly a leader is made first."""
+        if not self.of_mode(Leads) and not self.n.once_in(4):
+            return self.reign()
         return self.n.one_of([self.append] * 9 + [self.again] * 2 + [self.mark] * 4 + [self.raw])()
 
     def turn(self):
-        """From calm to a storm, or back."""
-        n = self.n
+        """From calm to a storm, or back. Rivals are in sync, if two are."""
+        n, isr = self.n, self.world.record.isr
         self.is_calm = not self.is_calm
         self.left = 30 + 25 * self.count + n.below(60) if self.is_calm else 10 + n.below(n.one_of([30, 30, 100]))
-        first = self.any_node()
-        self.rivals = [first, (first + 1 + n.below(max(1, self.count - 1))) % self.count]
+        first = n.below(len(isr))
+        self.rivals = [isr[first], isr[(first + 1 + n.below(max(1, len(isr) - 1))) % len(isr)]]
 
     def step(self):
+        if self.planned:
+            return self.planned.pop(0)
+        if not self.up() and not self.n.once_in(3):
+            return self.come_and_go()
         if self.left == 0:
             self.turn()
         self.left -= 1
         often = [self.forward] * 18 + [self.write] * 5 + [self.late] * 4 if self.is_calm else \
             [self.reign] * 20 + [self.write] * 5 + [self.late] * 3 + [self.ask, self.adopt]
         seldom = [self.raise_mark] * 2 + [self.look] + ([self.elect] if self.n.once_in(self.count) else [])
-        return self.n.one_of(often + seldom)()
+        lives = [self.note_mark, self.come_and_go, self.bounce, self.disturb] if self.n.once_in(2) else []
+        return self.n.one_of(often + seldom + [self.keep_set] * (3 if self.is_calm else self.n.below(2)) + lives)()
 
     def play(self, line):
         """Adds the line to the script, and plays it."""
@@ -259,41 +324,83 @@ class Replicas(Chance):
         self.unread += range(sent, len(self.world.messages))
 
     def script(self, count=90):
-        """So many events, the last of which tell what all nodes have."""
+        """So many events, or one more. By the last ones all nodes come up, and tell what they have."""
         node = self.any_node()
         shown = [*(f"show {n}" for n in range(self.count)), f"read {node} 0", f"committed {node} 0"]
-        while len(self.events) + len(shown) < count:
+        while len(self.events) + len(self.of_mode(Down)) + len(shown) < count:
             self.play(self.step())
+        for n in self.of_mode(Down):
+            self.play(f"restart {n}")
         return lines([f"nodes {self.count} segment {1024 + self.n.below(500)} interval {self.n.below(900)}",
                       *self.events, *shown])
 
 
 # What comes in them
 
-def kind_of(answer):
-    """Which of the four messages an answer says was sent."""
-    _, _, first, second, *_ = answer.split()
-    asks = first == "asks"
-    return f"{'a fetch' if 'batches' in first or second == 'from' else 'an epoch'} {'request' if asks else 'answer'}"
+def kind_of(message):
+    request = message.request if isinstance(message, Answer) else message
+    return f"{'a fetch' if request.fetching else 'an epoch'} {'request' if request is message else 'answer'}"
 
 
-def form(line, kinds, answer):
-    """An event and its answer without their numbers, of reads without records; these messages have been sent before."""
+def not_awaited(node, request):
+    """The first thing by which an answer to this request isn't the one that the node awaits."""
+    mode = node.mode
+    if not isinstance(mode, Follows):
+        return "no follower"
+    causes = {"another leader epoch": mode.epoch != request.epoch, "the other kind": mode.fetching != request.fetching,
+              "another life": not request.fetching and node.life != request.life,
+              "another end" if request.fetching else "another last epoch": True}
+    return next(name for name, holds in causes.items() if holds)
+
+
+def not_caught_up(leader, other):
+    """Why a leader doesn't take this node in."""
+    reported = leader.mode.reported.get(other)
+    if reported is None:
+        return "the leader itself" if other == leader.number else "no report"
+    return "below the watermark" if reported < leader.mark else "below the start"
+
+
+def cause(world, line, answer):
+    """Which of the several causes of a refusal it was, by the world, which is as before; nothing where there is but one."""
+    verb, *words = line.split()
+    if (verb, answer[:3]) == ("adopt", "F22"):
+        return "no leader" if world.record.leader is None else "no news"
+    if (verb, answer[:3]) == ("leave", "F21"):
+        return "the leader itself" if words[0] == words[1] else "no member"
+    if (verb, answer[:3]) == ("join", "F23"):
+        return not_caught_up(world.nodes[int(words[0])], int(words[1]))
+    if verb != "deliver" or int(words[0]) >= len(world.messages):
+        return None
+    message = world.messages[int(words[0])]
+    if isinstance(message, Answer) and answer[:3] in ("F22", "F29"):
+        node = world.nodes[message.request.sender]
+        idle = "idle" if isinstance(node.mode, Idle) else "the record has moved on"
+        return idle if answer[:3] == "F22" else not_awaited(node, message.request)
+    return None
+
+
+def form(world, line, answer):
+    """An event and its answer without their numbers, of reads without records. Where it is refused, the world is as before."""
     verb, number = line.split()[:2]
     if verb == "deliver":
-        verb += f" {kinds[int(number)] if int(number) < len(kinds) else 'no message'}"
-    said = answer if answer[0] == "F" else re.sub("[0-9]+(,[0-9]+)*", "N", re.sub("^read.*", "read 0", answer))
-    return f"{verb}: {re.sub(' [0-9]+$', '', said)}"
+        verb += f" {kind_of(world.messages[int(number)]) if int(number) < len(world.messages) else 'no message'}"
+    if answer[0] != "F":
+        return f"{verb}: {re.sub('[0-9]+(,[0-9]+)*', 'N', re.sub('^read.*', 'read 0', answer))}"
+    why = cause(world, line, answer)
+    return f"{verb}: {re.sub(' [0-9]+$', '', answer)}{f', {why}' if why else ''}"
 
 
 def forms(script):
     """How often each answer to each event comes in the script's run."""
-    events, kinds, found = script.splitlines(), [], Counter()
-    for line in scripts.run(script.encode())[0].splitlines():
-        place, answer = line.split(" ", 1)
-        found[form(events[int(place) - 1], kinds, answer)] += 1
-        if answer.startswith("sent"):
-            kinds.append(kind_of(answer))
+    texts, (count, events), found = script.splitlines(), scripts.parse(script.encode()), Counter()
+    world = World(count)
+    for place, event in events:
+        try:
+            answer = event(world)
+        except Refused as refusal:
+            answer = str(refusal)
+        found[form(world, texts[place - 1], answer)] += 1
     return found
 
 

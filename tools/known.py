@@ -15,6 +15,18 @@ FETCHED = """2 record leader 0 epoch 0 isr 0,1 version 1
 8 end 1 mark 0
 """
 
+# What is on a deposed leader alone lies where the next one's watermark has passed already; the answer to the old one is sent.
+DEPOSED = FETCHED + """9 at 1
+10 record leader 1 epoch 1 isr 0,1 version 2
+11 leads epoch 1 from 1
+12 record leader 1 epoch 1 isr 1 version 3
+13 at 1
+14 mark 2
+15 follows 1 epoch 1 reconciling
+16 sent 2 asks epoch 0
+17 sent 3 epoch 0 end 1
+"""
+
 # Command line, and what it leaves.
 KNOWN = {
     "run made_example_first.script": OPENING + """4 at 0
@@ -398,6 +410,306 @@ status 0
 47 mark 4
 48 node 0 life 0 end 6 mark 4 stable 4
 49 read 0
+status 1
+""",
+    "run made_example_insync.script": """3 record leader 0 epoch 0 isr 0,1,2 version 1
+4 leads epoch 0 from 0
+5 follows 0 epoch 0 fetching
+6 at 0
+7 sent 0 asks from 0
+8 sent 1 batches 1 mark 0
+9 end 1 mark 0
+10 sent 2 asks from 1
+11 sent 3 batches 0 mark 0
+12 record leader 0 epoch 0 isr 0,1 version 2
+13 mark 1
+15 checkpoint 1
+16 stopped
+17 life 1 end 1 mark 1
+18 leads epoch 0 from 1
+19 follows 0 epoch 0 fetching
+20 sent 4 asks from 0
+21 sent 5 batches 1 mark 1
+22 end 1 mark 1
+23 sent 6 asks from 1
+24 sent 7 batches 0 mark 1
+25 record leader 0 epoch 0 isr 0,1,2 version 3
+status 0
+""",
+    "run restart_from_a_checkpoint.script": OPENING + """4 at 0
+5 mark 1
+6 at 1
+7 checkpoint 1
+8 stopped
+9 F28 Down
+10 life 1 end 2 mark 1
+11 F28 Down
+12 F15 NotLeader
+13 leads epoch 0 from 2
+14 F21 NotInSync
+15 mark 2
+status 1
+""",
+    "run answer_of_an_earlier_life.script": FETCHED + """9 stopped
+10 life 1 end 1 mark 0
+11 follows 0 epoch 0 reconciling
+12 sent 2 asks epoch 0
+13 sent 3 epoch 0 end 1
+14 stopped
+15 life 2 end 1 mark 0
+16 follows 0 epoch 0 reconciling
+17 F29 StaleAnswer
+18 node 1 life 2 end 1 mark 0 stable 0
+status 1
+""",
+    "run never_held_and_undone.script": DEPOSED + """18 cut 1 done
+19 F23 NotCaughtUp
+20 sent 4 asks from 1
+21 sent 5 batches 1 mark 2
+22 F23 NotCaughtUp
+23 end 2 mark 2
+24 sent 6 asks from 2
+25 sent 7 batches 0 mark 2
+26 record leader 1 epoch 1 isr 0,1 version 4
+27 read 2 0=61 1=63
+status 1
+""",
+    "run record_moves_on_before_the_cut.script": DEPOSED + """18 record leader 1 epoch 2 isr 1 version 4
+19 F22 StaleRecord
+20 F22 StaleRecord
+21 sent 4 asks epoch 0
+22 sent 5 epoch 0 end 1
+23 F22 StaleRecord
+24 F22 StaleRecord
+25 sent 6 asks epoch 0
+26 sent 7 epoch 0 end 1
+27 F22 StaleRecord
+28 read 0
+29 node 0 life 0 end 2 mark 0 stable 0
+status 1
+""",
+    "run joins_at_the_start_of_a_leadership.script": """2 record leader 0 epoch 0 isr 0,1 version 1
+3 leads epoch 0 from 0
+4 follows 0 epoch 0 fetching
+6 at 0
+7 sent 0 asks from 0
+8 sent 1 batches 1 mark 0
+9 end 7 mark 0
+10 sent 2 asks from 7
+11 sent 3 batches 0 mark 0
+12 mark 7
+14 at 7
+15 sent 4 asks from 7
+16 sent 5 batches 1 mark 7
+17 end 8 mark 7
+18 at 8
+20 record leader 0 epoch 1 isr 0,1 version 2
+21 leads epoch 1 from 10
+22 node 0 life 0 end 10 mark 7 stable 7
+23 record leader 0 epoch 1 isr 0 version 3
+24 follows 0 epoch 1 reconciling
+25 sent 6 asks epoch 0
+26 sent 7 epoch 0 end 10
+27 cut 8 done
+29 F23 NotCaughtUp
+30 sent 8 asks from 8
+31 sent 9 batches 1 mark 7
+32 F23 NotCaughtUp
+33 end 10 mark 7
+34 F23 NotCaughtUp
+35 sent 10 asks from 10
+36 sent 11 batches 0 mark 7
+37 record leader 0 epoch 1 isr 0,1 version 4
+38 mark 10
+status 1
+""",
+    "run in_sync_changes.script": """3 F22 StaleRecord
+4 F15 NotLeader
+5 F15 NotLeader
+6 record leader 0 epoch 0 isr 0,1,2 version 1
+7 F15 NotLeader
+8 leads epoch 0 from 0
+9 F22 StaleRecord
+10 follows 0 epoch 0 fetching
+12 F23 NotCaughtUp
+13 F23 NotCaughtUp
+14 F21 NotInSync
+15 F15 NotLeader
+16 record leader 0 epoch 0 isr 0,1 version 2
+17 F21 NotInSync
+18 F21 NotInSync
+20 sent 0 asks from 0
+21 sent 1 batches 0 mark 0
+22 record leader 0 epoch 0 isr 0,1 version 3
+24 at 0
+25 mark 0
+26 record leader 0 epoch 0 isr 0 version 4
+27 mark 1
+28 F23 NotCaughtUp
+29 end 0 mark 0
+30 sent 2 asks from 0
+31 sent 3 batches 1 mark 1
+32 end 1 mark 1
+33 F23 NotCaughtUp
+34 sent 4 asks from 1
+35 sent 5 batches 0 mark 1
+36 record leader 0 epoch 0 isr 0,1 version 5
+38 record leader 0 epoch 1 isr 0,1 version 6
+39 F22 StaleRecord
+40 F22 StaleRecord
+41 leads epoch 1 from 1
+43 F23 NotCaughtUp
+44 mark 1
+46 record leader 1 epoch 2 isr 0,1 version 7
+47 F22 StaleRecord
+48 F22 StaleRecord
+49 F22 StaleRecord
+50 leads epoch 2 from 1
+51 record leader 1 epoch 2 isr 1 version 8
+52 F21 NotInSync
+53 record leader 1 epoch 3 isr 1 version 9
+status 1
+""",
+    "run stopped_node.script": """2 F28 Down
+3 record leader 0 epoch 0 isr 0,1 version 1
+4 leads epoch 0 from 0
+5 follows 0 epoch 0 fetching
+6 at 0
+7 sent 0 asks from 0
+8 sent 1 batches 1 mark 0
+10 stopped
+11 F28 Down
+12 F28 Down
+13 life 1 end 0 mark 0
+14 F29 StaleAnswer
+15 F15 NotLeader
+16 follows 0 epoch 0 fetching
+17 end 1 mark 0
+18 sent 2 asks from 1
+20 stopped
+""" + "".join(f"{line} F28 Down\n" for line in range(21, 38)) + """39 record leader 0 epoch 1 isr 0,1 version 2
+40 follows 0 epoch 1 reconciling
+41 sent 3 asks epoch 0
+42 F28 Down
+43 life 1 end 1 mark 0
+44 F28 Down
+45 F15 NotLeader
+46 leads epoch 1 from 1
+47 sent 4 epoch 0 end 1
+48 stopped
+49 F28 Down
+50 life 2 end 1 mark 0
+51 F22 StaleRecord
+52 F29 StaleAnswer
+53 F17 FencedLeaderEpoch
+54 mark 0
+status 1
+""",
+    "run committed_batch_survives.script": """2 record leader 0 epoch 0 isr 0,1 version 1
+3 leads epoch 0 from 0
+4 follows 0 epoch 0 fetching
+5 at 0
+6 checkpoint 0
+7 sent 0 asks from 0
+8 sent 1 batches 1 mark 0
+9 end 1 mark 0
+10 sent 2 asks from 1
+11 sent 3 batches 0 mark 0
+12 mark 1
+13 at 1
+15 stopped
+16 stopped
+17 life 1 end 1 mark 0
+18 life 1 end 2 mark 0
+19 read 0
+21 record leader 1 epoch 1 isr 0,1 version 2
+22 leads epoch 1 from 1
+23 at 1
+24 follows 1 epoch 1 reconciling
+25 sent 4 asks epoch 0
+26 sent 5 epoch 0 end 1
+27 cut 1 done
+28 sent 6 asks from 1
+29 sent 7 batches 1 mark 0
+30 end 2 mark 0
+31 sent 8 asks from 2
+32 sent 9 batches 0 mark 0
+33 mark 2
+34 end 2 mark 0
+35 read 2 0=61 1=62
+36 read 0
+38 checkpoint 2
+39 stopped
+40 life 2 end 2 mark 2
+41 read 2 0=61 1=62
+42 node 0 life 1 end 2 mark 0 stable 0
+status 0
+""",
+    "run transactions_survive_a_restart.script": OPENING + """4 at 0
+5 mark 1
+6 checkpoint 1
+7 at 1
+8 at 2
+9 mark 3
+10 node 0 life 0 end 3 mark 3 stable 2
+12 stopped
+13 life 1 end 3 mark 1
+14 node 0 life 1 end 3 mark 1 stable 0
+15 read 0
+16 read 1 0=61
+17 record leader 0 epoch 1 isr 0 version 2
+18 leads epoch 1 from 3
+19 duplicate 2
+20 F13 InvalidTxnState
+21 F14 CoordinatorFenced
+22 at 3
+23 mark 4
+24 node 0 life 1 end 4 mark 4 stable 4
+25 read 1 2=62
+status 1
+""",
+    "run leads_again_in_the_same_epoch.script": FETCHED + """9 sent 2 asks from 1
+10 sent 3 batches 0 mark 0
+11 mark 1
+12 at 1
+14 stopped
+15 life 1 end 2 mark 0
+16 F15 NotLeader
+17 leads epoch 0 from 2
+18 mark 0
+19 at 2
+21 sent 4 batches 2 mark 0
+22 F23 NotCaughtUp
+23 mark 1
+24 end 3 mark 0
+25 sent 5 asks from 3
+26 sent 6 batches 0 mark 1
+27 record leader 0 epoch 0 isr 0,1 version 2
+28 mark 3
+29 end 3 mark 1
+30 F29 StaleAnswer
+32 record leader 0 epoch 0 isr 0 version 3
+33 stopped
+34 life 2 end 3 mark 0
+35 leads epoch 0 from 3
+36 mark 3
+37 F21 NotInSync
+status 1
+""",
+    "run fetch_answer_of_an_earlier_life.script": FETCHED + """9 sent 2 asks from 1
+10 at 1
+11 sent 3 batches 1 mark 0
+13 stopped
+14 life 1 end 1 mark 0
+15 F29 StaleAnswer
+16 follows 0 epoch 0 reconciling
+17 F29 StaleAnswer
+18 sent 4 asks epoch 0
+19 sent 5 epoch 0 end 2
+20 cut 1 done
+21 F29 StaleAnswer
+22 end 2 mark 0
+23 mark 1
 status 1
 """,
     "inspect made_nothing.log": "end 0\nstatus 0\n",

@@ -62,7 +62,7 @@ COORDINATED = (up_to(PID), up_to(PEPOCH), up_to(INT))
 
 
 def at_node(call):
-    """A call of a node that needs nothing but the node."""
+    """A call of a node that is up, which needs nothing but the node."""
     return lambda world, n, *words: call(world.node(n), *words)
 
 
@@ -76,6 +76,11 @@ EVENTS = {
     b"ask": ((node_of,), World.ask),
     b"deliver": ((up_to(INT),), World.deliver),
     b"raise": ((node_of,), World.raise_mark),
+    b"join": ((node_of, node_of), World.join),
+    b"leave": ((node_of, node_of), World.leave),
+    b"checkpoint": ((node_of,), at_node(Node.note_mark)),
+    b"stop": ((node_of,), at_node(Node.stop)),
+    b"restart": ((node_of,), World.restart),
     b"show": ((node_of,), at_node(Node.show)),
     b"read": ((node_of, OFFSET), at_node(Node.read)),
     b"committed": ((node_of, OFFSET), at_node(Node.committed)),
