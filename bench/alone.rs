@@ -7,7 +7,11 @@ use std::str::FromStr;
 pub fn numbers<T: FromStr>(words: &[&dyn ToString]) -> Vec<T> {
     let program = std::env::current_exe().expect("the program");
     let words = words.iter().map(|word| word.to_string());
-    let output = Command::new(program).arg("one").args(words).output().expect("a run");
+    let output = Command::new(program)
+        .arg("one")
+        .args(words)
+        .output()
+        .expect("a run");
     assert!(
         output.status.success(),
         "{}",

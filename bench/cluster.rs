@@ -1,57 +1,53 @@
 //! One to seven nodes, the controller's record and all messages ever sent, in plain Rust.
 
 use crate::log::Refusal;
-use crate::node::{Message, Node, Record};
+use crate::node::{Message, Node};
+use crate::record::Record;
 use crate::script::{Event, Header};
 use crate::spelling::push;
 
 pub struct Cluster {
     nodes: Vec<Node>,
     record: Record,
-    /// The in-sync replicas as they are printed: all nodes, as none ever leaves.
-    isr: String,
     messages: Vec<Message>,
 }
 
 impl Cluster {
     pub fn new(header: &Header) -> Cluster {
-        let numbers: Vec<_> = (0..header.count).map(|n| n.to_string()).collect();
         Cluster {
             nodes: (0..header.count).map(|n| Node::new(n, header)).collect(),
-            record: Record {
-                leader: None,
-                epoch: -1,
-                version: 0,
-            },
-            isr: numbers.join(","),
+            record: Record::new(header.count),
             messages: Vec::new(),
         }
     }
 
     /// Plays an event, and prints what is answered.
+    #[inline(always)]
     pub fn play(&mut self, event: &Event, out: &mut Vec<u8>) -> Result<(), Refusal> {
         match event {
-            Event::Elect(node) => self.elect(*node, out),
+            Event::Elect(node) => self.change(self.record.elected(*node)?, out),
+            Event::Join(node, other) => {
+                let record = self.nodes[*node].up()?.join(&self.record, *other)?;
+                self.change(record, out);
+            }
+            Event::Leave(node, other) => {
+                let record = self.nodes[*node].up()?.leave(&self.record, *other)?;
+                self.change(record, out);
+            }
             Event::Deliver(number) => return self.deliver(*number, out),
             Event::Ask(node) => {
-                let request = self.nodes[*node].ask()?;
+                let request = self.nodes[*node].up()?.ask()?;
                 self.send(Message::Asks(request), out);
             }
-            Event::At(node, act) => return self.nodes[*node].act(&self.record, act, out),
+            Event::Restart(node) => return self.nodes[*node].restart(out),
+            Event::At(node, act) => return self.nodes[*node].up()?.act(&self.record, act, out),
         }
         Ok(())
     }
 
-    fn elect(&mut self, node: usize, out: &mut Vec<u8>) {
-        let record = &mut self.record;
-        record.leader = Some(node);
-        record.epoch += 1;
-        record.version += 1;
-        push(out, "record leader ", node as u64);
-        push(out, " epoch ", record.epoch as u64);
-        out.extend_from_slice(b" isr ");
-        out.extend_from_slice(self.isr.as_bytes());
-        push(out, " version ", record.version);
+    fn change(&mut self, record: Record, out: &mut Vec<u8>) {
+        record.print(out);
+        self.record = record;
     }
 
     fn send(&mut self, message: Message, out: &mut Vec<u8>) {
@@ -66,12 +62,12 @@ impl Cluster {
             None => Err("F29 StaleAnswer".into()),
             Some(Message::Asks(request)) => {
                 let request = *request;
-                let answer = self.nodes[usize::from(request.to)].serve(request)?;
+                let answer = self.nodes[usize::from(request.to)].up()?.serve(request)?;
                 self.send(Message::Answers(request, answer), out);
                 Ok(())
             }
             Some(Message::Answers(request, answer)) => {
-                let node = &mut self.nodes[usize::from(request.from)];
+                let node = self.nodes[usize::from(request.from)].up()?;
                 node.receive(&self.record, *request, answer, out)
             }
         }

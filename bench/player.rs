@@ -4,9 +4,10 @@
 //!
 //! It does the whole job: reads the script, spells each batch out and sums it once, reads raw bytes by the plain decoder, admits
 //! by producers and transactions, keeps each node's batches with segments, both indexes, leader epochs and an undo entry each,
-//! settles them as the high watermark rises or takes batches back by them, keeps all messages, and reads at both isolation levels.
-//! An answer has shares of its leader's batches, and the follower's log shares of those. Nothing here is proved. A lawful script
-//! is expected: at a faulty one it says F31 and no line, and limits of a line's or a script's length aren't tested.
+//! settles them as the high watermark rises or takes batches back by them, builds all tables anew where a node is restarted, keeps
+//! all messages, and reads at both isolation levels. An answer has shares of its leader's batches, and the follower's log shares of
+//! those. Nothing here is proved. A lawful script is expected: at a faulty one it says F31 and no line, and limits of a line's or a
+//! script's length aren't tested.
 
 mod cluster;
 mod decoder;
@@ -14,6 +15,7 @@ mod decoder;
 mod encoder;
 mod log;
 mod node;
+mod record;
 mod script;
 mod segments;
 mod senders;

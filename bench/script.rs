@@ -7,13 +7,18 @@ pub enum Event<'a> {
     Elect(usize),
     Ask(usize),
     Deliver(usize),
+    Join(usize, usize),
+    Leave(usize, usize),
+    Restart(usize),
     At(usize, Act<'a>),
 }
 
-/// What a node does.
+/// What a node that is up does.
 pub enum Act<'a> {
     Adopt,
     Raise,
+    Checkpoint,
+    Stop,
     Show,
     Append {
         time: i64,
@@ -53,6 +58,11 @@ fn number<T: TryFrom<i64>>(word: Option<&[u8]>) -> Option<T> {
     T::try_from(sign * value).ok()
 }
 
+/// A node's number.
+fn node(word: Option<&[u8]>, count: usize) -> Option<usize> {
+    number(word).filter(|node| *node < count)
+}
+
 fn header(line: &[u8]) -> Option<Header> {
     let mut words = line.split(|byte| *byte == b' ');
     let mut named = |name: &[u8]| {
@@ -80,8 +90,13 @@ fn event(line: &[u8], count: usize) -> Option<Event<'_>> {
         b"elect" => Event::Elect(place),
         b"ask" => Event::Ask(place),
         b"deliver" => Event::Deliver(place),
+        b"join" => Event::Join(place, node(words.next(), count)?),
+        b"leave" => Event::Leave(place, node(words.next(), count)?),
+        b"restart" => Event::Restart(place),
         b"adopt" => at(Act::Adopt),
         b"raise" => at(Act::Raise),
+        b"checkpoint" => at(Act::Checkpoint),
+        b"stop" => at(Act::Stop),
         b"show" => at(Act::Show),
         b"read" => at(Act::Read(number(words.next())?)),
         b"committed" => at(Act::Committed(number(words.next())?)),
