@@ -22,7 +22,8 @@ impl Cluster {
     }
 
     /// Plays an event, and prints what is answered.
-    #[inline(always)]
+    #[cfg_attr(stages, inline(never))]
+    #[cfg_attr(not(stages), inline(always))]
     pub fn play(&mut self, event: &Event, out: &mut Vec<u8>) -> Result<(), Refusal> {
         match event {
             Event::Elect(node) => self.change(self.record.elected(*node)?, out),

@@ -78,6 +78,7 @@ fn header(line: &[u8]) -> Option<Header> {
     })
 }
 
+#[cfg_attr(stages, inline(never))]
 fn event(line: &[u8], count: usize) -> Option<Event<'_>> {
     let mut words = line.split(|byte| *byte == b' ');
     let verb = words.next()?;

@@ -80,6 +80,7 @@ fn record(out: &mut Vec<u8>, place: i64, key: Option<&[u8]>, value: &[u8]) {
 }
 
 /// Spells a batch of these records, which all have this time, into an empty buffer.
+#[cfg_attr(stages, inline(never))]
 pub fn batch<'a>(
     out: &mut Vec<u8>,
     attributes: u16,
@@ -110,6 +111,7 @@ pub fn batch<'a>(
 }
 
 /// Spells a transaction marker.
+#[cfg_attr(stages, inline(never))]
 pub fn marker(out: &mut Vec<u8>, time: i64, sender: Sender, coordinator: i32, commits: bool) {
     let key = [0, 0, 0, u8::from(commits)];
     let mut value = [0; 6];
@@ -128,6 +130,7 @@ pub fn bytes_of(digits: &[u8]) -> Vec<u8> {
         .collect()
 }
 
+#[cfg_attr(stages, inline(never))]
 pub fn push(out: &mut Vec<u8>, before: &str, number: u64) {
     out.extend_from_slice(before.as_bytes());
     let (mut digits, mut place, mut rest) = ([0; 20], 20, number);
@@ -142,6 +145,7 @@ pub fn push(out: &mut Vec<u8>, before: &str, number: u64) {
     out.extend_from_slice(&digits[place..]);
 }
 
+#[cfg_attr(stages, inline(never))]
 pub fn push_hex(out: &mut Vec<u8>, bytes: &[u8]) {
     const DIGITS: &[u8; 16] = b"0123456789abcdef";
     let start = out.len();
