@@ -33,22 +33,26 @@ fn offsets(alloc: Global) -> Result<OffsetIndex, Refusal> {
     Ok(index)
 }
 
-// The entry below each of these.
+// The entry below each of these, and how many entries were compared.
 fn floors(alloc: Global, asked: &[u32]) -> Result<String, Refusal> {
     let index = offsets(alloc)?;
     let mut text = String::new(alloc);
     for offset in asked {
-        match index.floor(*offset) {
-            Some(entry) => write!(text, "{offset}: {} {}, ", entry.position, entry.place)?,
-            None => write!(text, "{offset}: none, ")?,
+        let found = index.floor(*offset);
+        match found.entry {
+            Some(entry) => write!(text, "{offset}: {} {}", entry.position, entry.place)?,
+            None => write!(text, "{offset}: none")?,
         }
+        write!(text, " by {}, ", found.comparisons)?;
     }
     Ok(text)
 }
 
+// Of three entries the middle one is compared, then the one below it or above it.
 #[test]
 fn an_offset_is_found_at_the_entry_below(rt: HostRuntime) {
-    let want = "8: none, 9: 4200 3, 24: 8500 4, 25: 12700 9, 26: 12700 9, ";
+    let want =
+        "8: none by 2, 9: 4200 3 by 2, 24: 8500 4 by 2, 25: 12700 9 by 2, 26: 12700 9 by 2, ";
     is(&rt, floors(rt.alloc(), &[8, 9, 24, 25, 26]), want);
 }
 
@@ -79,26 +83,55 @@ fn times(alloc: Global) -> Result<TimeIndex, Refusal> {
     Ok(index)
 }
 
-// The entries beside each of these.
+// The entries beside each of these, and how many entries were compared for the one below.
 fn beside(alloc: Global, asked: &[u64]) -> Result<String, Refusal> {
     let index = times(alloc)?;
     let mut text = String::new(alloc);
     for time in asked {
-        let below = index.floor(*time).map_or(0, |entry| entry.timestamp);
+        let found = index.floor(*time);
+        let below = found.entry.map_or(0, |entry| entry.timestamp);
         let above = index.ceiling(*time).map_or(0, |entry| entry.timestamp);
-        write!(text, "{below} {time} {above}, ")?;
+        write!(text, "{below} {time} {above} by {}, ", found.comparisons)?;
     }
     Ok(text)
 }
 
 #[test]
 fn a_time_is_found_between_two_entries(rt: HostRuntime) {
-    let want = "0 999 1000, 1001 1001 1001, 1001 1002 5000, 5000 5000 5000, 5000 5001 0, ";
+    let want = "0 999 1000 by 2, 1001 1001 1001 by 2, 1001 1002 5000 by 2, \
+        5000 5000 5000 by 2, 5000 5001 0 by 2, ";
     is(
         &rt,
         beside(rt.alloc(), &[999, 1_001, 1_002, 5_000, 5_001]),
         want,
     );
+}
+
+// How many entries are compared for the first of so many, and how many for the last.
+fn comparisons(alloc: Global, counts: &[u64]) -> Result<String, Refusal> {
+    let mut text = String::new(alloc);
+    for count in counts {
+        let mut index = TimeIndex::new(alloc);
+        for timestamp in 0..*count {
+            let _ = index.note(TimeEntry {
+                timestamp,
+                relative_offset: 0,
+                walk_from: 0,
+            })?;
+        }
+        let first = index.floor(0).comparisons;
+        let last = index.floor(u64::MAX).comparisons;
+        write!(text, "{count}: {first} {last}, ")?;
+    }
+    Ok(text)
+}
+
+// Of seven the middle one is compared, and of the three that are left, and the one that is left. Of eight the first
+// has four below the middle one, and so one comparison more; the last has three above it.
+#[test]
+fn each_comparison_halves_the_entries(rt: HostRuntime) {
+    let want = "0: 0 0, 1: 1 1, 7: 3 3, 8: 4 3, ";
+    is(&rt, comparisons(rt.alloc(), &[0, 1, 7, 8]), want);
 }
 
 // Each is a public call: it takes nothing, and its contract is a law.
