@@ -14,8 +14,8 @@ use kp_types::Offset;
 pub(crate) fn is_aborted(aborted: &[AbortedTransaction], producer: u64, offset: Offset) -> bool
     ensures { result ≡ hides aborted.now producer offset }
 {
-    let first = aborted.iter().find(|ended| ended.marker > offset
-        && (ended.producer == producer || ended.stable > offset));
+    let first = aborted.iter().find(|ended| (ended.producer == producer || ended.stable > offset)
+        && ended.marker > offset);
     match first {
         Some(ended) => ended.producer == producer && ended.first <= offset,
         None => false,
