@@ -68,6 +68,7 @@ impl Positions {
         }
         Some(least)
     }
+
     /// Whether the node may join the in-sync replicas of a leader with this high watermark, which began to lead at the offset
     /// `start` of its log: it has reported an end that is below neither. F23 where it hasn't. A node that no leader could
     /// have heard of, from 7 on, never may. O(1), and no memory (own rule; Kafka's leader asks for both bounds too).

@@ -32,7 +32,35 @@ impl KeptNode {
     ghost use Rattle.std.specs.Prelude.{◌≡◌, ◌≤◌, true};
     ghost use Rattle.kp_model.specs.Log.{IsBoundary};
     ghost use Rattle.kp_model.specs.Local.{is_down};
+    ghost use Rattle.kp_model.specs.World.{Down as ModelDown};
     ghost use Rattle.kp_types.specs.declared.refusal.Refusal.TheVariants.{Down as IsDown};
+
+    /// A node that is down, from a log that was closed elsewhere, as where it was read back from files: the log, settled up to
+    /// the high watermark at which the node went down and closed from its checkpoint, and how often the node was restarted
+    /// before. An answer of an earlier life is refused only where this number is that of the node's last life. O(1).
+    pub fn of(number: NodeId, kept: Kept, watermark: Offset, life: u64) -> KeptNode
+        requires boundary { IsBoundary kept.of.log watermark }
+        requires settled { kept.of.settled ≡ watermark }
+        requires passed { kept.from ≤ watermark }
+        ensures { result ≡ record {
+          number = number;
+          limits = kept.of.limits;
+          state = record {
+            log = kept.of.log;
+            watermark = watermark;
+            checkpoint = kept.from;
+            life = life;
+            mode = ModelDown;
+          };
+        } }
+    {
+        KeptNode {
+            number,
+            kept,
+            watermark,
+            life,
+        }
+    }
 
     /// What the node answers to every call but its restart: F28. O(1).
     pub fn refusal(&self) -> Refusal

@@ -3,7 +3,10 @@
 use crate::exchange_tests::is_one_of;
 use crate::played::{Call, played};
 use crate::shown::is;
-use kp_replica::IsrChange;
+use kp_log::PartitionLog;
+use kp_replica::{IsrChange, KeptNode, Replica};
+use kp_types::{Limits, MAX_BATCH, Refusal};
+use std::alloc::Global;
 
 const STOPPED: [Call; 14] = [
     Call::Elect(0),
@@ -112,4 +115,44 @@ fn a_node_without_room_starts_again(rt: HostRuntime) {
 fn a_restart_without_memory_keeps_the_node(rt: HostRuntime) {
     let found = played(rt.alloc(), 2, &NOTED, &AGAIN);
     is_one_of(&rt, found, &STARTED);
+}
+
+const LIMITS: Limits = Limits {
+    segment_bytes: 1024,
+    index_interval: 0,
+    max_batch: MAX_BATCH,
+};
+
+// A node with an empty log that is down, in this life.
+fn kept_in(alloc: Global, life: u64) -> KeptNode {
+    let log = PartitionLog::new(alloc, &LIMITS);
+    KeptNode::of(0, log.close(Vec::new(alloc), 0), 0, life)
+}
+
+// What two restarts answer, with a stop between them.
+fn restarted_twice(alloc: Global, life: u64) -> Result<String, Refusal> {
+    let mut text = String::new(alloc);
+    let mut kept = kept_in(alloc, life);
+    for _ in 0..2 {
+        kept = match Replica::restart(alloc, kept) {
+            Ok(node) => {
+                write!(text, "life {}, ", node.life())?;
+                node.stop()
+            }
+            Err((kept, refusal)) => {
+                write!(text, "{refusal} in life {}, ", kept.life())?;
+                kept
+            }
+        };
+    }
+    Ok(text)
+}
+
+#[test]
+fn a_node_stays_down_after_its_last_life(rt: HostRuntime) {
+    is(
+        &rt,
+        restarted_twice(rt.alloc(), u64::MAX - 1),
+        "life 18446744073709551615, F24 RecordFull in life 18446744073709551615, ",
+    );
 }
