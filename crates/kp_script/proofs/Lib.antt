@@ -7,6 +7,7 @@ pub mod Tracing
 pub mod Telling
 pub mod Refusing
 pub mod HexLaws
+pub mod HexText
 pub mod Values
 pub mod Senders
 pub mod Verbs

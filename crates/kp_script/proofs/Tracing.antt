@@ -1,5 +1,5 @@
 -- Laws of a text that grows word by word.
-use Rattle.std.proofs.Common.{◌≡◌, ℕ, suc, cond, ◌+◌, ◌<◌, ◌/◌, ◌%◌, Bool, true, false, List, [], ◌∷◌, ◌++◌, length, map, take, length-take-le, get_or, refl, sym, ap, ◌∙◌, arith, append_assoc, append-nil, add-zero}
+use Rattle.std.proofs.Common.{◌≡◌, ℕ, suc, cond, ◌+◌, ◌<◌, Bool, true, false, List, [], ◌∷◌, ◌++◌, length, map, take, length-take-le, get_or, refl, sym, ap, ◌∙◌, arith, append_assoc, append-nil, add-zero}
 use Rattle.std.proofs.lemmas.List.{take_more, length-map, map-append}
 use Rattle.std.specs.Prelude.{codes, is_ok, OnOk, Result, Ok, Err}
 use Rattle.std.specs.List.{join_with_byte, flat_map, zip}
@@ -8,7 +8,6 @@ use Rattle.std.proofs.lemmas.Bool.{false≢true}
 use Rattle.kp_control.specs.Set.{numbers_of}
 use Rattle.kp_model.specs.Event.{Line as ModelLine}
 use Rattle.kp_script.specs.Call.{spaced}
-use Rattle.kp_script.specs.Hex.{hex_digit, hex_text}
 use Rattle.kp_script.specs.Trace.{line_text, lines_text, nodes_text, trace_line, trace_text}
 use Rattle.kp_model.specs.Event.{Outcome}
 use Rattle.std.proofs.lemmas.List.Concat.{flat_map-append}
@@ -26,10 +25,6 @@ on_ok (Err e) p f = tt
 pub on_items : {T E P : Type 0} (r : Result T E) (now then else_then : List ℕ) → now ≡ cond (is_ok r) then else_then → (now ≡ then → P) → OnOk r P
 on_items (Ok x) now then else_then e f = f e
 on_items (Err y) now then else_then e f = tt
-
--- one byte more
-pub hex_more : (bytes : List ℕ) (i : ℕ) → i < length bytes → hex_text (take (i + 1) bytes) ≡ hex_text (take i bytes) ++ hex_text (get_or bytes i 0 ∷ [])
-hex_more bytes i lt = ap hex_text (take_more bytes i 0 lt) ∙ flat_map-append (λ byte. hex_digit (byte / 16) ∷ hex_digit (byte % 16) ∷ []) (take i bytes) (get_or bytes i 0 ∷ [])
 
 -- words with a byte before each but the first
 pub joined_as_pieces : (c : ℕ) (x : List ℕ) (xs : List (List ℕ)) → join_with_byte c (x ∷ xs) ≡ x ++ flat_map (λ y. c ∷ y) xs

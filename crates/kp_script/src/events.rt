@@ -11,7 +11,7 @@ ghost use Rattle.kp_script.specs.Told.{plain_record, Tells, TellsAll};
 ghost use Rattle.kp_script.specs.Seen.{seen_call, seen_line, seen_sender};
 
 use crate::call::{Call, Sender};
-use crate::hex::bytes_of;
+use crate::digits::bytes_of;
 use crate::script::Line;
 use crate::words::split_first_at;
 use bytes::Bytes;
@@ -155,28 +155,24 @@ fn event_of<'a>(
     Ok(Event::Acts { node, act })
 }
 
-/// Puts the events of these lines, in their order, in place of those in `events`. Takes time and memory proportional to
-/// the lines. F33.
+/// The events of these lines, in their order. Takes time and memory proportional to the lines. F33.
 pub(crate) fn events_of<'a>(
     alloc: Global,
     speller: &mut Speller,
     lines: &[Line<'a>],
     count: NodeId,
-    events: &mut Vec<Event>,
-) -> Result<(), Refusal>
+) -> Result<Vec<Event>, Refusal>
     requires { AllByRecursion (λ call. IsCall count call.1) (map seen_line lines.now) }
-    ensures told { OnOk result
-        ((max : ℕ) → TellsAll max (map (λ call.
-        call.1) (map seen_line lines.now)) events.new.items) }
-    ensures nodes { OnOk result (AllByRecursion (IsAmong count) events.new.items) }
-    ensures markers { OnOk result (AllByRecursion HasMarker events.new.items) }
+    ensures told { IfOk result (λ events. (max : ℕ)
+        → TellsAll max (map (λ call. call.1) (map seen_line lines.now)) events.items) }
+    ensures nodes { IfOk result (λ events. AllByRecursion (IsAmong count) events.items) }
+    ensures markers { IfOk result (λ events. AllByRecursion HasMarker events.items) }
     ensures only { IfErr result (λ refusal. refusal ≡ Memory) }
 {
     let mut parts = Vec::new(alloc);
-    events.clear();
-    events.reserve(lines.len())?;
+    let mut events = Vec::with_capacity(alloc, lines.len())?;
     for line in lines {
         events.push(event_of(alloc, speller, &mut parts, &line.call, count)?)?;
     }
-    Ok(())
+    Ok(events)
 }

@@ -12,7 +12,7 @@ ghost use Rattle.kp_script.specs.Read.{sender_front, marker_text, AreFields, Are
 ghost use Rattle.kp_script.specs.Seen.{seen_sender, seen_call};
 
 use crate::call::{Call, GREATEST_TIME, Sender};
-use crate::hex::is_hex;
+use crate::digits::is_hex;
 use crate::words::{after, number_below, number_then, signed_then};
 use kp_marker::{Kind, Marker};
 use kp_types::{GREATEST_OFFSET, NodeId, Offset};

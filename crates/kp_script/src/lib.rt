@@ -4,9 +4,9 @@
 #![tactic(auto)]
 
 mod call;
+mod digits;
 mod events;
 mod fields;
-mod hex;
 mod lines;
 mod run;
 mod script;

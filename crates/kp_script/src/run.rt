@@ -17,19 +17,18 @@ use crate::script::{Line, parse};
 use crate::trace::push_trace;
 use kp_batch::Speller;
 use kp_types::{Counted, Limits, MAX_BATCH, NodeId, Refusal};
-use kp_world::{Answer, Event, World};
+use kp_world::{Answer, World};
 use std::alloc::Global;
 use std::io::{Read, Write};
 
 /// How many events are made and played before their lines are written.
 const EVENTS_AT_ONCE: usize = 512;
 
-/// What a run uses again and again: what spells its batches, and the lists of some events, of their answers, and of the
-/// text of their lines.
+/// What a run uses again and again: what spells its batches, and the lists of the answers to some events, and of the text of
+/// their lines.
 #[derive(Drop)]
 struct Lists {
     speller: Speller,
-    events: Vec<Event>,
     outcomes: Vec<Result<Answer, Refusal>>,
     text: Vec<u8>,
 }
@@ -81,8 +80,8 @@ fn play_lines<W: Write>(
     ensures only { IfErr result IsDeviceFault }
     ensures counted { CountsFaults result (faults_of writer.old) (faults_of writer.new) }
 {
-    events_of(alloc, &mut lists.speller, lines, count, &mut lists.events)?;
-    world.play(alloc, &lists.events, &mut lists.outcomes)?;
+    let events = events_of(alloc, &mut lists.speller, lines, count)?;
+    world.play(alloc, events, &mut lists.outcomes)?;
     lists.text.clear();
     push_trace(&mut lists.text, lines, &lists.outcomes)?;
     writer.write_all(&lists.text)?;
@@ -125,7 +124,6 @@ pub fn run_script<R: Read, W: Write>(
     let mut world = World::start(alloc, count, &limits_of(&script.header))?;
     let mut lists = Lists {
         speller: Speller::new(alloc),
-        events: Vec::new(alloc),
         outcomes: Vec::new(alloc),
         text: Vec::new(alloc),
     };

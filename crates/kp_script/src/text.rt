@@ -1,8 +1,8 @@
 //! The words of a text that grows: numbers in decimal digits, and bytes in hexadecimal ones.
 
-ghost use Rattle.std.specs.Prelude.{◌≡◌, ◌<◌, ◌++◌, OnOk};
+ghost use Rattle.std.specs.Prelude.{◌≡◌, ◌++◌, OnOk};
 ghost use Rattle.std.specs.Fmt.{decimal};
-ghost use Rattle.kp_script.specs.Hex.{hex_digit, hex_text};
+ghost use Rattle.kp_script.specs.Hex.{hex_text};
 
 use itoa::Buffer;
 use std::alloc::AllocError;
@@ -23,25 +23,14 @@ pub(crate) fn push_named(text: &mut Vec<u8>, word: &[u8], number: u64) -> Result
     push_number(text, number)
 }
 
-/// The digit of a number below 16: 0 to 9, then a to f.
-fn hex_digit(number: u8) -> u8
-    requires { number < 16 }
-    ensures { result ≡ hex_digit number }
-{
-    if number < 10 {
-        b'0' + number
-    } else {
-        b'a' + (number - 10)
-    }
-}
-
 /// Appends each byte as two hexadecimal digits. Room for all of them is made at once.
 pub(crate) fn push_hex(text: &mut Vec<u8>, bytes: &[u8]) -> Result<(), AllocError>
     ensures { OnOk result (text.new.items ≡ text.old.items ++ hex_text bytes.now) }
 {
-    text.reserve(bytes.len().saturating_mul(2))?;
-    for byte in bytes {
-        text.extend_from_slice(&[hex_digit(*byte / 16), hex_digit(*byte % 16)])?;
+    let start = text.len();
+    text.resize(start.saturating_add(bytes.len().saturating_mul(2)), 0)?;
+    match hex::encode_to_slice(bytes, &mut text[start..]) {
+        Ok(()) => Ok(()),
+        Err(_) => Err(AllocError), // never: the room has two bytes for each
     }
-    Ok(())
 }

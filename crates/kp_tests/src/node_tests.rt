@@ -115,11 +115,11 @@ fn a_node_cuts_its_log_by_its_limits(rt: HostRuntime) {
 }
 
 // The answers of a run, also of one that stopped, as the trace of events that name node 5; and the whole of each receipt.
-fn played(alloc: Global, count: NodeId, events: &[Event]) -> Result<String, Refusal>
+fn played(alloc: Global, count: NodeId, events: Vec<Event>) -> Result<String, Refusal>
     requires some { 0 < count }
     requires most { count ≤ 7 }
-    requires nodes { AllByRecursion (IsAmong count) events.now }
-    requires markers { AllByRecursion HasMarker events.now }
+    requires nodes { AllByRecursion (IsAmong count) events.items }
+    requires markers { AllByRecursion HasMarker events.items }
 {
     match run(alloc, count, &LIMITS, events) {
         Ok(trace) => told_run(alloc, &trace),
@@ -156,7 +156,7 @@ fn acts(node: NodeId, act: Act) -> Event
 fn seven(alloc: Global) -> Result<String, Refusal> {
     let bytes = bytes_of(alloc, "p10")?;
     let again = bytes.share()?;
-    let events = [
+    let events = vec![in alloc;
         acts(6, Act::Show),
         Event::Elect { node: 6 },
         acts(6, Act::Adopt),
@@ -169,8 +169,8 @@ fn seven(alloc: Global) -> Result<String, Refusal> {
         Event::Elect { node: 0 },
         acts(0, Act::Adopt),
         acts(6, Act::Adopt),
-    ];
-    played(alloc, 7, &events)
+    ]?;
+    played(alloc, 7, events)
 }
 
 #[test]
@@ -200,7 +200,7 @@ fn three_twice(alloc: Global) -> Result<String, Refusal> {
     let bytes = bytes_of(alloc, "d9.0.0.3")?;
     let again = bytes.share()?;
     let marker = MARKER;
-    let events = [
+    let events = vec![in alloc;
         Event::Elect { node: 0 },
         acts(0, Act::Adopt),
         acts(0, Act::Mark { marker }),
@@ -212,8 +212,8 @@ fn three_twice(alloc: Global) -> Result<String, Refusal> {
         acts(0, Act::Raise),
         acts(0, Act::Committed { from: 2 }),
         acts(0, Act::Read { from: 3 }),
-    ];
-    played(alloc, 1, &events)
+    ]?;
+    played(alloc, 1, events)
 }
 
 // The duplicate's receipt has the last offset and the epoch of the batch that stands.

@@ -66,19 +66,19 @@ fn alter(
     Ok(Answer::Changed(made))
 }
 
-/// The node does this, under this record of the controller, which a change of the in-sync replicas makes another, where its log has no epoch above the record's, as no log of
-/// a run has. F28 where the node is down. An `Err` says that bytes couldn't be shared, or that there was no room for a
-/// message, and nothing has happened. The cost is that of the `Replica`'s call, or of what is read.
+/// The node does this, under this record of the controller, which a change of the in-sync replicas makes another, where its
+/// log has no epoch above the record's, as no log of a run has. F28 where the node is down. An `Err` says that there was no
+/// room for a message, and nothing has happened. The cost is that of the `Replica`'s call, or of what is read.
 pub(crate) fn act(
     alloc: Global,
     controller: &mut LeaderAndIsr,
     messages: &mut Vec<Letter>,
     place: &mut Place,
-    act: &Act,
+    act: Act,
 ) -> Result<Result<Answer, Refusal>, AllocError>
-    requires { HandsMarker act.now }
+    requires { HandsMarker act }
     ensures moves { IfOk result (λ outcome. (a : ModelAct)
-        → IsAct (member_at place.old).limits.max_batch act.now a
+        → IsAct (member_at place.old).limits.max_batch act a
         → IsWithin (record_of controller.old) (member_at place.old).state.log
         → Moves (record_of controller.old) (record_of controller.new)
         (map letter_in messages.old.items) (member_at place.old) (member_at place.new) a outcome
@@ -100,23 +100,20 @@ pub(crate) fn act(
     };
     let outcome = match act {
         Act::Adopt => replica.adopt(controller).map(Answer::Adopted),
-        Act::Produce { bytes } => {
-            let shared = bytes.share()?;
-            replica.produce(shared).map(Answer::Appended)
-        }
-        Act::Mark { marker } => replica.mark(alloc, marker).map(Answer::Appended),
+        Act::Produce { bytes } => replica.produce(bytes).map(Answer::Appended),
+        Act::Mark { marker } => replica.mark(alloc, &marker).map(Answer::Appended),
         Act::Ask => {
             messages.reserve(1)?;
             ask(messages, replica)
         }
         Act::Raise => replica.raise().map(Answer::Watermark),
-        Act::Alter { change } => alter(controller, replica, *change),
+        Act::Alter { change } => alter(controller, replica, change),
         Act::Checkpoint => Ok(Answer::Checkpoint(replica.checkpoint())),
         Act::Stop => place.stop(),
         Act::Restart => Err(replica.refusal()),
         Act::Show => Ok(shown(replica)),
-        Act::Read { from } => read_lines(alloc, replica, *from).map(Answer::Lines),
-        Act::Committed { from } => committed_lines(alloc, replica, *from).map(Answer::Lines),
+        Act::Read { from } => read_lines(alloc, replica, from).map(Answer::Lines),
+        Act::Committed { from } => committed_lines(alloc, replica, from).map(Answer::Lines),
     };
     Ok(outcome)
 }

@@ -118,50 +118,48 @@ impl World {
         }
     }
 
-    /// Makes the event happen. An `Err` says that its bytes couldn't be shared, or that there was no room for a message, and
-    /// nothing has happened.
-    fn step(&mut self, alloc: Global, event: &Event) -> Result<Result<Answer, Refusal>, AllocError>
-        requires node { IsAmong (length self.old.members) event.now }
-        requires marker { HasMarker event.now }
+    /// Makes the event happen. An `Err` says that there was no room for a message, and nothing has happened.
+    fn step(&mut self, alloc: Global, event: Event) -> Result<Result<Answer, Refusal>, AllocError>
+        requires node { IsAmong (length self.old.members) event }
+        requires marker { HasMarker event }
         ensures step { IfOk result (λ outcome. (limits : LogLimits) (e : ModelEvent)
-            → IsEvent limits.max_batch event.now e
+            → IsEvent limits.max_batch event e
             → LeadOn limits self.old (e ∷ []) (outcome ∷ []) self.new) }
         ensures err { OnErr result (self.new ≡ self.old) }
         ensures count { length self.new.members ≡ length self.old.members }
     {
         kp_model::epochs_are_elected();
         match event {
-            Event::Elect { node } => Ok(self.elect(*node)),
+            Event::Elect { node } => Ok(self.elect(node)),
             Event::Acts { node, act: what } => {
-                let place = &mut self.places[usize::from(*node)];
+                let place = &mut self.places[usize::from(node)];
                 act(alloc, &mut self.controller, &mut self.messages, place, what)
             }
-            Event::Deliver { number } => self.deliver(alloc, *number),
+            Event::Deliver { number } => self.deliver(alloc, number),
         }
     }
 
     /// Makes the events happen, one after another, and puts what each of them answers into `outcomes`, in place of what
     /// stood there; a refused event's refusal stands there, and the events go on. So the events of one run may come a
-    /// few at a time, with one list for the answers of each few. An `Err` says that the list of answers, a share of an
-    /// event's bytes, or room for one message more, couldn't be had: then the events so far have happened, and their answers
-    /// are there. The cost of an event doesn't grow with the events before it, but for what the calls of `Replica` say of
+    /// few at a time, with one list for the answers of each few. An `Err` says that the list of answers, or room for one
+    /// message more, couldn't be had: then the events so far have happened, and their answers are there. The cost of an event doesn't grow with the events before it, but for what the calls of `Replica` say of
     /// their cost, and for a read, which costs what it reads. Every message stays: a request is some numbers, and an answer
     /// holds shares of its batches.
     pub fn play(
         &mut self,
         alloc: Global,
-        events: &[Event],
+        events: Vec<Event>,
         outcomes: &mut Vec<Result<Answer, Refusal>>,
     ) -> Result<(), AllocError>
-        requires nodes { AllByRecursion (IsAmong (length self.old.members)) events.now }
-        requires markers { AllByRecursion HasMarker events.now }
+        requires nodes { AllByRecursion (IsAmong (length self.old.members)) events.items }
+        requires markers { AllByRecursion HasMarker events.items }
         ensures played { OnOk result ((limits : LogLimits) (es : List ModelEvent)
-            → AreEvents limits.max_batch events.now es
+            → AreEvents limits.max_batch events.items es
             → LeadOn limits self.old es outcomes.new.items self.new) }
         ensures stopped { OnErr result ((limits : LogLimits) (es : List ModelEvent)
-            → AreEvents limits.max_batch events.now es
+            → AreEvents limits.max_batch events.items es
             → (k : ℕ) × LeadOn limits self.old (take k es) outcomes.new.items self.new) }
-        ensures answered { OnOk result (length outcomes.new.items ≡ length events.now) }
+        ensures answered { OnOk result (length outcomes.new.items ≡ length events.items) }
         ensures count { length self.new.members ≡ length self.old.members }
     {
         outcomes.clear();
@@ -178,25 +176,25 @@ impl World {
 }
 
 /// Runs the events from the start of `count` nodes on, and answers each of them. A refused event stands in
-/// the trace, and the run goes on. [`Stopped`] comes only where the run's own lists, those of nodes, answers and messages, or
-/// its share of an event's bytes, couldn't be had, and holds the answers so far. Nodes have the numbers from 0 on. The cost is that of
+/// the trace, and the run goes on. [`Stopped`] comes only where the run's own lists, those of nodes, answers and messages,
+/// couldn't be had, and holds the answers so far. Nodes have the numbers from 0 on. The cost is that of
 /// [`World::play`].
 pub fn run(
     alloc: Global,
     count: NodeId,
     limits: &Limits,
-    events: &[Event],
+    events: Vec<Event>,
 ) -> Result<Trace, Stopped>
     requires some { 0 < count }
     requires most { count ≤ 7 }
-    requires nodes { AllByRecursion (IsAmong count) events.now }
-    requires markers { AllByRecursion HasMarker events.now }
+    requires nodes { AllByRecursion (IsAmong count) events.items }
+    requires markers { AllByRecursion HasMarker events.items }
     ensures played { IfOk result (λ trace. (es : List ModelEvent)
-        → AreEvents limits.now.max_batch events.now es
+        → AreEvents limits.now.max_batch events.items es
         → IsAnswered count es trace.outcomes.items) }
-    ensures answered { IfOk result (λ trace. length trace.outcomes.items ≡ length events.now) }
+    ensures answered { IfOk result (λ trace. length trace.outcomes.items ≡ length events.items) }
     ensures stopped { IfErr result (λ stopped. (es : List ModelEvent)
-        → AreEvents limits.now.max_batch events.now es
+        → AreEvents limits.now.max_batch events.items es
         → (k : ℕ) × IsAnswered count (take k es) stopped.trace.outcomes.items) }
 {
     kp_model::runs_are_safe();

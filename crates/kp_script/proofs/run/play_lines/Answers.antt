@@ -1,4 +1,4 @@
-use Rattle.std.proofs.Common.{◌∙◌, List, map, ap, subst, arith}
+use Rattle.std.proofs.Common.{◌∙◌, List, map, refl, ap, subst, arith}
 use Rattle.std.specs.Prelude.{Result}
 use Rattle.std.specs.Io.KnownBytes.{Appends}
 use Rattle.kp_types.specs.Devices.{AppendsFront, device_of}
@@ -12,37 +12,37 @@ use Rattle.kp_script.proofs.run.play_lines.Goals as goal
 
 pub push_trace-requires : goal.push_trace-requires
 push_trace-requires g c =
-    as_many_answers c.args.lines.now c.events_of.new.events.items c.deref.result.now c.play.new.outcomes.items c.deref-2.result.now (c.in_ok-events_of.ensures.told largest_batch)
-    c.deref.ensures.value c.in_ok-play.ensures.answered c.deref-2.ensures.value
+    as_many_answers c.args.lines.now c.in_ok-events.events.items c.in_ok-events.events.items c.play.new.outcomes.items c.deref.result.now (c.in_ok-events.ensures.told largest_batch)
+    refl c.in_ok-play.ensures.answered c.deref.ensures.value
 
 pub returns-in_err-write_all-clause-begun : goal.returns-in_err-write_all-clause-begun
 returns-in_err-write_all-clause-begun g c = λ e. record {
   new = c.play.new.self;
   answers = c.play.new.outcomes.items;
   lead =
-      leads_on (map seen_line c.args.lines.now) c.events_of.new.events.items c.deref.result.now c.play.new.outcomes.items c.args.world.now c.play.new.self
-      (c.in_ok-events_of.ensures.told largest_batch) c.deref.ensures.value c.in_ok-play.ensures.played;
+      leads_on (map seen_line c.args.lines.now) c.in_ok-events.events.items c.in_ok-events.events.items c.play.new.outcomes.items c.args.world.now c.play.new.self
+      (c.in_ok-events.ensures.told largest_batch) refl c.in_ok-play.ensures.played;
   begun =
       subst (AppendsFront (g.W.Write.contents (device_of c.args.writer.now)) (g.W.Write.contents (device_of c.write_all.new.self)))
-      (text_of c.deref-3.result.now c.push_trace.new.text.items c.clear.new.self.items c.args.lines.now c.deref-2.result.now c.play.new.outcomes.items c.deref-3.ensures.value
-      c.in_ok-push_trace.ensures c.clear.ensures.items c.deref-2.ensures.value) c.in_err-write_all.ensures.err;
+      (text_of c.deref-2.result.now c.push_trace.new.text.items c.clear.new.self.items c.args.lines.now c.deref.result.now c.play.new.outcomes.items c.deref-2.ensures.value
+      c.in_ok-push_trace.ensures c.clear.ensures.items c.deref.ensures.value) c.in_err-write_all.ensures.err;
 }
 
 pub returns-clause-played : goal.returns-clause-played
 returns-clause-played g c = record {
   answers = c.play.new.outcomes.items;
   lead =
-      leads_on (map seen_line c.args.lines.now) c.events_of.new.events.items c.deref.result.now c.play.new.outcomes.items c.args.world.now c.play.new.self
-      (c.in_ok-events_of.ensures.told largest_batch) c.deref.ensures.value c.in_ok-play.ensures.played;
-  refused_is = c.count_refused.ensures.count ∙ ap (λ (os : List (Result Answer Refusal)). refusals_in (map outcome_of os)) c.deref-4.ensures.value;
+      leads_on (map seen_line c.args.lines.now) c.in_ok-events.events.items c.in_ok-events.events.items c.play.new.outcomes.items c.args.world.now c.play.new.self
+      (c.in_ok-events.ensures.told largest_batch) refl c.in_ok-play.ensures.played;
+  refused_is = c.count_refused.ensures.count ∙ ap (λ (os : List (Result Answer Refusal)). refusals_in (map outcome_of os)) c.deref-3.ensures.value;
   written =
       subst (Appends (g.W.Write.contents (device_of c.args.writer.now)) (g.W.Write.contents (device_of c.write_all.new.self)))
-      (text_of c.deref-3.result.now c.push_trace.new.text.items c.clear.new.self.items c.args.lines.now c.deref-2.result.now c.play.new.outcomes.items c.deref-3.ensures.value
-      c.in_ok-push_trace.ensures c.clear.ensures.items c.deref-2.ensures.value) c.in_ok-write_all.ensures.ok;
+      (text_of c.deref-2.result.now c.push_trace.new.text.items c.clear.new.self.items c.args.lines.now c.deref.result.now c.play.new.outcomes.items c.deref-2.ensures.value
+      c.in_ok-push_trace.ensures c.clear.ensures.items c.deref.ensures.value) c.in_ok-write_all.ensures.ok;
 }
 
 pub returns-clause-few : goal.returns-clause-few
 returns-clause-few g c =
-    let all = as_many_answers c.args.lines.now c.events_of.new.events.items c.deref.result.now c.play.new.outcomes.items c.deref-4.result.now (c.in_ok-events_of.ensures.told largest_batch)
-    c.deref.ensures.value c.in_ok-play.ensures.answered c.deref-4.ensures.value in
+    let all = as_many_answers c.args.lines.now c.in_ok-events.events.items c.in_ok-events.events.items c.play.new.outcomes.items c.deref-3.result.now (c.in_ok-events.ensures.told largest_batch)
+    refl c.in_ok-play.ensures.answered c.deref-3.ensures.value in
     omega (arith, all, c.count_refused.ensures.few)

@@ -31,7 +31,7 @@ use Rattle.kp_world.proofs.Mapped.{mapped}
 use Rattle.kp_world.proofs.Downs.{NeedsUp, refuses_down, refuses_up}
 use Rattle.kp_world.proofs.Moving.{quietly, refusing}
 use Rattle.kp_world.proofs.acting.act.Goals as goal
-use Rattle.kp_world.proofs.acting.act.Goals.{in-Adopt, in-Produce+in_ok-shared-in-Produce, in-Mark, in-Ask+in_ok-reserve-in-Ask, in-Raise, in-Alter, in-Checkpoint, in-Stop, in-Restart-act, in-Show, in-Read, in-Committed}
+use Rattle.kp_world.proofs.acting.act.Goals.{in-Adopt, in-Produce, in-Mark, in-Ask+in_ok-reserve-in-Ask, in-Raise, in-Alter, in-Checkpoint, in-Stop, in-Restart-act, in-Show, in-Read, in-Committed}
 
 -- what a node did and sent nothing, where act, answer and what is left are written in other words
 in_other_words : (c : LeaderAndIsr) (letters after : List Letter) (old new left : Member) (a b : model.Act) (outcome made : Result Answer Refusal) (reply : model.Reply) → a ≡ b → new ≡ left
@@ -55,27 +55,26 @@ in_other_words_sent c k made_record letters after then old new left a b outcome 
 pub returns-clause-moves : goal.returns-clause-moves
 returns-clause-moves c = λ a.
     let r = record_of c.args.controller.now in
-    let k = record_of c.match-act-2.controller in
+    let k = record_of c.match-act-4.controller in
     let old = c.in-Up.replica in
     let max = old.limits.max_batch in
-    let new = (member_at c.match-act-2.place) in
+    let new = (member_at c.match-act-4.place) in
     let letters = map letter_in c.args.messages.now.items in
-    let after = map letter_in c.match-act-2.messages.items in
-    let outcome = c.match-act-2.outcome in
-    subst (λ (p : Place). IsAct (member_at p).limits.max_batch c.args.act.now a → IsWithin r (member_at p).state.log → Moves r k letters (member_at p) new a outcome after) (sym c.in-Up.is)
-    (λ is within. elim c.match-act-2.branch [
+    let after = map letter_in c.match-act-4.messages.items in
+    let outcome = c.match-act-4.outcome in
+    subst (λ (p : Place). IsAct (member_at p).limits.max_batch c.args.act a → IsWithin r (member_at p).state.log → Moves r k letters (member_at p) new a outcome after) (sym c.in-Up.is)
+    (λ is within. elim c.match-act-4.branch [
       | in-Adopt w ↦
           in_other_words r letters after old new w.adopt.new.self a model.Adopt outcome w.map-outcome.result (role_reply w.adopt.result)
           (subst (λ (x : Act). IsAct max x a) w.in-Adopt.is is) (ap member_at w.place-is) w.outcome-is
           (mapped Role answers.Adopted role_reply _ w.adopt.result w.map-outcome.result (λ x a h. h) (λ x. refl) (λ f. refl) w.map-outcome.ensures.cases)
           (ap (λ (v : _). map letter_in v.items) w.messages-is) (w.adopt.ensures.event within) k (ap record_of w.controller-is)
-      | in-Produce+in_ok-shared-in-Produce w ↦
+      | in-Produce w ↦
           (let made = subst (λ (x : Act). IsAct max x a) w.in-Produce.is is in
-          let offered = subst (λ (bytes : List ℕ). IsOffer max bytes made.0) (sym w.in_ok-shared-in-Produce.ensures) made.1 in
           in_other_words r letters after old new w.produce.new.self a (model.Produce made.0) outcome w.map-outcome-in-Produce.result (receipt_reply w.produce.result)
           made.2 (ap member_at w.place-is) w.outcome-is
           (mapped Receipt answers.Appended receipt_reply _ w.produce.result w.map-outcome-in-Produce.result (λ x a h. h) (λ x. refl) (λ f. refl) w.map-outcome-in-Produce.ensures.cases)
-          (ap (λ (v : _). map letter_in v.items) w.messages-is) (w.produce.ensures.event made.0 offered r) k (ap record_of w.controller-is))
+          (ap (λ (v : _). map letter_in v.items) w.messages-is) (w.produce.ensures.event made.0 made.1 r) k (ap record_of w.controller-is))
       | in-Mark w ↦
           in_other_words r letters after old new w.mark.new.self a (mark_of w.in-Mark.marker) outcome w.map-outcome-in-Mark.result (receipt_reply w.mark.result)
           (subst (λ (x : Act). IsAct max x a) w.in-Mark.is is) (ap member_at w.place-is) w.outcome-is
@@ -150,42 +149,42 @@ marker_kept body log r receipt is h =
     (named.batch, named.stands, named.named)
 
 pub returns-clause-receipt : goal.returns-clause-receipt
-returns-clause-receipt c = elim c.match-act-2.branch [
+returns-clause-receipt c = elim c.match-act-4.branch [
   | in-Adopt w ↦
-      in_log (member_at c.match-act-2.place) w.adopt.new.self c.match-act-2.outcome w.map-outcome.result (ap member_at w.place-is) w.outcome-is
+      in_log (member_at c.match-act-4.place) w.adopt.new.self c.match-act-4.outcome w.map-outcome.result (ap member_at w.place-is) w.outcome-is
       (kept Role answers.Adopted _ w.adopt.result w.map-outcome.result (λ x is. tt) w.map-outcome.ensures.cases)
-  | in-Produce+in_ok-shared-in-Produce w ↦
-      in_log (member_at c.match-act-2.place) w.produce.new.self c.match-act-2.outcome w.map-outcome-in-Produce.result (ap member_at w.place-is) w.outcome-is
+  | in-Produce w ↦
+      in_log (member_at c.match-act-4.place) w.produce.new.self c.match-act-4.outcome w.map-outcome-in-Produce.result (ap member_at w.place-is) w.outcome-is
       (kept Receipt answers.Appended _ w.produce.result w.map-outcome-in-Produce.result
       (λ receipt is. batch_kept c.in-Up.replica.limits.max_batch _ w.produce.new.self.state.log w.produce.result receipt is w.produce.ensures.receipt) w.map-outcome-in-Produce.ensures.cases)
   | in-Mark w ↦
-      in_log (member_at c.match-act-2.place) w.mark.new.self c.match-act-2.outcome w.map-outcome-in-Mark.result (ap member_at w.place-is) w.outcome-is
+      in_log (member_at c.match-act-4.place) w.mark.new.self c.match-act-4.outcome w.map-outcome-in-Mark.result (ap member_at w.place-is) w.outcome-is
       (kept Receipt answers.Appended _ w.mark.result w.map-outcome-in-Mark.result
       (λ receipt is. marker_kept (body_of w.in-Mark.marker) w.mark.new.self.state.log w.mark.result receipt is w.mark.ensures.receipt) w.map-outcome-in-Mark.ensures.cases)
   | in-Ask+in_ok-reserve-in-Ask w ↦
-      in_log (member_at c.match-act-2.place) c.in-Up.replica c.match-act-2.outcome w.ask-outcome.result (ap member_at w.place-is) w.outcome-is
+      in_log (member_at c.match-act-4.place) c.in-Up.replica c.match-act-4.outcome w.ask-outcome.result (ap member_at w.place-is) w.outcome-is
       (w.ask-outcome.ensures.plain c.in-Up.replica.state.log)
   | in-Raise w ↦
-      in_log (member_at c.match-act-2.place) w.raise.new.self c.match-act-2.outcome w.map-outcome-in-Raise.result (ap member_at w.place-is) w.outcome-is
+      in_log (member_at c.match-act-4.place) w.raise.new.self c.match-act-4.outcome w.map-outcome-in-Raise.result (ap member_at w.place-is) w.outcome-is
       (kept ℕ answers.Watermark _ w.raise.result w.map-outcome-in-Raise.result (λ x is. tt) w.map-outcome-in-Raise.ensures.cases)
   | in-Alter w ↦
-      in_log (member_at c.match-act-2.place) w.alter-outcome.new.replica c.match-act-2.outcome w.alter-outcome.result (ap member_at w.place-is) w.outcome-is
+      in_log (member_at c.match-act-4.place) w.alter-outcome.new.replica c.match-act-4.outcome w.alter-outcome.result (ap member_at w.place-is) w.outcome-is
       (w.alter-outcome.ensures.plain w.alter-outcome.new.replica.state.log)
   | in-Checkpoint w ↦
-      in_log (member_at c.match-act-2.place) w.checkpoint.new.self c.match-act-2.outcome (Ok (answers.Checkpoint w.checkpoint.result)) (ap member_at w.place-is) w.outcome-is tt
+      in_log (member_at c.match-act-4.place) w.checkpoint.new.self c.match-act-4.outcome (Ok (answers.Checkpoint w.checkpoint.result)) (ap member_at w.place-is) w.outcome-is tt
   | in-Stop w ↦
-      in_log (member_at c.match-act-2.place) (member_at w.stop-outcome.new.self) c.match-act-2.outcome w.stop-outcome.result (ap member_at w.place-is) w.outcome-is
+      in_log (member_at c.match-act-4.place) (member_at w.stop-outcome.new.self) c.match-act-4.outcome w.stop-outcome.result (ap member_at w.place-is) w.outcome-is
       (w.stop-outcome.ensures.plain (member_at w.stop-outcome.new.self).state.log)
   | in-Restart-act w ↦
-      in_log (member_at c.match-act-2.place) c.in-Up.replica c.match-act-2.outcome (Err w.refusal.result) (ap member_at w.place-is) w.outcome-is tt
+      in_log (member_at c.match-act-4.place) c.in-Up.replica c.match-act-4.outcome (Err w.refusal.result) (ap member_at w.place-is) w.outcome-is tt
   | in-Show w ↦
-      in_log (member_at c.match-act-2.place) c.in-Up.replica c.match-act-2.outcome (Ok w.shown.result) (ap member_at w.place-is) w.outcome-is
+      in_log (member_at c.match-act-4.place) c.in-Up.replica c.match-act-4.outcome (Ok w.shown.result) (ap member_at w.place-is) w.outcome-is
       (w.shown.ensures.plain c.in-Up.replica.state.log)
   | in-Read w ↦
-      in_log (member_at c.match-act-2.place) c.in-Up.replica c.match-act-2.outcome w.map-outcome-in-Read.result (ap member_at w.place-is) w.outcome-is
+      in_log (member_at c.match-act-4.place) c.in-Up.replica c.match-act-4.outcome w.map-outcome-in-Read.result (ap member_at w.place-is) w.outcome-is
       (kept (List ModelLine) answers.Lines _ w.read_lines.result w.map-outcome-in-Read.result (λ x is. tt) w.map-outcome-in-Read.ensures.cases)
   | in-Committed w ↦
-      in_log (member_at c.match-act-2.place) c.in-Up.replica c.match-act-2.outcome w.map-outcome-in-Committed.result (ap member_at w.place-is) w.outcome-is
+      in_log (member_at c.match-act-4.place) c.in-Up.replica c.match-act-4.outcome w.map-outcome-in-Committed.result (ap member_at w.place-is) w.outcome-is
       (kept (List ModelLine) answers.Lines _ w.committed_lines.result w.map-outcome-in-Committed.result (λ x is. tt) w.map-outcome-in-Committed.ensures.cases)
 ]
 
@@ -229,4 +228,4 @@ returns-in_default-clause-moves c = λ a is within.
     subst (λ (p : Place). Moves r r letters (member_at p) kept a (Err refusal) letters) (sym c.in-Down.is)
     (refusing r letters letters kept kept a refusal
     (refuses_down r kept a refusal c.refusal-refusal.ensures.down c.refusal-refusal.ensures.value
-    (needs_up (member_at c.args.place.now).limits.max_batch c.args.act.now a is c.in_default.not-Restart)) refl)
+    (needs_up (member_at c.args.place.now).limits.max_batch c.args.act a is c.in_default.not-Restart)) refl)

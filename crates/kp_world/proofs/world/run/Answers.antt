@@ -17,7 +17,7 @@ returns-in_default-clause-stopped c = λ es are. (
 
 pub play-played-requires-clause-nodes : goal.play-played-requires-clause-nodes
 play-played-requires-clause-nodes c =
-    subst (λ (n : ℕ). AllByRecursion (IsAmong n) c.args.events.now) (sym c.in-Ok.ensures.count) c.requires.nodes
+    subst (λ (n : ℕ). AllByRecursion (IsAmong n) c.args.events.items) (sym c.in-Ok.ensures.count) c.requires.nodes
 
 -- the start
 started : (c : In-Ok) → IsReached c.args.count c.args.limits.now [] [] c.in-Ok.world

@@ -1,4 +1,5 @@
-use Rattle.std.proofs.Common.{◌≡◌, ◌≤◌, List, length, take, vec_capacity}
+use Rattle.std.proofs.Common.{◌≡◌, ◌≤◌, ◌++◌, List, length, vec_capacity}
+use Rattle.std.specs.Vec.Iter.{into_iter_items, into_iter_len}
 use Rattle.kp_types.specs.declared.limits.Limits.{Limits}
 use Rattle.kp_model.specs.Event.{Event}
 use Rattle.kp_world.specs.Events.{AreEvents}
@@ -8,7 +9,9 @@ use Rattle.kp_world.proofs.world.World.play.Given as goal
 abbrev pub invariant-loop-event : goal.invariant-loop-event
 invariant-loop-event l = record {
   count : length l.self.members ≡ length l.fn.self.members;
-  answered : length l.outcomes.items ≡ l.event-index;
-  room : length l.events ≤ vec_capacity l.outcomes;
-  lead : (limits : Limits) (es : List Event) → AreEvents limits.max_batch (take l.event-index l.events) es → LeadOn limits l.fn.self es l.outcomes.items l.self;
+  split : l.fn.events.items ≡ l.yielded ++ into_iter_items l.event-iterator;
+  sized : into_iter_len l.event-iterator ≡ length (into_iter_items l.event-iterator);
+  answered : length l.outcomes.items ≡ length l.yielded;
+  room : length l.fn.events.items ≤ vec_capacity l.outcomes;
+  lead : (limits : Limits) (es : List Event) → AreEvents limits.max_batch l.yielded es → LeadOn limits l.fn.self es l.outcomes.items l.self;
 }

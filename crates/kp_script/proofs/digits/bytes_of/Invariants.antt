@@ -1,6 +1,6 @@
 use Rattle.std.proofs.Common.{◌≡◌, ◌++◌, length}
 use Rattle.kp_script.specs.Hex.{bytes_of}
-use Rattle.kp_script.proofs.hex.bytes_of.Given as goal
+use Rattle.kp_script.proofs.digits.bytes_of.Given as goal
 
 abbrev pub invariant-loop-rest : goal.invariant-loop-rest
 invariant-loop-rest l = l.bytes.items ++ bytes_of l.rest ≡ bytes_of l.fn.digits
