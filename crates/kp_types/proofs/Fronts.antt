@@ -8,7 +8,7 @@ use Rattle.kp_types.specs.Devices.{AppendsFront, IsBegun, IsOut}
 use Rattle.kp_types.specs.declared.counted.Counted.{Counted}
 
 -- a beginning has the length of what it takes
-trimmed : (n : ℕ) (ys : List ℕ) → take (length (take n ys)) ys ≡ take n ys
+pub trimmed : (n : ℕ) (ys : List ℕ) → take (length (take n ys)) ys ≡ take n ys
 trimmed zero ys = refl
 trimmed (suc n) [] = refl
 trimmed (suc n) (y ∷ ys) = ap (λ (l : List ℕ). y ∷ l) (trimmed n ys)

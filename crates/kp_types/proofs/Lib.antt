@@ -1,4 +1,5 @@
 pub mod Fronts
+pub mod Filing
 pub mod Elements
 pub mod Ordered
 pub mod Numbers

@@ -1,3 +1,4 @@
 pub mod Texts
 pub mod Causes
 pub mod Devices
+pub mod Folders

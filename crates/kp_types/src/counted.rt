@@ -15,7 +15,7 @@ use std::io::{ErrorKind, Read, Write};
 /// answer F32 exactly where the count rises: so what is refused with F32 is a call that the device failed.
 #[derive(Drop)]
 pub struct Counted<T> {
-    inner: T,
+    pub(crate) inner: T,
     failed: u64,
 }
 
@@ -40,6 +40,22 @@ impl<T> Counted<T> {
         ensures { result ≡ faults_of self.now }
     {
         self.failed
+    }
+
+    // What a call of the device answered, counted where it failed.
+    pub(crate) fn count(&mut self, answer: Result<(), Refusal>) -> Result<(), Refusal>
+        requires { faults_of self.old + 1 < 2 ^ 64 }
+        ensures same { result ≡ answer }
+        ensures device { device_of self.new ≡ device_of self.old }
+        ensures counted { CountsFaults answer (faults_of self.old) (faults_of self.new) }
+    {
+        match answer {
+            Err(Refusal::Device) => {
+                self.failed += 1;
+                Err(Refusal::Device)
+            }
+            other => other,
+        }
     }
 }
 

@@ -5,11 +5,13 @@
 
 mod counted;
 mod faulty;
+mod folder;
 mod limits;
 mod refusal;
 
 pub use counted::Counted;
-pub use faulty::Faulty;
+pub use faulty::{Faulty, FaultyFolder};
+pub use folder::Folder;
 pub use limits::{
     Epoch, GREATEST_EPOCH, GREATEST_OFFSET, GREATEST_SEGMENT_BYTES, GREATEST_VERSION,
     LEAST_SEGMENT_BYTES, Limits, MAX_BATCH, MAX_INDEX_INTERVAL, MOST_NODES, NodeId, Offset,
