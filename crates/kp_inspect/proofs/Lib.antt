@@ -4,3 +4,4 @@ pub mod Scanning
 pub mod Dumping
 pub mod OneLog
 pub mod OneDump
+pub mod KeptLogs

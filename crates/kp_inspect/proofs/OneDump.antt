@@ -14,7 +14,7 @@ use Rattle.kp_inspect.specs.Laws.{DumpsAreOne}
 use Rattle.kp_inspect.proofs.OneLog.{Found, one_log, one_reason}
 
 -- what a dump tells of
-abbrev found_in : (limits : Limits) (bytes text : List ℕ) (fault : Option Refusal) → IsDump limits bytes text fault → Found limits.max_batch bytes fault
+abbrev pub found_in : (limits : Limits) (bytes text : List ℕ) (fault : Option Refusal) → IsDump limits bytes text fault → Found limits.max_batch bytes fault
 found_in limits bytes text None dump = record { log = dump.log; rest = []; begins = dump.whole; ends = refl }
 found_in limits bytes text (Some refusal) dump =
     record { log = dump.log; rest = dump.stops.rest; begins = dump.stops.begins; ends = (dump.stops.some, dump.stops.fault) }

@@ -45,7 +45,7 @@ fn dump_of(alloc: Global, input: Vec<u8>, limits: &Limits) -> Result<Dump, Refus
 /// open and its aborted transactions, and its end.
 /// Answers the refusal of the fault line (F1 to F10, and F25 to F27 where the log doesn't take the batch), or
 /// none. F32 where a device failed and F33, and then a beginning of the text is written. It takes time
-/// and memory proportional to the bytes and the text.
+/// and memory proportional to the bytes and the text, and O(n log n) to bring n producers in order.
 pub fn inspect<R: Read, W: Write>(
     alloc: Global,
     reader: &mut Counted<R>,

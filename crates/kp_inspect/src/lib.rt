@@ -7,7 +7,7 @@ mod inspecting;
 mod scan;
 mod text;
 
-ghost use Rattle.kp_inspect.specs.Laws.{DumpsAreOne};
+ghost use Rattle.kp_inspect.specs.Laws.{DumpsAreOne, KeptLogsAreRead};
 
 pub use inspecting::inspect;
 
@@ -21,4 +21,15 @@ pub fn dumps_are_one()
     kp_batch::batches_are_framed();
     kp_model::segments_are_one();
     kp_producers::tables_are_one();
+}
+
+/// A log that was written as files, one for each segment, is read again: whoever inspects the files, joined in their
+/// order, gets the dump of that log and no fault. It costs nothing.
+pub fn kept_logs_are_read()
+    ensures { KeptLogsAreRead }
+{
+    kp_batch::batches_stand_apart();
+    kp_batch::bytes_are_judged_once();
+    kp_batch::batches_are_framed();
+    kp_log::files_are_the_log();
 }

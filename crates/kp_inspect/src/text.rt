@@ -1,7 +1,8 @@
 //! The lines of a dump.
 
-ghost use Rattle.std.specs.Prelude.{◌≡◌, Some, ◌∷◌, ◌<◌, ◌≤◌, ◌^◌, ◌++◌, map, OnOk, IfOk, string_bytes};
+ghost use Rattle.std.specs.Prelude.{◌≡◌, Some, ◌∷◌, ◌<◌, ◌≤◌, ◌^◌, ◌++◌, map, OnOk, IfOk, IfErr, string_bytes};
 ghost use Rattle.std.specs.List.{AllByRecursion, flat_map};
+ghost use Rattle.kp_types.specs.declared.refusal.Refusal.TheVariants.{Memory};
 ghost use Rattle.kp_model.specs.Log.{logged, bytes, end_of, next_offset};
 ghost use Rattle.kp_segment.specs.Shown.{kept_shows, offset_pair, time_pair};
 ghost use Rattle.kp_inspect.specs.Dump.{epoch_line, batch_line, batch_lines, fault_line, field_text, kind_text, offset_line, time_line};
@@ -240,12 +241,13 @@ fn push_producer(text: &mut String, producer: u64, state: &ProducerState) -> Res
     text.push('\n')
 }
 
-/// Appends the lines of the producers.
-fn push_producers(text: &mut String, producers: &Producers) -> Result<(), AllocError>
-    ensures { OnOk result (string_bytes text.new
+/// Appends the lines of the producers. F33.
+fn push_producers(text: &mut String, producers: &Producers) -> Result<(), Refusal>
+    ensures told { OnOk result (string_bytes text.new
         ≡ string_bytes text.old ++ flat_map producer_line producers.now) }
+    ensures only { IfErr result (λ refusal. refusal ≡ Memory) }
 {
-    for (producer, state) in producers.all() {
+    for (producer, state) in producers.all()? {
         push_producer(text, *producer, state)?;
     }
     Ok(())
@@ -287,9 +289,10 @@ fn push_aborted(text: &mut String, aborted: &[AbortedTransaction]) -> Result<(),
     Ok(())
 }
 
-/// Appends the tables that the log builds, and its end.
-pub(crate) fn push_tables(text: &mut String, log: &PartitionLog) -> Result<(), AllocError>
-    ensures { OnOk result (TellsTables log.now (string_bytes text.old) (string_bytes text.new)) }
+/// Appends the tables that the log builds, and its end. F33.
+pub(crate) fn push_tables(text: &mut String, log: &PartitionLog) -> Result<(), Refusal>
+    ensures told { OnOk result (TellsTables log.now (string_bytes text.old) (string_bytes text.new)) }
+    ensures only { IfErr result (λ refusal. refusal ≡ Memory) }
 {
     let tables = log.tables().all();
     push_segments(text, tables.segments)?;
@@ -297,7 +300,8 @@ pub(crate) fn push_tables(text: &mut String, log: &PartitionLog) -> Result<(), A
     push_producers(text, tables.producers)?;
     push_open(text, tables.transactions.open())?;
     push_aborted(text, tables.transactions.aborted())?;
-    writeln!(text, "end {}", log.end_offset())
+    writeln!(text, "end {}", log.end_offset())?;
+    Ok(())
 }
 
 /// Appends the line of the first fault, in a batch that begins at this byte of the log.

@@ -101,7 +101,7 @@ fn told_of_two(alloc: Global) -> Result<String, Refusal> {
     for _ in 0..2 {
         let _ = node.produce(bytes_of(alloc, "p10")?)?;
     }
-    Ok(told(alloc, node.log())?)
+    told(alloc, node.log())
 }
 
 // `Replica::log` says by which limits a node's log is cut; these are the segments that come of them.

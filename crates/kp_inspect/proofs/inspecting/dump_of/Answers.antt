@@ -36,7 +36,7 @@ returns-clause-told c =
           c.in_ok-bytes.ensures.ok c.in_ok-found.ensures.found w.in-Some.is lines position told
           )
       | in-None+in_ok-push_tables-in-None w ↦ (
-          let tables = subst (λ (t : List ℕ). TellsTables found.log (string_bytes c.push_batches.new.text) t) (sym (ap string_bytes w.text-is)) w.in_ok-push_tables-in-None.ensures in
+          let tables = subst (λ (t : List ℕ). TellsTables found.log (string_bytes c.push_batches.new.text) t) (sym (ap string_bytes w.text-is)) w.in_ok-push_tables-in-None.ensures.told in
           whole_dump limits c.args.input.items c.in_ok-bytes.bytes found (string_bytes c.push_batches.new.text) (string_bytes c.match-found.text)
           c.in_ok-bytes.ensures.ok c.in_ok-found.ensures.found w.in-None.is lines tables
           )
