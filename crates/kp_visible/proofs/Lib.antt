@@ -11,3 +11,4 @@ pub mod Stopping
 pub mod Showing
 pub mod Consumers
 pub mod Growing
+pub mod Passing

@@ -1,4 +1,5 @@
 pub mod Filter
 pub mod Near
+pub mod Searched
 pub mod Lent
 pub mod Laws

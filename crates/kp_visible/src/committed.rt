@@ -5,9 +5,9 @@ ghost use Rattle.std.specs.List.{All, AllByRecursion};
 ghost use Rattle.kp_model.specs.Log.{logged, next_offset};
 ghost use Rattle.kp_model.specs.Visible.{records_in};
 
-use crate::filter::is_shown;
 use crate::near::Nearby;
 use crate::placed::PlacedRecords;
+use crate::searched::Searched;
 use kp_batch::{Batch, Record};
 use kp_types::Offset;
 
@@ -15,7 +15,7 @@ use kp_types::Offset;
 /// batch's bytes.
 #[derive(Clone, Copy)]
 pub struct CommittedRecords<'a> {
-    near: Nearby<'a>,
+    searched: Searched<'a>,
     batches: &'a [Batch],
     current: PlacedRecords<'a>,
     ghost placed: { All (λ w. next_offset (logged w) ≤ 2 ^ 62) batches.now },
@@ -40,8 +40,7 @@ impl<'a> Iterator for CommittedRecords<'a> {
                 return None;
             };
             self.batches = rest;
-            self.near = self.near.moved_to(batch.base_offset());
-            if is_shown(self.near.rest(), batch) {
+            if self.searched.is_shown(batch) {
                 self.current = PlacedRecords::of(batch);
             }
         }
@@ -59,7 +58,7 @@ impl<'a> CommittedRecords<'a> {
             (shown_from near.entry.aborted.now near.entry.place (map logged batches.now)) }
     {
         CommittedRecords {
-            near,
+            searched: Searched::of(near),
             batches,
             current: PlacedRecords::none(),
         }

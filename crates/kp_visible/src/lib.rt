@@ -7,6 +7,7 @@ mod committed;
 mod filter;
 mod near;
 mod placed;
+mod searched;
 
 ghost use Rattle.std.specs.Prelude.{◌≡◌, ◌≤◌, ◌^◌, ℕ, List, Contains, map};
 ghost use Rattle.std.specs.List.{AllByRecursion, filter};
@@ -31,7 +32,9 @@ use kp_txns::AbortedTransaction;
 /// offset, the log's list shows those that are visible.
 /// O(log n) in the n aborted transactions. Then a batch costs O(1), and the transactions that end between it and the batch
 /// in front of it. A transactional one costs those too that end behind it, up to the one that decides: each of them ended
-/// while a transaction that began at or below the batch's base offset was open. No memory, and no copy of a batch's bytes.
+/// while a transaction that began at or below the batch's base offset was open. Where batches rise by offset, those that the
+/// search for the producer's batch in front passed over cost nothing again, unless a batch between the two is of another
+/// producer whose number has the same rest by 128. The iterator takes 1.6 KB; nothing is allocated, and no bytes are copied.
 pub fn committed_records<'a>(
     batches: &'a [Batch],
     aborted: &'a [AbortedTransaction],

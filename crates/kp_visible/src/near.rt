@@ -1,6 +1,6 @@
 //! Where in the list of aborted transactions the search for a batch begins.
 
-ghost use Rattle.std.specs.Prelude.{◌≡◌, ◌<◌, ◌≤◌, drop, length};
+ghost use Rattle.std.specs.Prelude.{◌≡◌, ◌<◌, ◌≤◌, length};
 ghost use Rattle.std.specs.List.Sorted.{IsNonDecreasingBy, IsPartitionPoint};
 ghost use Rattle.kp_visible.specs.Near.{back_from, on_from, place_from};
 
@@ -10,8 +10,8 @@ use kp_types::Offset;
 // A place in the list of aborted transactions.
 #[derive(Clone, Copy)]
 pub(crate) struct Nearby<'a> {
-    aborted: &'a [AbortedTransaction],
-    place: usize,
+    pub(crate) aborted: &'a [AbortedTransaction],
+    pub(crate) place: usize,
     ghost within: { place ≤ length aborted.now },
 }
 
@@ -38,13 +38,6 @@ impl<'a> Nearby<'a> {
             aborted: self.aborted,
             place: go_on(self.aborted, back, offset),
         }
-    }
-
-    // The transactions from the place on.
-    pub(crate) fn rest(self) -> &'a [AbortedTransaction]
-        ensures { result.now ≡ drop self.entry.place self.entry.aborted.now }
-    {
-        &self.aborted[self.place..]
     }
 }
 
