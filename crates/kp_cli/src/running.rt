@@ -8,7 +8,7 @@ ghost use Rattle.kp_cli.specs.Perform.{RunsScript, Inspects, Performs, Complains
 use crate::Call;
 use itoa::Buffer;
 use kp_inspect::inspect;
-use kp_script::run_script;
+use kp_script::play_script;
 use kp_types::{Counted, Limits, MAX_BATCH, Refusal};
 use std::alloc::Global;
 use std::io::{Read, Write};
@@ -89,9 +89,8 @@ pub fn perform<R: Read, W: Write, E: Write>(
         × result ≡ status_of outcome }
 {
     match call {
-        Call::Run { .. } => match run_script(alloc, reader, out) {
-            Ok(0) => 0,
-            Ok(_) => 1,
+        Call::Run { .. } => match play_script(alloc, reader, out) {
+            Ok(ended) => u8::from(ended.refused() > 0),
             Err(refusal) => refuse(err, refusal),
         },
         Call::Inspect {

@@ -17,4 +17,5 @@ pub mod Sizes
 pub mod Offers
 pub mod Appending
 pub mod Apart
+pub mod Logs
 pub mod Played

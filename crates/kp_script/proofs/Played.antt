@@ -14,7 +14,7 @@ use Rattle.kp_types.specs.declared.refusal.Refusal.{Refusal}
 use Rattle.kp_types.specs.declared.refusal.Refusal.TheVariants as refusals
 use Rattle.kp_model.specs.Event.{Event, Outcome, Acts, Elect as ElectNode, Adopt as AdoptRecord, Produce, Mark as HandMarker, Ask as AskLeader, Deliver as DeliverMessage, Raise as RaiseMark, Join as AddInSync, Leave as RemoveInSync, Checkpoint as NoteMark, Stop as StopNode, Restart as RestartNode, Show as ShowState, Read as ReadFrom, Committed as ReadCommitted}
 use Rattle.kp_model.specs.Laws.{NoDeliveryIsRefusedOddly, RunsAreSafe}
-use Rattle.kp_model.specs.Run.{Moment, Run}
+use Rattle.kp_model.specs.Run.{Moment, Run, last}
 use Rattle.kp_model.specs.World.{start}
 use Rattle.kp_replica.specs.Offers.{BytesAreAnOffer}
 use Rattle.kp_world.specs.Answers.{outcome_of}
@@ -22,17 +22,19 @@ use Rattle.kp_world.specs.Events.{AreEvents}
 use Rattle.kp_world.specs.declared.event.Event.{Event as CodeEvent}
 use Rattle.kp_world.specs.Laws.{MayCome, PlaysGoOn}
 use Rattle.kp_world.specs.Plays.{IsReached, LeadOn, events_of, outcomes_of}
-use Rattle.kp_world.specs.Shown.{IsShown, Stage}
+use Rattle.kp_world.specs.Shown.{IsShown, Stage, log_of}
 use Rattle.kp_world.specs.declared.event.Answer.{Answer}
-use Rattle.kp_world.proofs.Playing.{answered, nothing_answered, reached_none}
-use Rattle.kp_script.specs.Call.{Call, IsCall, IsCallInRange, node_of, Elect, Adopt, Append, Raw, Mark, Ask, Deliver, Raise, Join, Leave, Checkpoint, Stop, Restart, Show, Read, Committed}
+use Rattle.kp_world.proofs.Playing.{all_fit, answered, nothing_answered, reached_none}
+use Rattle.kp_script.specs.Call.{Call, Header, IsCall, IsCallInRange, node_of, Elect, Adopt, Append, Raw, Mark, Ask, Deliver, Raise, Join, Leave, Checkpoint, Stop, Restart, Show, Read, Committed}
+use Rattle.kp_script.specs.Ended.{limits_in, WritesTo}
 use Rattle.kp_script.specs.Playing.{BeginFrom, LeadTo, PlayTo}
 use Rattle.kp_script.specs.Told.{IsTold, AreTold, TellsAll, offer_of}
 use Rattle.kp_script.specs.Trace.{trace_text}
 use Rattle.kp_script.specs.Script.{Script, IsScript}
-use Rattle.kp_script.specs.Transcript.{IsTraceOf, is_refusal, largest_batch, numbered, refusals_in, Writes, WritesFirst, WritesFront}
+use Rattle.kp_script.specs.Transcript.{IsTraceOf, is_refusal, largest_batch, numbered, refusals_in, WritesFirst, WritesFront}
 use Rattle.kp_script.specs.Seen.{seen_call, seen_line}
 use Rattle.kp_script.specs.declared.script.Line.{Line}
+use Rattle.kp_script.proofs.Logs.{shown_logs}
 use Rattle.kp_script.proofs.Telling.{AreTold-length, one_for_each}
 use Rattle.kp_script.proofs.Tracing.{trace_append}
 
@@ -145,59 +147,52 @@ calls_are all done rest next others p =
 
 -- ---- what has been played
 
--- These calls have been played from the start on, and their trace is out.
-pub record HasPlayed (count : ℕ) (done : List (ℕ × Call)) (stage : Stage) (refused : ℕ) (old now : Option (List ℕ)) : Type 0 where
-  pub limits : Limits
-  pub batch : limits.max_batch ≡ largest_batch
+-- These calls of a script with this header have been played from the start on, and their trace is out.
+pub record HasPlayed (header : Header) (done : List (ℕ × Call)) (stage : Stage) (refused : ℕ) (old now : Option (List ℕ)) : Type 0 where
   pub events : List Event
   pub told : AreTold largest_batch (asked done) events
   pub answers : List (Result Answer Refusal)
-  pub reached : IsReached count limits events answers stage
+  pub reached : IsReached header.count (limits_in header) events answers stage
   pub refused_is : refused ≡ refusals_in (map outcome_of answers)
   pub written : Appends old now (trace_text (numbered done) (map outcome_of answers))
 
-pub played_none : (count : ℕ) (limits : Limits) (stage : Stage) (known : Option (List ℕ)) → limits.max_batch ≡ largest_batch → IsShown limits stage (start count)
-    → HasPlayed count [] stage 0 known known
-played_none count limits stage known batch shown =
+pub played_none : (header : Header) (stage : Stage) (known : Option (List ℕ)) → IsShown (limits_in header) stage (start header.count) → HasPlayed header [] stage 0 known known
+played_none header stage known shown =
     record {
-      limits = limits;
-      batch = batch;
       events = [];
       told = tt;
       answers = [];
-      reached = reached_none count limits stage shown;
+      reached = reached_none header.count (limits_in header) stage shown;
       refused_is = refl;
       written = Appends-nil known;
     }
 
 -- where these calls lead from what was reached
-led : (count : ℕ) (done calls : List (ℕ × Call)) (old new : Stage) (refused : ℕ) (known mid : Option (List ℕ)) (p : HasPlayed count done old refused known mid)
+led : (header : Header) (done calls : List (ℕ × Call)) (old new : Stage) (refused : ℕ) (known mid : Option (List ℕ)) (p : HasPlayed header done old refused known mid)
     (answers : List (Result Answer Refusal)) (lead : LeadTo calls old new answers)
     → (AreTold largest_batch (asked (done ++ calls)) (p.events ++ lead.events))
-    × (IsReached count p.limits (p.events ++ lead.events) (p.answers ++ answers) new)
+    × (IsReached header.count (limits_in header) (p.events ++ lead.events) (p.answers ++ answers) new)
     × (trace_text (numbered (done ++ calls)) (map outcome_of (p.answers ++ answers))
     ≡ trace_text (numbered done) (map outcome_of p.answers) ++ trace_text (numbered calls) (map outcome_of answers))
-led count done calls old new refused known mid p answers lead =
+led header done calls old new refused known mid p answers lead =
     let told : AreTold largest_batch (asked (done ++ calls)) (p.events ++ lead.events) =
     subst (λ (all : List Call). AreTold largest_batch all (p.events ++ lead.events)) (sym (map-append (λ (call : ℕ × Call). call.1) done calls))
     (AreTold-append largest_batch (asked done) (asked calls) p.events lead.events p.told lead.told) in
     let before : length (numbered done) ≡ length (map outcome_of p.answers) =
-    as_many count done p.events (map outcome_of p.answers) p.reached.run p.told p.reached.events_are p.reached.outcomes_are in (
+    as_many header.count done p.events (map outcome_of p.answers) p.reached.run p.told p.reached.events_are p.reached.outcomes_are in (
       told,
-      lead.reach p.limits p.batch count p.events p.answers p.reached,
+      lead.reach (limits_in header) refl header.count p.events p.answers p.reached,
       ap (λ (xs : List (ℕ × ℕ)). trace_text xs (map outcome_of (p.answers ++ answers))) (map-append _ done calls)
           ∙ ap (λ (os : List Outcome). trace_text (numbered done ++ numbered calls) os) (map-append outcome_of p.answers answers)
           ∙ trace_append (numbered done) (numbered calls) (map outcome_of p.answers) (map outcome_of answers) before,
     )
 
 -- some calls more
-pub played_more : (count : ℕ) (done calls : List (ℕ × Call)) (old new : Stage) (refused more : ℕ) (known mid now : Option (List ℕ)) → HasPlayed count done old refused known mid
-    → PlayTo calls old new more mid now → HasPlayed count (done ++ calls) new (refused + more) known now
-played_more count done calls old new refused more known mid now p q =
-    let next = led count done calls old new refused known mid p q.answers q.lead in
+pub played_more : (header : Header) (done calls : List (ℕ × Call)) (old new : Stage) (refused more : ℕ) (known mid now : Option (List ℕ)) → HasPlayed header done old refused known mid
+    → PlayTo calls old new more mid now → HasPlayed header (done ++ calls) new (refused + more) known now
+played_more header done calls old new refused more known mid now p q =
+    let next = led header done calls old new refused known mid p q.answers q.lead in
     record {
-      limits = p.limits;
-      batch = p.batch;
       events = p.events ++ q.lead.events;
       told = next.0;
       answers = p.answers ++ q.answers;
@@ -208,15 +203,22 @@ played_more count done calls old new refused more known mid now p q =
       written = subst (Appends known now) (sym next.2) (Appends-trans known mid now _ _ p.written q.written);
     }
 
--- what has been played is the trace of its calls
-pub traced : RunsAreSafe → NoDeliveryIsRefusedOddly → (count : ℕ) (done : List (ℕ × Call)) (stage : Stage) (refused : ℕ) (known now : Option (List ℕ)) → (p : HasPlayed count done stage refused known now)
-    → IsTraceOf count done (trace_text (numbered done) (map outcome_of p.answers)) refused
-traced safe odd count done stage refused known now p =
+-- what has been played is the trace of its calls, of the run that has been reached
+abbrev pub traced : RunsAreSafe → NoDeliveryIsRefusedOddly → (header : Header) (done : List (ℕ × Call)) (stage : Stage) (refused : ℕ) (known now : Option (List ℕ)) → (p : HasPlayed header done stage refused known now)
+    → IsTraceOf header.count done (trace_text (numbered done) (map outcome_of p.answers)) refused
+traced safe odd header done stage refused known now p =
+    let reached = p.reached in
     record {
       events = p.events;
       told = p.told;
       outcomes = map outcome_of p.answers;
-      played = (answered count p.limits p.events p.answers stage (safe count) odd p.reached).played;
+      played = record {
+        run = reached.run;
+        events_are = reached.events_are;
+        outcomes_are = reached.outcomes_are;
+        safe = safe header.count reached.run;
+        fits = all_fit odd header.count reached.run;
+      };
       text_is = refl;
       refused_is = p.refused_is;
     }
@@ -307,22 +309,22 @@ whole_lines go offers count calls done others text refused old now calls_are law
     (text ++ all.rest, all.refused, all.trace, front_behind old now now text [] all.rest out (0, Appends-nil now))
 
 -- and the beginning of another few
-pub begun_lines : RunsAreSafe → NoDeliveryIsRefusedOddly → PlaysGoOn → BytesAreAnOffer → (count : ℕ) (all done calls others : List (ℕ × Call)) (stage : Stage) (refused : ℕ) (old mid now : Option (List ℕ))
-    → all ≡ done ++ (calls ++ others) → AllByRecursion (λ call. IsCall count call.1) others → HasPlayed count done stage refused old mid → BeginFrom calls stage mid now → Front count all old now
-begun_lines safe odd go offers count all done calls others stage refused old mid now all_are lawful p q =
-    let next = led count done calls stage q.new refused old mid p q.answers q.lead in
+pub begun_lines : RunsAreSafe → NoDeliveryIsRefusedOddly → PlaysGoOn → BytesAreAnOffer → (header : Header) (all done calls others : List (ℕ × Call)) (stage : Stage) (refused : ℕ) (old mid now : Option (List ℕ))
+    → all ≡ done ++ (calls ++ others) → AllByRecursion (λ call. IsCall header.count call.1) others → HasPlayed header done stage refused old mid → BeginFrom calls stage mid now → Front header.count all old now
+begun_lines safe odd go offers header all done calls others stage refused old mid now all_are lawful p q =
+    let next = led header done calls stage q.new refused old mid p q.answers q.lead in
     let so_far = trace_text (numbered done) (map outcome_of p.answers) in
     let begun = trace_text (numbered calls) (map outcome_of q.answers) in
-    let t : IsTraceOf count (done ++ calls) (so_far ++ begun) (refusals_in (map outcome_of (p.answers ++ q.answers))) =
+    let t : IsTraceOf header.count (done ++ calls) (so_far ++ begun) (refusals_in (map outcome_of (p.answers ++ q.answers))) =
     record {
       events = p.events ++ q.lead.events;
       told = next.0;
       outcomes = map outcome_of (p.answers ++ q.answers);
-      played = (answered count p.limits (p.events ++ q.lead.events) (p.answers ++ q.answers) q.new (safe count) odd next.1).played;
+      played = (answered header.count (limits_in header) (p.events ++ q.lead.events) (p.answers ++ q.answers) q.new (safe header.count) odd next.1).played;
       text_is = sym next.2;
       refused_is = refl;
     } in
-    let w = whole go offers count all (done ++ calls) others (so_far ++ begun) _ (all_are ∙ sym (append_assoc done calls others)) lawful t in (
+    let w = whole go offers header.count all (done ++ calls) others (so_far ++ begun) _ (all_are ∙ sym (append_assoc done calls others)) lawful t in (
       (so_far ++ begun) ++ w.rest,
       w.refused,
       w.trace,
@@ -331,11 +333,22 @@ begun_lines safe odd go offers count all done calls others stage refused old mid
 
 -- ---- and where the input is known
 
-pub writes_all : (input : Option (List ℕ)) (bytes : List ℕ) (script : Script) (refused : ℕ) (text : List ℕ) (old now : Option (List ℕ)) → IfSome input (λ all. bytes ≡ all) → IsScript bytes script
-    → IsTraceOf script.header.count script.calls text refused → Appends old now text → Writes input old now refused
-writes_all None bytes script refused text old now same spelled t out = tt
-writes_all (Some all) bytes script refused text old now same spelled t out =
-    (text, record { script = script; spelled = subst (λ (b : List ℕ). IsScript b script) same spelled; trace = t }, out)
+pub writes_to : RunsAreSafe → NoDeliveryIsRefusedOddly → (input : Option (List ℕ)) (bytes : List ℕ) (script : Script) (stage : Stage) (refused : ℕ) (old now : Option (List ℕ)) → IfSome input (λ all. bytes ≡ all)
+    → IsScript bytes script → length stage.members ≡ script.header.count → HasPlayed script.header script.calls stage refused old now
+    → WritesTo input old now (record { refused = refused; logs = map log_of stage.members })
+writes_to safe odd None bytes script stage refused old now same spelled count p = tt
+writes_to safe odd (Some all) bytes script stage refused old now same spelled count p = (
+  trace_text (numbered script.calls) (map outcome_of p.answers),
+  record {
+    transcript = record {
+      script = script;
+      spelled = subst (λ (b : List ℕ). IsScript b script) same spelled;
+      trace = traced safe odd script.header script.calls stage refused old now p;
+    };
+    logs_are = shown_logs script.header stage (last p.reached.run) p.reached.shown count;
+  },
+  p.written,
+)
 
 pub writes_front : (input : Option (List ℕ)) (bytes : List ℕ) (script : Script) (old now : Option (List ℕ)) → IfSome input (λ all. bytes ≡ all) → IsScript bytes script
     → Front script.header.count script.calls old now → WritesFront input old now

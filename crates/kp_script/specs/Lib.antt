@@ -7,4 +7,5 @@ pub mod Seen
 pub mod Trace
 pub mod Told
 pub mod Transcript
+pub mod Ended
 pub mod Playing

@@ -5,6 +5,7 @@
 
 mod call;
 mod digits;
+mod ended;
 mod events;
 mod fields;
 mod lines;
@@ -15,7 +16,8 @@ mod trace;
 mod words;
 
 pub use call::{Call, GREATEST_TIME, Header, Sender, lines_say_one_call};
+pub use ended::Ended;
 pub use lines::LONGEST_LINE;
-pub use run::run_script;
+pub use run::{play_script, run_script};
 pub use script::{Line, MOST_EVENTS, Script, parse};
 pub use trace::push_trace;

@@ -6,12 +6,14 @@ ghost use Rattle.kp_types.specs.declared.refusal.Refusal.TheVariants.{BadScript,
 ghost use Rattle.kp_types.specs.Devices.{CountsFaults, CountsOne, IsDeviceFault, device_of, faults_of};
 ghost use Rattle.kp_world.specs.Answers.{outcome_of};
 ghost use Rattle.kp_script.specs.Call.{IsCall};
+ghost use Rattle.kp_script.specs.Ended.{limits_in, WritesTo};
 ghost use Rattle.kp_script.specs.Playing.{BeginFrom, PlayTo};
 ghost use Rattle.kp_script.specs.Script.{IsFaultAt};
-ghost use Rattle.kp_script.specs.Seen.{seen_line};
-ghost use Rattle.kp_script.specs.Transcript.{largest_batch, refusals_in, IsRunRefusal, Writes, WritesFirst, WritesFront};
+ghost use Rattle.kp_script.specs.Seen.{seen_header, seen_line};
+ghost use Rattle.kp_script.specs.Transcript.{refusals_in, IsRunRefusal, Writes, WritesFirst, WritesFront};
 
 use crate::call::Header;
+use crate::ended::Ended;
 use crate::events::events_of;
 use crate::script::{Line, parse};
 use crate::trace::push_trace;
@@ -35,11 +37,7 @@ struct Lists {
 
 /// The limits of the log that the header asks for.
 fn limits_of(header: &Header) -> Limits
-    ensures { result ≡ record {
-      segment_bytes = header.now.segment;
-      index_interval = header.now.interval;
-      max_batch = largest_batch;
-    } }
+    ensures { result ≡ limits_in (seen_header header.now) }
 {
     Limits {
         segment_bytes: header.segment,
@@ -88,12 +86,59 @@ fn play_lines<W: Write>(
     Ok(count_refused(&lists.outcomes))
 }
 
+/// Plays the script that the reader has left, and writes its trace: a line for each event. Answers how many
+/// events were refused, and the nodes with their logs as they are then. F31 with the first line at fault, and then nothing
+/// is written; F33, and then the lines of the first events are, or nothing; F32 where a device failed, and then a
+/// beginning of the trace is. All lines are read before the first event is played, and the lines of some events are
+/// written before the next ones are played. Takes time proportional to the script, its trace and the batches that
+/// messages carry, and memory to the script, to what the nodes' logs keep of it and to all messages; the nodes and the
+/// messages stay as long as the answer does.
+pub fn play_script<R: Read, W: Write>(
+    alloc: Global,
+    reader: &mut Counted<R>,
+    writer: &mut Counted<W>,
+) -> Result<Ended, Refusal>
+    requires reads { faults_of reader.old + 1 < 2 ^ 64 }
+    requires writes { faults_of writer.old + 1 < 2 ^ 64 }
+    ensures played { IfOk result (λ ended. WritesTo (R.remaining (device_of reader.old))
+        (W.contents (device_of writer.old)) (W.contents (device_of writer.new)) ended) }
+    ensures fault { (line : ℕ) → result ≡ Err (BadScript line)
+        → IfSome (R.remaining (device_of reader.old)) (λ input. IsFaultAt input line) }
+    ensures untouched { (line : ℕ) → result ≡ Err (BadScript line) → writer.new ≡ writer.old }
+    ensures first { result ≡ Err WantOfMemory → WritesFirst (R.remaining (device_of reader.old))
+        (W.contents (device_of writer.old)) (W.contents (device_of writer.new)) }
+    ensures front { OnErr result (WritesFront (R.remaining (device_of reader.old))
+        (W.contents (device_of writer.old)) (W.contents (device_of writer.new))) }
+    ensures only { IfErr result IsRunRefusal }
+    ensures counted { CountsOne result (faults_of reader.old) (faults_of reader.new)
+        (faults_of writer.old) (faults_of writer.new) }
+{
+    kp_world::plays_go_on();
+    kp_model::runs_are_safe();
+    kp_model::no_delivery_is_refused_oddly();
+    kp_replica::bytes_are_an_offer();
+    let input = reader.read_all(alloc)?;
+    let script = parse(alloc, &input)?;
+    let header = &script.header;
+    let mut world = World::start(alloc, header.count, &limits_of(header))?;
+    let mut lists = Lists {
+        speller: Speller::new(alloc),
+        outcomes: Vec::new(alloc),
+        text: Vec::new(alloc),
+    };
+    let mut refused = 0;
+    let mut rest = script.lines.as_slice();
+    while !rest.is_empty() {
+        let (lines, others) = rest.split_at(rest.len().min(EVENTS_AT_ONCE));
+        refused += play_lines(alloc, lines, header.count, &mut world, &mut lists, writer)?;
+        rest = others;
+    }
+    Ok(Ended::new(refused, header.count, world))
+}
+
 /// Runs the script that the reader has left, and writes its trace: a line for each event. Answers how many
-/// events were refused. F31 with the first line at fault, and then nothing is written; F33, and then the lines of the
-/// first events are, or nothing; F32 where a device failed, and then a beginning of the trace is. All lines are read
-/// before the first event is played, and the lines of some events are written before the next ones are played. Takes
-/// time proportional to the script, its trace and the batches that messages carry, and memory to the script, to what the
-/// nodes' logs keep of it and to all messages.
+/// events were refused. What is refused, what stands written then, and the cost are those of [`play_script`]; the
+/// nodes don't outlast the call.
 pub fn run_script<R: Read, W: Write>(
     alloc: Global,
     reader: &mut Counted<R>,
@@ -114,25 +159,6 @@ pub fn run_script<R: Read, W: Write>(
     ensures counted { CountsOne result (faults_of reader.old) (faults_of reader.new)
         (faults_of writer.old) (faults_of writer.new) }
 {
-    kp_world::plays_go_on();
-    kp_model::runs_are_safe();
-    kp_model::no_delivery_is_refused_oddly();
-    kp_replica::bytes_are_an_offer();
-    let input = reader.read_all(alloc)?;
-    let script = parse(alloc, &input)?;
-    let count = script.header.count;
-    let mut world = World::start(alloc, count, &limits_of(&script.header))?;
-    let mut lists = Lists {
-        speller: Speller::new(alloc),
-        outcomes: Vec::new(alloc),
-        text: Vec::new(alloc),
-    };
-    let mut refused = 0;
-    let mut rest = script.lines.as_slice();
-    while !rest.is_empty() {
-        let (lines, others) = rest.split_at(rest.len().min(EVENTS_AT_ONCE));
-        refused += play_lines(alloc, lines, count, &mut world, &mut lists, writer)?;
-        rest = others;
-    }
-    Ok(refused)
+    let ended = play_script(alloc, reader, writer)?;
+    Ok(ended.refused())
 }

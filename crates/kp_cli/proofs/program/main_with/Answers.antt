@@ -1,4 +1,4 @@
-use Rattle.std.proofs.Common.{◌≡◌, ◌⊎◌, rules, refl, sym, subst, map, string_bytes, List, ℕ, Result, Ok}
+use Rattle.std.proofs.Common.{◌≡◌, ◌⊎◌, rules, refl, sym, subst, map, string_bytes, List, Result, Ok}
 use Rattle.clap.specs.Words.{IsAmong, Text, fault_of, subcommand_of}
 use Rattle.clap.specs.declared.error.kind.ErrorKind.{ErrorKind}
 use Rattle.clap.specs.declared.error.kind.ErrorKind.TheVariants as kinds

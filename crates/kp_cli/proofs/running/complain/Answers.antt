@@ -1,4 +1,4 @@
-use Rattle.std.proofs.Common.{rules, ◌≡◌, ◌∙◌, ap, sym, subst, OnErr, List, ℕ, ◌∷◌, [], ◌++◌, Option, codes}
+use Rattle.std.proofs.Common.{rules, ◌≡◌, ◌∙◌, ap, sym, subst, List, ℕ, ◌++◌, codes}
 use Rattle.std.proofs.lemmas.List.{append_assoc}
 use Rattle.std.proofs.lemmas.Result.{on_err_weaker}
 use Rattle.kp_types.specs.Devices.{IsBegun}

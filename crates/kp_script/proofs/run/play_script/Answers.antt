@@ -4,21 +4,26 @@ use Rattle.std.proofs.lemmas.List.{map-append}
 use Rattle.kp_types.specs.Devices.{device_of}
 use Rattle.kp_types.specs.declared.limits.Limits.{Limits}
 use Rattle.kp_types.specs.declared.refusal.Refusal.TheVariants as refusals
-use Rattle.kp_world.specs.Answers.{outcome_of}
+use Rattle.kp_model.specs.World.{start}
+use Rattle.kp_world.specs.Shown.{IsShown}
 use Rattle.kp_script.specs.Call.{Call}
-use Rattle.kp_script.specs.Seen.{seen_line, seen_script}
-use Rattle.kp_script.specs.Trace.{trace_text}
-use Rattle.kp_script.specs.Transcript.{IsTraceOf, WritesFirst, numbered}
+use Rattle.kp_script.specs.Ended.{RunEnd, WritesTo}
+use Rattle.kp_script.specs.Seen.{seen_header, seen_line, seen_script}
+use Rattle.kp_script.specs.Transcript.{WritesFirst}
 use Rattle.kp_script.specs.declared.script.Line.{Line}
-use Rattle.kp_script.proofs.Played.{Front, HasPlayed, begun_lines, by_fault, calls_are, next_lawful, nothing_left, others_lawful, parts, played_more, played_none, rest_calls_lawful, same_lawful, traced, whole_lines, writes_all, writes_first, writes_front}
-use Rattle.kp_script.proofs.run.run_script.Goals as goal
+use Rattle.kp_script.proofs.Played.{Front, HasPlayed, begun_lines, by_fault, calls_are, next_lawful, nothing_left, others_lawful, parts, played_more, played_none, rest_calls_lawful, same_lawful, traced, whole_lines, writes_first, writes_front, writes_to}
+use Rattle.kp_script.proofs.run.play_script.Goals as goal
 use Rattle.kp_types.proofs.Causes.{always}
 
 pub loop-rest-init : goal.loop-rest-init
 loop-rest-init g c = record {
   played = (
     [],
-    (refl, played_none c.in_ok-script.script.header.count c.limits_of.result c.in_ok-world.world (g.W.Write.contents (device_of c.args.writer.now)) (ap (λ (l : Limits). l.max_batch) c.limits_of.ensures) c.in_ok-world.ensures.shown),
+    (
+      refl,
+      played_none (seen_header c.in_ok-script.script.header) c.in_ok-world.world (g.W.Write.contents (device_of c.args.writer.now))
+          (subst (λ (l : Limits). IsShown l c.in_ok-world.world (start c.in_ok-script.script.header.count)) c.limits_of.ensures c.in_ok-world.ensures.shown),
+    ),
   );
   nodes = c.in_ok-world.ensures.count;
   few = omega arith;
@@ -52,7 +57,7 @@ returns-in_err-refused-clause-first g c = λ e.
     subst (λ (known : Option (List ℕ)). WritesFirst input old known) (sym kept)
     (writes_first input c.deref.result.now script (map seen_line played.0) (map seen_line c.loop-rest.rest.now) c.loop-rest.refused _ old (g.W.Write.contents (device_of c.loop-rest.writer)) bytes
     c.in_ok-script.ensures.found whole
-    (traced c.runs_are_safe.ensures c.no_delivery_is_refused_oddly.ensures script.header.count (map seen_line played.0) c.loop-rest.world c.loop-rest.refused old (g.W.Write.contents (device_of c.loop-rest.writer)) played.1.1)
+    (traced c.runs_are_safe.ensures c.no_delivery_is_refused_oddly.ensures script.header (map seen_line played.0) c.loop-rest.world c.loop-rest.refused old (g.W.Write.contents (device_of c.loop-rest.writer)) played.1.1)
     played.1.1.written)
 
 pub returns-in_err-refused-clause-front : goal.returns-in_err-refused-clause-front
@@ -79,14 +84,14 @@ returns-in_err-refused-clause-front g c =
     let rest_lawful = rest_calls_lawful count all done rest next others p lawful in
     let front : Front count script.calls old now =
     by_fault r (Front count script.calls old now) c.in_err-refused.ensures.only
-    (λ device. begun_lines c.runs_are_safe.ensures c.no_delivery_is_refused_oddly.ensures c.plays_go_on.ensures c.bytes_are_an_offer.ensures.some count script.calls (map seen_line done) (map seen_line next) (map seen_line others)
+    (λ device. begun_lines c.runs_are_safe.ensures c.no_delivery_is_refused_oddly.ensures c.plays_go_on.ensures c.bytes_are_an_offer.ensures.some script.header script.calls (map seen_line done) (map seen_line next) (map seen_line others)
     c.loop-rest.world c.loop-rest.refused old mid now whole (others_lawful count all done rest next others p lawful) played.1.1 (c.in_err-refused.ensures.begun (ap Err device)))
     (λ memory.
     let same : c.play_lines.new.writer ≡ c.loop-rest.writer = c.in_err-refused.ensures.untouched (ap Err memory) in
     let kept : now ≡ mid = ap (λ w. g.W.Write.contents (device_of w)) same in
     subst (λ (known : Option (List ℕ)). Front count script.calls old known) (sym kept)
     (whole_lines c.plays_go_on.ensures c.bytes_are_an_offer.ensures.some count script.calls (map seen_line done) (map seen_line next ++ map seen_line others) _ c.loop-rest.refused old mid whole
-    rest_lawful (traced c.runs_are_safe.ensures c.no_delivery_is_refused_oddly.ensures count (map seen_line done) c.loop-rest.world c.loop-rest.refused old mid played.1.1) played.1.1.written)) in
+    rest_lawful (traced c.runs_are_safe.ensures c.no_delivery_is_refused_oddly.ensures script.header (map seen_line done) c.loop-rest.world c.loop-rest.refused old mid played.1.1) played.1.1.written)) in
     always c.from_residual-in_err-refused.result (writes_front input c.deref.result.now script old now bytes c.in_ok-script.ensures.found front)
 
 pub loop-rest-preserved : goal.loop-rest-preserved
@@ -97,7 +102,7 @@ loop-rest-preserved g c =
     let next : List Line = c.split_at.result.0.now in
     let others : List Line = c.split_at.result.1.now in
     let all : List Line = c.as_slice-rest.result.now in
-    let count = c.in_ok-script.script.header.count in
+    let header = seen_header c.in_ok-script.script.header in
     let old = g.W.Write.contents (device_of c.args.writer.now) in
     let mid = g.W.Write.contents (device_of c.loop-rest.writer) in
     let now = g.W.Write.contents (device_of c.play_lines.new.writer) in
@@ -108,8 +113,8 @@ loop-rest-preserved g c =
         done ++ next,
         (
           p.lines_are ∙ sym (append_assoc done next others),
-          subst (λ (calls : List (ℕ × Call)). HasPlayed count calls c.play_lines.new.world (c.loop-rest.refused + c.in_ok-refused.field-0) old now) (sym (map-append seen_line done next))
-              (played_more count (map seen_line done) (map seen_line next) c.loop-rest.world c.play_lines.new.world c.loop-rest.refused c.in_ok-refused.field-0 old mid now played.1.1
+          subst (λ (calls : List (ℕ × Call)). HasPlayed header calls c.play_lines.new.world (c.loop-rest.refused + c.in_ok-refused.field-0) old now) (sym (map-append seen_line done next))
+              (played_more header (map seen_line done) (map seen_line next) c.loop-rest.world c.play_lines.new.world c.loop-rest.refused c.in_ok-refused.field-0 old mid now played.1.1
               c.in_ok-refused.ensures.played),
         ),
       );
@@ -118,8 +123,8 @@ loop-rest-preserved g c =
       faults = c.in_ok-refused.ensures.counted ∙ c.loop-rest.invariant.faults;
     }
 
-pub returns-clause-written : goal.returns-clause-written
-returns-clause-written g c =
+pub returns-clause-played : goal.returns-clause-played
+returns-clause-played g c =
     let played = c.loop-rest.invariant.played in
     let script = seen_script c.in_ok-script.script in
     let old = g.W.Write.contents (device_of c.args.writer.now) in
@@ -130,8 +135,8 @@ returns-clause-written g c =
     let none : length c.loop-rest.rest.now ≡ 0 = search (rules, tests) in
     let whole : map seen_line played.0 ≡ script.calls =
     ap (map seen_line) (sym (append-nil played.0) ∙ sym (ap (λ (xs : List Line). played.0 ++ xs) (nothing_left c.loop-rest.rest.now none)) ∙ sym played.1.0 ∙ c.as_slice-rest.ensures.value) in
-    let text = trace_text (numbered (map seen_line played.0)) (map outcome_of played.1.1.answers) in
-    writes_all input c.deref.result.now script c.loop-rest.refused text old now bytes c.in_ok-script.ensures.found
-    (subst (λ (calls : List (ℕ × Call)). IsTraceOf script.header.count calls text c.loop-rest.refused) whole
-    (traced c.runs_are_safe.ensures c.no_delivery_is_refused_oddly.ensures script.header.count (map seen_line played.0) c.loop-rest.world c.loop-rest.refused old now played.1.1))
-    played.1.1.written
+    let all : HasPlayed script.header script.calls c.loop-rest.world c.loop-rest.refused old now =
+    subst (λ (calls : List (ℕ × Call)). HasPlayed script.header calls c.loop-rest.world c.loop-rest.refused old now) whole played.1.1 in
+    subst (λ (ended : RunEnd). WritesTo input old now ended) (sym c.new-4.ensures)
+    (writes_to c.runs_are_safe.ensures c.no_delivery_is_refused_oddly.ensures input c.deref.result.now script c.loop-rest.world c.loop-rest.refused old now bytes c.in_ok-script.ensures.found
+    c.loop-rest.invariant.nodes all)
