@@ -14,6 +14,8 @@ mod epoch_tests;
 #[cfg(test)]
 mod exchange_tests;
 #[cfg(test)]
+mod file_tests;
+#[cfg(test)]
 mod index_tests;
 #[cfg(test)]
 mod log_tests;
