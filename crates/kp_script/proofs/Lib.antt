@@ -19,3 +19,4 @@ pub mod Appending
 pub mod Apart
 pub mod Logs
 pub mod Played
+pub mod KeptLogs

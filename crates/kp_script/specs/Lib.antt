@@ -9,3 +9,4 @@ pub mod Told
 pub mod Transcript
 pub mod Ended
 pub mod Playing
+pub mod Kept

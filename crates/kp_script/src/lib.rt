@@ -8,6 +8,7 @@ mod digits;
 mod ended;
 mod events;
 mod fields;
+mod keeping;
 mod lines;
 mod run;
 mod script;
