@@ -1,5 +1,6 @@
 -- The program's command line.
 use Rattle.std.specs.Prelude.{◌≡◌, ◌⊎◌, ℕ, List, [], ◌∷◌, Option, Some, None, IsSomeAnd, codes, true, is_some, string_bytes}
+use Rattle.std.specs.Option.{option_map}
 use Rattle.std.specs.Str.Parse.{digits_value, without_leading_plus}
 use Rattle.clap.specs.Words.{App, IsUnsignedIn, Row, Rule, Text, first_of, new_app, new_rule, one_of, with_rule, with_subcommand}
 use Rattle.clap.specs.declared.builder.value_parser.ValueParser.TheVariants.{Unsigned}
@@ -10,9 +11,13 @@ use Rattle.kp_cli.specs.declared.call.Call.TheVariants.{Inspect, Run}
 abbrev pub file_rule : Rule
 file_rule = record (new_rule (codes "FILE")) { required = true }
 
--- `run FILE`
+-- `--keep FOLDER`
+abbrev pub keep_rule : Rule
+keep_rule = record (new_rule (codes "keep")) { long = Some (codes "keep"); value_names = 1 }
+
+-- `run FILE [--keep FOLDER]`
 abbrev pub run_app : App
-run_app = with_rule (new_app (codes "run")) file_rule
+run_app = with_rule (with_rule (new_app (codes "run")) file_rule) keep_rule
 
 -- `--NAME NUMBER`, a number from `least` to `greatest`, with the text that stands for it where it is left out
 abbrev pub number_rule : (name : Text) → (least greatest : ℕ) → (default : Text) → Rule
@@ -59,8 +64,9 @@ HasTheNumber name least greatest rows number = IsSomeAnd (one_of name rows) (λ 
 -- the call is the one that the used subcommand and its matches are
 abbrev pub IsCallOf : Option (Text × List Row) → Call → Type 0
 IsCallOf None call = ⊥
-IsCallOf (Some entered) (Run file) =
+IsCallOf (Some entered) (Run file keep) =
     (entered.0 ≡ codes "run") × (first_of (codes "FILE") entered.1 ≡ Some (string_bytes file))
+    × (first_of (codes "keep") entered.1 ≡ option_map string_bytes keep)
 IsCallOf (Some entered) (Inspect file segment_bytes index_interval) =
     (entered.0 ≡ codes "inspect") × (first_of (codes "FILE") entered.1 ≡ Some (string_bytes file))
     × HasTheNumber (codes "segment") 1024 1073741824 entered.1 segment_bytes
@@ -80,5 +86,10 @@ NamesCall (Some entered) = ((entered.0 ≡ codes "run") × HasFile entered.1)
 
 -- the path of the file that a call reads
 abbrev pub path_of : Call → List ℕ
-path_of (Run file) = string_bytes file
+path_of (Run file keep) = string_bytes file
 path_of (Inspect file segment_bytes index_interval) = string_bytes file
+
+-- the path of the folder that the logs of its run are kept in, if they are
+abbrev pub keep_of : Call → Option (List ℕ)
+keep_of (Run file keep) = option_map string_bytes keep
+keep_of (Inspect file segment_bytes index_interval) = None

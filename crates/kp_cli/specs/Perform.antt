@@ -1,12 +1,15 @@
 -- What the program does once its command line is read.
-use Rattle.std.specs.Prelude.{◌++◌, ℕ, zero, suc, List, Option, Some, None, Result, Ok, Err, IfSome, ◌≡◌, codes}
+use Rattle.std.specs.Prelude.{◌⊎◌, ◌+◌, ◌++◌, ℕ, zero, suc, List, [], Option, Some, None, Result, Ok, Err, IfSome, ◌≡◌, codes}
 use Rattle.std.specs.Io.KnownBytes.{Keeps}
 use Rattle.kp_types.specs.declared.refusal.Refusal.{Refusal}
 use Rattle.kp_types.specs.declared.refusal.Refusal.TheVariants as refusals
 use Rattle.kp_types.specs.declared.limits.Limits.{Limits}
 use Rattle.kp_types.specs.Texts.{refusal_text}
-use Rattle.kp_types.specs.Devices.{Tells}
+use Rattle.kp_types.specs.Devices.{CountsOne, IsDeviceFault, Tells}
+use Rattle.kp_types.specs.Folders.{Entry, Puts}
 use Rattle.kp_types.specs.declared.counted.Counted.{Counted}
+use Rattle.kp_script.specs.Ended.{RunEnd, WritesTo}
+use Rattle.kp_script.specs.Kept.{KeepsLogs, KeepsLogsFront}
 use Rattle.kp_script.specs.Script.{IsFaultAt}
 use Rattle.kp_script.specs.Transcript.{largest_batch, Writes, WritesFirst, WritesFront}
 use Rattle.kp_inspect.specs.Inspected.{Writes as WritesDump, WritesFront as WritesDumpFront}
@@ -23,6 +26,26 @@ RunsScript input old new (Err refusals.Device) = WritesFront input old new
 RunsScript input old new (Err refusals.Memory) = WritesFirst input old new × WritesFront input old new
 RunsScript input old new (Err _) = ⊥
 
+-- What the nodes' logs leave in a folder once a run has ended, with how many of its events were refused: all their files, or a
+-- beginning of them where the folder failed or a growth was refused.
+abbrev pub KeepsEnd : (before after : Option (List Entry)) → RunEnd → Result ℕ Refusal → Type 0
+KeepsEnd before after ended (Ok refused) = (refused ≡ ended.refused) × KeepsLogs before after ended.logs
+KeepsEnd before after ended (Err refusal) = IsDeviceFault refusal × KeepsLogsFront before after ended.logs
+
+-- What a run leaves whose logs are kept. Where it is refused before its end, on standard output what it leaves else, and
+-- nothing in the folder; and where it ends, its trace, and in the folder its logs.
+abbrev pub RunsKeeping : (input old new : Option (List ℕ)) → (before after : Option (List Entry)) → Result ℕ Refusal → Type 0
+RunsKeeping input old new before after outcome =
+    ((refusal : Refusal) × (outcome ≡ Err refusal) × RunsScript input old new outcome × Puts before after [])
+    ⊎ ((ended : RunEnd) × WritesTo input old new ended × KeepsEnd before after ended outcome)
+
+-- The answer is that a device failed exactly where a call of one of three did, one call of one of them: a reader, a writer and
+-- a folder, each with its count before and after.
+abbrev pub CountsOneOfThree : Result ℕ Refusal → (read read_new written written_new put put_new : ℕ) → Type 0
+CountsOneOfThree outcome read read_new written written_new put put_new =
+    (CountsOne outcome read read_new written written_new × (put_new ≡ put))
+    ⊎ ((outcome ≡ Err refusals.Device) × (read_new ≡ read) × (written_new ≡ written) × (put_new ≡ put + 1))
+
 -- how many fault lines a dump has
 abbrev pub faults_in : Option Refusal → ℕ
 faults_in None = 0
@@ -38,7 +61,7 @@ Inspects limits input old new (Err _) = ⊥
 
 -- what the call leaves on standard output, with how many events were refused or faults were found
 abbrev pub Performs : Call → Option (List ℕ) → Option (List ℕ) → Option (List ℕ) → Result ℕ Refusal → Type 0
-Performs (Run file) input old new outcome = RunsScript input old new outcome
+Performs (Run file keep) input old new outcome = RunsScript input old new outcome
 Performs (Inspect file segment_bytes index_interval) input old new outcome =
     Inspects (record { segment_bytes = segment_bytes; index_interval = index_interval; max_batch = largest_batch }) input old new outcome
 

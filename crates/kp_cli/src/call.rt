@@ -1,7 +1,8 @@
 //! What the program can be asked to do.
 
 ghost use Rattle.std.specs.Prelude.{◌≡◌};
-ghost use Rattle.kp_cli.specs.Line.{path_of};
+ghost use Rattle.std.specs.Option.{option_map};
+ghost use Rattle.kp_cli.specs.Line.{keep_of, path_of};
 
 /// What the command line asks for.
 #[derive(Debug, Drop)]
@@ -10,6 +11,8 @@ pub enum Call {
     Run {
         /// The path of the script, as it was written.
         file: String,
+        /// The path of the folder that the nodes' logs are kept in, as it was written, if they are.
+        keep: Option<String>,
     },
     /// Read the log at the path `file` and print its dump.
     Inspect {
@@ -28,7 +31,20 @@ impl Call {
         ensures { result.now ≡ path_of self.now }
     {
         match self {
-            Call::Run { file } | Call::Inspect { file, .. } => file.as_str(),
+            Call::Run { file, .. } | Call::Inspect { file, .. } => file.as_str(),
+        }
+    }
+
+    /// The path of the folder that the logs of its run are kept in, as it was written, if they are. O(1).
+    pub fn keep(&self) -> Option<&str>
+        ensures { option_map (λ path. path.now) result ≡ keep_of self.now }
+    {
+        match self {
+            Call::Run {
+                keep: Some(path),
+                ..
+            } => Some(path.as_str()),
+            _ => None,
         }
     }
 }

@@ -11,6 +11,6 @@ mod running;
 
 pub use call::Call;
 pub use line::{VERSION, call_of};
-pub use opening::{Files, Unopened, refusal_of};
+pub use opening::{Files, NOT_EMPTY, Unopened, refusal_of};
 pub use program::main_with;
-pub use running::{perform, refuse};
+pub use running::{perform, refuse, run_and_keep};

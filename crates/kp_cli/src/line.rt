@@ -1,12 +1,13 @@
 //! Reads the command line.
 
 ghost use Rattle.std.specs.Prelude.{◌≡◌, ◌<◌, ◌^◌, IfOk, IsSomeAnd, MatchOption, None, Some, codes, false, is_some};
-ghost use Rattle.std.specs.Prelude.{map, true};
+ghost use Rattle.std.specs.Prelude.{map, string_bytes, true};
+ghost use Rattle.std.specs.Option.{option_map};
 ghost use Rattle.std.specs.Str.Parse.{IsNumeral, digits_value, without_leading_plus};
 ghost use Rattle.clap.specs.Words.{FailsBy, app_of, fault_of, first_of, found_of, one_of, rows_of, rule_of};
 ghost use Rattle.clap.specs.Words.{subcommand_of, subcommand_rows_of};
 ghost use Rattle.clap.specs.declared.builder.command.Command.TheViews.{out-Command};
-ghost use Rattle.kp_cli.specs.Line.{IsCallOf, NamesCall, file_rule, inspect_app, interval_rule, kpart, run_app};
+ghost use Rattle.kp_cli.specs.Line.{IsCallOf, NamesCall, file_rule, inspect_app, interval_rule, keep_rule, kpart, run_app};
 ghost use Rattle.kp_cli.specs.Line.{segment_rule};
 
 use crate::Call;
@@ -53,13 +54,24 @@ fn interval_argument<'a>(alloc: Global) -> Arg<'a>
         .help("the bytes between two entries of an index")
 }
 
+fn keep_argument<'a>(alloc: Global) -> Arg<'a>
+    ensures rule { rule_of result ≡ keep_rule }
+    ensures local { result.global ≡ false }
+{
+    Arg::new(alloc, "keep")
+        .long("keep")
+        .value_name("FOLDER")
+        .help("an empty folder, or a new one, to keep the nodes' logs in")
+}
+
 fn run_command<'a>(alloc: Global) -> Result<Command<'a>, AllocError>
     ensures { IfOk result (λ command. (app_of command ≡ run_app)
         × ((out-Command command).has_globals ≡ false)) }
 {
     let command = Command::new(alloc, "run")
         .about("Runs a script and prints its trace")
-        .arg(file_argument(alloc, "the script to run"))?;
+        .arg(file_argument(alloc, "the script to run"))?
+        .arg(keep_argument(alloc))?;
     Ok(command)
 }
 
@@ -120,6 +132,19 @@ fn file_value<'a>(found: &ArgMatches<'a>) -> &'a str
     }
 }
 
+fn keep_value(alloc: Global, found: &ArgMatches<'_>) -> Result<Option<String>, AllocError>
+    ensures { IfOk result (λ keep. first_of (codes "keep") (rows_of (found_of found.now))
+        ≡ option_map string_bytes keep) }
+{
+    match found.get_str("keep") {
+        Some(path) => {
+            let path = String::from_str(alloc, path)?;
+            Ok(Some(path))
+        }
+        None => Ok(None),
+    }
+}
+
 fn number_value(found: &ArgMatches<'_>, name: &str) -> u32
     requires { IsSomeAnd (one_of name.now (rows_of (found_of found.now))) (λ text.
         IsNumeral 10 (without_leading_plus text)
@@ -142,7 +167,8 @@ fn call_in(alloc: Global, matches: &ArgMatches<'_>) -> Result<Call, AllocError>
     };
     let file = String::from_str(alloc, file_value(found))?;
     if name == "run" {
-        Ok(Call::Run { file })
+        let keep = keep_value(alloc, found)?;
+        Ok(Call::Run { file, keep })
     } else if name == "inspect" {
         Ok(Call::Inspect {
             file,

@@ -5,10 +5,16 @@ ghost use Rattle.std.specs.IoError.{error_kind};
 ghost use Rattle.kp_types.specs.declared.refusal.Refusal.TheVariants.{Device, Memory};
 ghost use Rattle.kp_cli.specs.declared.opening.Unopened.{Unopened as WhyUnopened};
 
-use kp_types::Refusal;
+use kp_types::{Folder, Refusal};
 use std::io::{Error, ErrorKind, Read};
 
-/// Why a file can't be opened.
+/// What is said of a folder that something stands in already.
+pub const NOT_EMPTY: Unopened = Unopened {
+    refusal: Refusal::Device,
+    why: "it isn't empty",
+};
+
+/// Why a file can't be opened, or a folder not be taken.
 #[derive(Clone, Copy, Debug, PartialEq, Eq)]
 pub struct Unopened {
     /// F33 where memory ran out, else F32.
@@ -17,7 +23,7 @@ pub struct Unopened {
     pub why: &'static str,
 }
 
-/// The files that the program may open.
+/// The files that the program may open, and the folders that it may put files into.
 pub trait Files {
     /// An opened file.
     type File: Read + Drop;
@@ -25,9 +31,19 @@ pub trait Files {
     // What opening a path may give, where that is known.
     ghost opens: { Self → List ℕ → Result Self.File WhyUnopened → Type 0 } = { λ _ _ _. ⊤ };
 
+    /// A folder that files are put into.
+    type Kept: Folder + Drop;
+
+    // What an empty folder of a path may be, where that is known.
+    ghost makes: { Self → List ℕ → Result Self.Kept WhyUnopened → Type 0 } = { λ _ _ _. ⊤ };
+
     /// Opens the file at the path to read it.
     fn open(&self, path: &str) -> Result<Self::File, Unopened>
         ensures { opens self.now path.now result };
+
+    /// The folder at the path, which is made where nothing stands there, and else has to be an empty folder.
+    fn empty_folder(&self, path: &str) -> Result<Self::Kept, Unopened>
+        ensures { makes self.now path.now result };
 }
 
 /// The refusal that an error of the system is: F33 where it says that memory ran out, else F32. O(1).
@@ -52,6 +68,17 @@ impl Unopened {
             why: reason_of(error),
         }
     }
+
+    /// What an error of the system says of a folder that is to be made or looked into. O(1).
+    pub fn of_folder(error: &Error) -> Unopened
+        ensures memory { error_kind error.now ≡ ErrorKind.OutOfMemory → result.refusal ≡ Memory }
+        ensures device { error_kind error.now ≢ ErrorKind.OutOfMemory → result.refusal ≡ Device }
+    {
+        Unopened {
+            refusal: refusal_of(error),
+            why: reason_of_folder(error),
+        }
+    }
 }
 
 fn reason_of(error: &Error) -> &'static str {
@@ -62,5 +89,15 @@ fn reason_of(error: &Error) -> &'static str {
         ErrorKind::IsADirectory => "it is a folder",
         ErrorKind::OutOfMemory => "out of memory",
         _ => "it can't be opened",
+    }
+}
+
+fn reason_of_folder(error: &Error) -> &'static str {
+    match error.kind() {
+        ErrorKind::NotFound => "the folder above it isn't there",
+        ErrorKind::PermissionDenied => "permission denied",
+        ErrorKind::NotADirectory => "it is no folder, or a part of its path is none",
+        ErrorKind::OutOfMemory => "out of memory",
+        _ => "it can't be made or looked into",
     }
 }

@@ -3,13 +3,13 @@
 ghost use Rattle.std.specs.Prelude.{◌≡◌, ◌+◌, ◌++◌, ◌<◌, ◌^◌, ℕ, Result, OnOk, OnErr};
 ghost use Rattle.kp_types.specs.Devices.{CountsOne, IsBegun, IsOut, Tells, device_of, faults_of};
 ghost use Rattle.kp_types.specs.declared.refusal.Refusal.{Refusal as SomeRefusal};
-ghost use Rattle.kp_cli.specs.Perform.{RunsScript, Inspects, Performs, Complains, complaint, status_of, status_of_refusal};
+ghost use Rattle.kp_cli.specs.Perform.{RunsScript, Inspects, Performs, Complains, CountsOneOfThree, RunsKeeping, complaint, status_of, status_of_refusal};
 
 use crate::Call;
 use itoa::Buffer;
 use kp_inspect::inspect;
 use kp_script::play_script;
-use kp_types::{Counted, Limits, MAX_BATCH, Refusal};
+use kp_types::{Counted, Folder, Limits, MAX_BATCH, Refusal};
 use std::alloc::Global;
 use std::io::{Read, Write};
 
@@ -66,7 +66,7 @@ pub fn refuse<E: Write>(err: &mut Counted<E>, refusal: Refusal) -> u8
     }
 }
 
-/// Does what the call asks for, with the opened file as the reader, and answers the exit status: 0 where no
+/// Does what the call asks for, but for keeping logs, with the opened file as the reader, and answers the exit status: 0 where no
 /// event was refused and no fault was found, 1 where one or more were and for F32 and F33, 2 for F31. The trace
 /// or the dump goes to standard output and a refusal of the whole call to standard error; with F31 nothing
 /// is on standard output. Takes time and memory proportional to the file and what is written of it.
@@ -109,5 +109,39 @@ pub fn perform<R: Read, W: Write, E: Write>(
                 Err(refusal) => refuse(err, refusal),
             }
         }
+    }
+}
+
+/// Runs the script that the reader holds, as [`perform`] does, and once its trace is out puts the logs of its nodes into the
+/// folder, as [`kp_script::Ended::write_logs`] does. Answers the exit status: 0 where no event was refused, 1 where one or more
+/// were and for F32 and F33, 2 for F31. Where the run is refused nothing comes into the folder; where the folder fails, or a
+/// growth is refused there, the whole trace is out, and a beginning of the logs is there. O(n) in the script and the logs.
+pub fn run_and_keep<R: Read, K: Folder, W: Write, E: Write>(
+    alloc: Global,
+    reader: &mut Counted<R>,
+    folder: &mut Counted<K>,
+    out: &mut Counted<W>,
+    err: &mut Counted<E>,
+) -> u8
+    requires reads { faults_of reader.old + 1 < 2 ^ 64 }
+    requires puts { faults_of folder.old + 1 < 2 ^ 64 }
+    requires writes { faults_of out.old + 1 < 2 ^ 64 }
+    requires complaints { faults_of err.old + 1 < 2 ^ 64 }
+    ensures { (outcome : Result ℕ SomeRefusal)
+        × RunsKeeping (R.remaining (device_of reader.old))
+        (W.contents (device_of out.old)) (W.contents (device_of out.new))
+        (K.entries (device_of folder.old)) (K.entries (device_of folder.new)) outcome
+        × CountsOneOfThree outcome (faults_of reader.old) (faults_of reader.new)
+        (faults_of out.old) (faults_of out.new) (faults_of folder.old) (faults_of folder.new)
+        × Complains E.contents err.old err.new outcome
+        × result ≡ status_of outcome }
+{
+    let ended = match play_script(alloc, reader, out) {
+        Ok(ended) => ended,
+        Err(refusal) => return refuse(err, refusal),
+    };
+    match ended.write_logs(alloc, folder) {
+        Ok(()) => u8::from(ended.refused() > 0),
+        Err(refusal) => refuse(err, refusal),
     }
 }

@@ -1,11 +1,12 @@
-use Rattle.std.proofs.Common.{◌≡◌, ◌⊎◌, rules, refl, sym, subst, map, string_bytes, List, Result, Ok}
+use Rattle.std.proofs.Common.{◌≡◌, ◌⊎◌, rules, refl, sym, subst, map, string_bytes, List, ℕ, Option, Result, Ok}
 use Rattle.clap.specs.Words.{IsAmong, Text, fault_of, subcommand_of}
 use Rattle.clap.specs.declared.error.kind.ErrorKind.{ErrorKind}
 use Rattle.clap.specs.declared.error.kind.ErrorKind.TheVariants as kinds
 use Rattle.kp_types.specs.declared.refusal.Refusal.{Refusal}
 use Rattle.kp_cli.specs.Line.{IsCallOf, kpart}
-use Rattle.kp_cli.specs.Program.{Asks, IsAsked, Mistakes, Unread}
+use Rattle.kp_cli.specs.Program.{Asks, EndsRead, IsAsked, Mistakes, Unread, known_of}
 use Rattle.kp_cli.specs.declared.call.Call.{Call}
+use Rattle.kp_cli.proofs.Ending.{ends_keeping}
 use Rattle.kp_cli.proofs.program.main_with.Goals as goal
 
 asked_call : {A : Type 0} (texts : A → List Text) (words : Result A Refusal) (read : A) (call : Call) → words ≡ Ok read
@@ -28,14 +29,48 @@ returns-in-Err-call_of g c = (
   c.explain.ensures,
 )
 
-pub returns-in-Ok-open : goal.returns-in-Ok-open
-returns-in-Ok-open g c = (
+pub returns-in-Err-open : goal.returns-in-Err-open
+returns-in-Err-open g c = (
   Asks c.in-Ok-call_of.call,
   asked_call (λ all. map string_bytes all.items) c.args.words c.in-Ok.words c.in-Ok-call_of.call c.in-Ok.is
       (subst (λ items. IsCallOf (subcommand_of kpart (map string_bytes items)) c.in-Ok-call_of.call) c.as_slice.ensures.value
       c.in-Ok-call_of.ensures.call),
   search rules,
 )
+
+pub returns-in_default : goal.returns-in_default
+returns-in_default g c = (
+  Asks c.in-Ok-call_of.call,
+  asked_call (λ all. map string_bytes all.items) c.args.words c.in-Ok.words c.in-Ok-call_of.call c.in-Ok.is
+      (subst (λ items. IsCallOf (subcommand_of kpart (map string_bytes items)) c.in-Ok-call_of.call) c.as_slice.ensures.value
+      c.in-Ok-call_of.ensures.call),
+  search rules,
+)
+
+pub returns-in-Ok-empty_folder : goal.returns-in-Ok-empty_folder
+returns-in-Ok-empty_folder g c =
+    let files = c.args.files.now in
+    let call = c.in-Ok-call_of.call in
+    let file = c.in-Ok-open.file in
+    let known = known_of (g.F.Files.opens files) (g.F.Files.makes files) g.F.File.Read.remaining g.F.Kept.Folder.entries g.W.Write.contents g.E.Write.contents in (
+      Asks c.in-Ok-call_of.call,
+      asked_call (λ all. map string_bytes all.items) c.args.words c.in-Ok.words c.in-Ok-call_of.call c.in-Ok.is
+          (subst (λ items. IsCallOf (subcommand_of kpart (map string_bytes items)) c.in-Ok-call_of.call) c.as_slice.ensures.value
+          c.in-Ok-call_of.ensures.call),
+      (
+        Ok file,
+        subst (λ (path : List ℕ). g.F.Files.opens files path (Ok file)) c.file.ensures c.in-Ok-open.ensures,
+        subst (λ (keep : Option (List ℕ)). EndsRead known call file keep c.args.out.now c.run_and_keep.new.out c.args.err.now c.run_and_keep.new.err c.run_and_keep.result)
+            c.in-Some.ensures (
+              Ok c.in-Ok-empty_folder.folder,
+              c.in-Ok-empty_folder.ensures,
+              ends_keeping g.F.File.Read.remaining g.F.Kept.Folder.entries g.W.Write.contents g.E.Write.contents file c.in-Ok-empty_folder.folder
+                  c.new-reader.result c.run_and_keep.new.reader c.new.result c.run_and_keep.new.folder
+                  c.args.out.now c.run_and_keep.new.out c.args.err.now c.run_and_keep.new.err c.run_and_keep.result
+                  c.new-reader.ensures.device c.new-reader.ensures.faults c.new.ensures.device c.new.ensures.faults c.run_and_keep.ensures,
+            ),
+      ),
+    )
 
 pub returns : goal.returns
 returns g c = (

@@ -1,9 +1,9 @@
-use Rattle.std.proofs.Common.{◌++◌, subst, codes, Result, Ok, Err, inl, inr, List, ℕ, Option, OnOk, OnErr}
+use Rattle.std.proofs.Common.{◌++◌, Result, Ok, Err, inl, inr, List, ℕ, Option, OnOk, OnErr}
 use Rattle.kp_types.specs.Devices.{IsBegun, IsOut, Tells}
 use Rattle.kp_types.specs.declared.counted.Counted.{Counted}
 use Rattle.kp_types.proofs.Fronts.{out_out, out_begun, begun_more}
 use Rattle.kp_cli.specs.Perform.{complaint}
-use Rattle.kp_cli.proofs.program.refuse_file.Goals as goal
+use Rattle.kp_cli.proofs.program.refuse_path.Goals as goal
 
 -- a second text behind one that is out
 and_then : {T X Y : Type 0} (contents : T → Option (List ℕ)) (a b c : Counted T) (xs ys : List ℕ) (r : Result X Y) → IsOut contents a b xs
@@ -13,11 +13,8 @@ and_then contents a b c xs ys (Err y) out second failed = inr (out_begun content
 
 pub returns-in-Ok-clause-told : goal.returns-in-Ok-clause-told
 returns-in-Ok-clause-told g c =
-    subst (λ path. Tells g.E.Write.contents c.args.err.now c.write_line.new.err
-    (complaint c.args.reason.refusal ++ (codes "kpart: " ++ (path ++ (codes ": " ++ (c.args.reason.why.now ++ codes "\n"))))))
-    c.file.ensures
-    (and_then g.E.Write.contents c.args.err.now c.complain.new.err c.write_line.new.err (complaint c.args.reason.refusal) _
-    c.write_line.result c.in-Ok.ensures.ok c.write_line.ensures.ok c.write_line.ensures.err)
+    and_then g.E.Write.contents c.args.err.now c.complain.new.err c.write_line.new.err (complaint c.args.reason.refusal) _
+    c.write_line.result c.in-Ok.ensures.ok c.write_line.ensures.ok c.write_line.ensures.err
 
 pub returns-in-Err-clause-told : goal.returns-in-Err-clause-told
 returns-in-Err-clause-told g c =

@@ -1,0 +1,39 @@
+use Rattle.std.proofs.Common.{◌∙◌, ℕ, nat_lt, Ok, Err, inl, inr, refl, ap}
+use mir.Val.{bool_byte}
+use Rattle.kp_types.proofs.Filing.{put_none}
+use Rattle.kp_cli.proofs.Ending.{kept_counted, ran_status, run_refused, same_kept}
+use Rattle.kp_cli.proofs.running.run_and_keep.Goals as goal
+
+pub returns-in-Err : goal.returns-in-Err
+returns-in-Err g c = (
+  Err c.in-Err.refusal,
+  inl (
+    c.in-Err.refusal,
+    refl,
+    run_refused _ _ _ c.in-Err.refusal c.in-Err.ensures.only
+        (λ line e. (c.in-Err.ensures.fault line (ap Err e), same_kept g.W.Write.contents c.args.out.now c.play_script.new.writer (c.in-Err.ensures.untouched line (ap Err e))))
+        (λ e. c.in-Err.ensures.first (ap Err e)) c.in-Err.ensures.front,
+    put_none _,
+  ),
+  inl (c.in-Err.ensures.counted, refl),
+  c.refuse.ensures.told,
+  c.refuse.ensures.status,
+)
+
+pub returns-in-Ok-write_logs : goal.returns-in-Ok-write_logs
+returns-in-Ok-write_logs g c = (
+  Ok c.in-Ok.ended.refused,
+  inr (c.in-Ok.ended, c.in-Ok.ensures.played, (refl, c.in-Ok-write_logs.ensures.ok)),
+  inl (c.in-Ok.ensures.counted, c.in-Ok-write_logs.ensures.counted),
+  refl,
+  c.from.ensures ∙ ap (λ (n : ℕ). bool_byte (nat_lt 0 n)) c.refused.ensures ∙ ran_status c.in-Ok.ended.refused,
+)
+
+pub returns : goal.returns
+returns g c = (
+  Err c.in-Err-write_logs.refusal,
+  inr (c.in-Ok.ended, c.in-Ok.ensures.played, (c.in-Err-write_logs.ensures.only, c.in-Err-write_logs.ensures.err)),
+  kept_counted c.in-Err-write_logs.refusal c.in-Err-write_logs.ensures.only _ _ _ _ _ _ c.in-Ok.ensures.counted c.in-Err-write_logs.ensures.counted,
+  c.refuse-in-Err-write_logs.ensures.told,
+  c.refuse-in-Err-write_logs.ensures.status,
+)
