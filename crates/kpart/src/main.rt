@@ -3,27 +3,13 @@
 //! Its own contract is none: its stored run, and the rows of `kp_rows`, show that what it hands over is the host's.
 #![tactic(auto)]
 
-use kp_cli::{Files, Unopened, main_with, refusal_of};
+mod host;
+
+use host::HostFiles;
+use kp_cli::{main_with, refusal_of};
 use kp_types::{Counted, Refusal};
+use std::env;
 use std::process::ExitCode;
-use std::{env, fs};
-
-/// The files of the host.
-#[derive(Clone, Copy)]
-struct HostFiles<'a> {
-    rt: &'a HostRuntime,
-}
-
-impl<'a> Files for HostFiles<'a> {
-    type File = <HostRuntime as fs::Files>::File;
-
-    fn open(&self, path: &str) -> Result<Self::File, Unopened> {
-        match fs::open(self.rt, path) {
-            Ok(file) => Ok(file),
-            Err(error) => Err(Unopened::of(&error)),
-        }
-    }
-}
 
 /// The words of the command line, the first of which is the program's name.
 fn words(rt: &HostRuntime) -> Result<Vec<String>, Refusal> {
