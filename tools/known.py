@@ -787,6 +787,9 @@ NO_CALL = {f"kpart{' ' if words else ''}{words}": kind for words, kind in (
     ("inspect x --segment", "InvalidValue"),
     ("inspect x --segment 1024 --segment 1024", "ArgumentConflict"),
     ("inspect x --interval 1048577", VALUE),
+    ("run made_1.script --keep", "InvalidValue"),
+    ("run made_1.script --keep a --keep b", "ArgumentConflict"),
+    ("inspect made_example.log --keep kept", UNKNOWN),
     ("inspect x --interval=-0", VALUE),
     ("inspect x --interval 0x10", VALUE),
     ("inspect x --interval -1", UNKNOWN),
@@ -803,5 +806,11 @@ NO_CALL = {f"kpart{' ' if words else ''}{words}": kind for words, kind in (
 NO_FILE = {f"kpart {words}": path for words, path in (
     ("run no.script", "no.script"),
     ("run no/such.script", "no/such.script"),
+    ("run no.script --keep full", "no.script"),
     ("inspect no.log --segment 1024", "no.log"),
+)}
+
+# Rows whose folder isn't empty
+NO_FOLDER = {f"kpart {words}": path for words, path in (
+    ("run made_example_first.script --keep full", "full"),
 )}

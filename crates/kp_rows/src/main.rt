@@ -3,8 +3,8 @@
 //! Its rows, files and wanted text are made by `tools/rows`; no contract speaks of it, and `docs/TESTS.md` says how to add a row.
 #![tactic(auto)]
 
-use kp_cli::{Call, Files, Unopened, call_of, main_with, perform};
-use kp_types::{Counted, Faulty};
+use kp_cli::{Call, Files, NOT_EMPTY, Unopened, call_of, main_with, perform, run_and_keep};
+use kp_types::{Counted, Faulty, FaultyFolder};
 use std::fs;
 use std::io::{self, Write};
 
@@ -30,20 +30,30 @@ fn show(rt: &HostRuntime, out: &[u8], err: &[u8], status: u8) -> io::Result<()> 
     println!(rt; "status {status}")
 }
 
-/// The files of the folder, of which each read of this number fails.
+/// The files of the folder, of which each read of this number fails; and folders in memory, of which `full` isn't empty.
 #[derive(Clone, Copy)]
-struct Folder<'a> {
+struct Given<'a> {
     rt: &'a HostRuntime,
     read: u64,
 }
 
-impl<'a> Files for Folder<'a> {
+impl<'a> Files for Given<'a> {
     type File = Faulty;
+
+    type Kept = FaultyFolder;
 
     fn open(&self, path: &str) -> Result<Faulty, Unopened> {
         match fs::read(self.rt, path) {
             Ok(bytes) => Ok(Faulty::new(bytes, self.read)),
             Err(error) => Err(Unopened::of(&error)),
+        }
+    }
+
+    fn empty_folder(&self, path: &str) -> Result<FaultyFolder, Unopened> {
+        if path == "full" {
+            Err(NOT_EMPTY)
+        } else {
+            Ok(FaultyFolder::new(self.rt.alloc(), u64::MAX))
         }
     }
 }
@@ -53,7 +63,7 @@ impl<'a> Files for Folder<'a> {
 fn perform_words(rt: &HostRuntime, words: &[&str], failing: Failing) -> io::Result<()> {
     let mut out = Counted::new(Faulty::new(Vec::new(rt.alloc()), failing.write));
     let mut err = Counted::new(Vec::new(rt.alloc()));
-    let folder = Folder {
+    let files = Given {
         rt,
         read: failing.read,
     };
@@ -61,7 +71,7 @@ fn perform_words(rt: &HostRuntime, words: &[&str], failing: Failing) -> io::Resu
     for word in words {
         handed.push(word.to_string(rt.alloc())?)?;
     }
-    let status = main_with(rt.alloc(), Ok(handed), &folder, &mut out, &mut err);
+    let status = main_with(rt.alloc(), Ok(handed), &files, &mut out, &mut err);
     let told = out.device().bytes.as_slice();
     match call_of(rt.alloc(), words) {
         Ok(_) => show(rt, told, err.device().as_slice(), status),
@@ -77,6 +87,7 @@ fn perform_words(rt: &HostRuntime, words: &[&str], failing: Failing) -> io::Resu
 fn run_call(rt: &HostRuntime) -> io::Result<Call> {
     Ok(Call::Run {
         file: "script".to_string(rt.alloc())?,
+        keep: None,
     })
 }
 
@@ -87,6 +98,59 @@ fn run_bytes(rt: &HostRuntime, call: &Call, bytes: Vec<u8>) -> io::Result<()> {
     let mut err = Counted::new(Vec::new(rt.alloc()));
     let status = perform(rt.alloc(), call, &mut reader, &mut out, &mut err);
     show(rt, out.device().as_slice(), err.device().as_slice(), status)
+}
+
+/// Runs the script of a file and keeps its nodes' logs in a folder in memory, of which the call of this number fails. Gives
+/// the folder, and prints what else the run leaves.
+fn keep(rt: &HostRuntime, file: &str, put: u64) -> io::Result<Counted<FaultyFolder>> {
+    let mut reader = Counted::new(Faulty::new(fs::read(rt, file)?, NEVER.read));
+    let mut folder = Counted::new(FaultyFolder::new(rt.alloc(), put));
+    let mut out = Counted::new(Vec::new(rt.alloc()));
+    let mut err = Counted::new(Vec::new(rt.alloc()));
+    let status = run_and_keep(rt.alloc(), &mut reader, &mut folder, &mut out, &mut err);
+    show(rt, out.device().as_slice(), err.device().as_slice(), status)?;
+    Ok(folder)
+}
+
+/// Prints what stands in the folder in which a script's logs are kept, each file with its size and its bytes.
+fn show_kept(rt: &HostRuntime, file: &str, put: u64) -> io::Result<()> {
+    let folder = keep(rt, file, put)?;
+    for (name, bytes) in &folder.device().entries {
+        match bytes {
+            None => println!(rt; "folder {name}")?,
+            Some(bytes) => {
+                let digits = hex::encode(rt.alloc(), bytes.as_slice())?;
+                println!(rt; "file {name} {} {digits}", bytes.len())?;
+            }
+        }
+    }
+    Ok(())
+}
+
+/// Inspects the files in which a node's log is kept at the end of a script's run, joined.
+fn dump_kept(
+    rt: &HostRuntime,
+    file: &str,
+    node: &str,
+    segment: &str,
+    interval: &str,
+) -> io::Result<()> {
+    let folder = keep(rt, file, NEVER.write)?;
+    let place = format!(in rt.alloc(); "node-{node}/")?;
+    let mut joined = Vec::new(rt.alloc());
+    for (name, bytes) in &folder.device().entries {
+        if let Some(bytes) = bytes {
+            if name.starts_with(place.as_str()) {
+                joined.extend_from_slice(bytes.as_slice())?;
+            }
+        }
+    }
+    let call = Call::Inspect {
+        file: "log".to_string(rt.alloc())?,
+        segment_bytes: segment.parse().unwrap_or(0),
+        index_interval: interval.parse().unwrap_or(0),
+    };
+    run_bytes(rt, &call, joined)
 }
 
 /// Runs a script for each line of the file `lines`, between what two other files hold.
@@ -120,7 +184,8 @@ fn number(word: &str) -> u64 {
 }
 
 /// Does one row: a command line; or one behind `fail READ WRITE`; or `each FRONT LINES BACK`; or
-/// `repeat FRONT PIECE COUNT`. A line that begins with `#` is a heading.
+/// `repeat FRONT PIECE COUNT`; or `keep PUT SCRIPT`, which shows the files in which a script's logs are kept; or
+/// `dump NODE SEGMENT INTERVAL SCRIPT`, which inspects those of a node. A line that begins with `#` is a heading.
 fn perform_row(rt: &HostRuntime, row: &str) -> io::Result<()> {
     println!(rt; "> {row}")?;
     let words: Vec<&str> = row.split(' ').collect(rt.alloc())?;
@@ -128,6 +193,8 @@ fn perform_row(rt: &HostRuntime, row: &str) -> io::Result<()> {
         ["#", ..] => Ok(()),
         ["each", front, lines, back] => perform_each(rt, front, lines, back),
         ["repeat", front, piece, count] => perform_repeated(rt, front, piece, count),
+        ["keep", put, file] => show_kept(rt, file, number(put)),
+        ["dump", node, segment, interval, file] => dump_kept(rt, file, node, segment, interval),
         ["fail", read, write, words @ ..] => {
             let failing = Failing {
                 read: number(read),
