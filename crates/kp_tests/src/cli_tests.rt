@@ -29,6 +29,7 @@ fn help_has_the_texts(rt: HostRuntime) {
         ("kpart --help", "Runs a script and prints its trace"),
         ("kpart --version", "kpart 0.1.0\n"),
         ("kpart run --help", "the script to run"),
+        ("kpart run --help", "--keep <FOLDER>"),
         ("kpart inspect --help", "the log to read"),
         ("kpart inspect --help", "--segment <S>"),
         ("kpart inspect --help", "[default: 1073741824]"),
