@@ -133,17 +133,23 @@ def parse(script):
     return count, events
 
 
-def run(script):
-    """What a run leaves: its trace, its complaint, its exit status."""
-    try:
-        count, events = parse(script)
-    except Fault as fault:
-        return "", f"kpart: F31 BadScript {fault}\n", 2
-    world, trace, status = World(count), [], 0
+def played(world, events):
+    """The trace of the events, and the exit status."""
+    trace, status = [], 0
     for place, event in events:
         try:
             answer = event(world)
         except Refused as refusal:
             answer, status = str(refusal), 1
         trace.append(f"{place} {answer}\n")
-    return "".join(trace), "", status
+    return "".join(trace), status
+
+
+def run(script):
+    """What a run leaves: its trace, its complaint, its exit status."""
+    try:
+        count, events = parse(script)
+    except Fault as fault:
+        return "", f"kpart: F31 BadScript {fault}\n", 2
+    trace, status = played(World(count), events)
+    return trace, "", status
