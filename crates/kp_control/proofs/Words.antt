@@ -5,11 +5,14 @@ use Rattle.std.proofs.Math.Arith.{lt_of_le-ne}
 use Rattle.std.specs.Prelude.{if◌then◌else◌}
 use Rattle.std.proofs.lemmas.Bool.{cases_eq, cond_both, eq-eqb, ne_eqb}
 use Rattle.std.proofs.lemmas.List.Sums.{sum_by-cons}
-use Rattle.kp_model.specs.World.{Leader, LeaderAndIsr}
+use Rattle.kp_model.specs.World.{Leader, LeaderAndIsr, most_nodes}
 use Rattle.kp_model.specs.Local.{greatest_epoch}
 use Rattle.kp_model.specs.Step.{Rise, IsInRange}
-use Rattle.kp_control.specs.Set.{numbers_of}
-use Rattle.kp_control.specs.Word.{leader_field, epoch_field, set_field, packed}
+use Rattle.std.specs.Option.{option_map, ForSome}
+use Rattle.kp_control.specs.declared.record.Leader.{Leader as CodeLeader}
+use Rattle.kp_control.specs.declared.record.LeaderAndIsr.{LeaderAndIsr as CodeRecord}
+use Rattle.kp_control.specs.Set.{numbers_of, leader_of, record_of}
+use Rattle.kp_control.specs.Word.{leader_field, epoch_field, set_field, packed, WordsAreOne}
 
 -- ---- a set's bits, the first number's the lowest
 
@@ -204,3 +207,41 @@ no_other r word range f some odd = by_leader r.leader refl
 -- a record is told by its fields
 pub told : (r known : LeaderAndIsr) → known.leader ≡ r.leader → known.isr ≡ r.isr → known.version ≡ r.version → known ≡ r
 told r known leader isr version = λ i. record { leader = leader i; isr = isr i; version = version i }
+
+-- ---- a record in range is told by its word
+
+one_leader : (o p : Option Leader) → ((l : Leader) → o ≡ Some l → (l.node < 7) × (l.epoch ≤ greatest_epoch)) → ((l : Leader) → p ≡ Some l → (l.node < 7) × (l.epoch ≤ greatest_epoch))
+    → leader_field o ≡ leader_field p → epoch_field o ≡ epoch_field p → o ≡ p
+one_leader None None h g node epoch = refl
+one_leader None (Some l) h g node epoch = absurd (let a = (g l refl).0 in omega arith)
+one_leader (Some l) None h g node epoch = absurd (let a = (h l refl).0 in omega arith)
+one_leader (Some l) (Some m) h g node epoch = let e : l.epoch ≡ m.epoch = omega arith in λ i. Some (record { node = node i; epoch = e i })
+
+pub one_word : WordsAreOne
+one_word r s in_r in_s same =
+    let f = fields r (packed s) in_r same in
+    let g = fields s (packed s) in_s refl in
+    let one = scaled 0 7 r.isr in_r.isr in
+    let other = scaled 0 7 s.isr in_s.isr in
+    let codes : code 0 7 r.isr ≡ code 0 7 s.isr = omega (arith, one, other, f.set, g.set) in
+    let leader = one_leader r.leader s.leader in_r.leader in_s.leader (sym f.leader ∙ g.leader) (sym f.epoch ∙ g.epoch) in
+    let isr : r.isr ≡ s.isr = sym (back 0 7 r.isr in_r.isr) ∙ ap (λ (n : ℕ). decoded 0 7 n) codes ∙ back 0 7 s.isr in_s.isr in
+    let version : r.version ≡ s.version = sym f.version ∙ g.version in
+    λ i. record { leader = leader i; isr = isr i; version = version i }
+
+-- ---- a record of the code is in range
+
+code_leader : (o : Option CodeLeader) → ForSome o (λ l. l.epoch + 1 < 2 ^ 24) → ForSome o (λ l. l.node < 7) → (l : Leader) → option_map leader_of o ≡ Some l → (l.node < most_nodes) × (l.epoch ≤ greatest_epoch)
+code_leader None low small l e = absurd cc
+code_leader (Some k) low small l e =
+    let same : leader_of k ≡ l = cc in
+    let node : k.node ≡ l.node = ap (λ (m : Leader). m.node) same in
+    let epoch : k.epoch ≡ l.epoch = ap (λ (m : Leader). m.epoch) same in
+    ((let s : k.node < 7 = small k refl in omega arith), let a : k.epoch + 1 < 2 ^ 24 = low k refl in omega arith)
+
+pub code_in_range : (r : CodeRecord) → length r.isr.members ≡ 7 → ForSome r.leader (λ l. l.epoch + 1 < 2 ^ 24) → ForSome r.leader (λ l. l.node < 7) → r.version < 2 ^ 28 → IsInRange most_nodes (record_of r)
+code_in_range r seven low small version = record {
+  leader = code_leader r.leader low small;
+  isr = subst (λ (z : ℕ). Rise 0 z (numbers_of 0 r.isr.members)) (let e : 0 + length r.isr.members ≡ most_nodes = omega (arith, seven) in e) (rise_of 0 r.isr.members);
+  version = omega arith;
+}

@@ -7,3 +7,4 @@ mod record;
 mod word;
 
 pub use record::{Leader, LeaderAndIsr, NodeSet};
+pub use word::words_are_one;

@@ -4,12 +4,24 @@ ghost use Rattle.std.specs.Prelude.{◌≡◌, ◌<◌, ◌^◌, length, IfSome,
 ghost use Rattle.kp_model.specs.World.{most_nodes, LeaderAndIsr as ModelRecord};
 ghost use Rattle.kp_model.specs.Step.{IsInRange};
 ghost use Rattle.kp_control.specs.Set.{members_of, record_of};
-ghost use Rattle.kp_control.specs.Word.{packed, set_field};
+ghost use Rattle.kp_control.specs.Word.{packed, set_field, WordsAreOne};
 
 use crate::record::{Leader, LeaderAndIsr, NodeSet};
 use kp_types::{Epoch, NodeId};
 
 const NO_LEADER: u64 = 15;
+
+/// A record in range is told by its word. It costs nothing.
+pub fn words_are_one()
+    ensures { WordsAreOne }
+{}
+
+/// Seven places. It costs nothing.
+fn seven(members: [bool; 7])
+    ensures { length members ≡ 7 }
+{
+    let _first = members[0];
+}
 
 impl NodeSet {
     /// A bit for each node of the set, that of node 0 the lowest.
@@ -48,6 +60,13 @@ impl NodeSet {
 }
 
 impl LeaderAndIsr {
+    /// The record names nodes that there may be, its set in rising order, and its numbers stay within their limits. It costs nothing.
+    pub fn is_in_range(&self)
+        ensures { IsInRange most_nodes (record_of self.now) }
+    {
+        seven(self.isr.members);
+    }
+
     /// The record as one word: bits 63 to 60 have the leader, 15 for none; bits 59 to 52 the in-sync replicas, bit 52 + n
     /// for node n; bits 51 to 28 the leader epoch and 1, 0 for none; bits 27 to 0 the version. (Own rule.)
     pub fn pack(&self) -> u64

@@ -11,5 +11,5 @@ has_caught_up reported node watermark start =
     option_map_or (λ end. nat_le watermark end && nat_le start end) (slice_index_or reported node None) false
 
 -- why it may not
-abbrev pub join_cause : List (Option ℕ) → (node watermark start : ℕ) → Option Refusal
-join_cause reported node watermark start = first_of ((not (has_caught_up reported node watermark start), refusals.NotCaughtUp) ∷ [])
+abbrev pub behind_cause : List (Option ℕ) → (node watermark start : ℕ) → Option Refusal
+behind_cause reported node watermark start = first_of ((not (has_caught_up reported node watermark start), refusals.NotCaughtUp) ∷ [])

@@ -31,7 +31,7 @@ impl Positions {
     ghost use Rattle.kp_model.specs.World.{no_reports};
     ghost use Rattle.kp_model.specs.Local.{least_end};
     ghost use Rattle.kp_insync.specs.Reports.{with_report, ends_over, IsReported};
-    ghost use Rattle.kp_insync.specs.Joining.{join_cause};
+    ghost use Rattle.kp_insync.specs.Joining.{behind_cause};
 
     /// None has reported yet.
     pub fn new() -> Positions
@@ -73,7 +73,7 @@ impl Positions {
     /// `start` of its log: it has reported an end that is below neither. F23 where it hasn't. A node that no leader could
     /// have heard of, from 7 on, never may. O(1), and no memory (own rule; Kafka's leader asks for both bounds too).
     pub fn may_join(&self, node: NodeId, watermark: Offset, start: Offset) -> Result<(), Refusal>
-        ensures refused { IsRefusedOnlyBy (join_cause self.now node watermark start) result }
+        ensures refused { IsRefusedOnlyBy (behind_cause self.now node watermark start) result }
         ensures numbered { OnOk result (node < 7) }
     {
         let reported = self.ends.get(usize::from(node)).copied().flatten();

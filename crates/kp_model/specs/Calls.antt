@@ -7,6 +7,9 @@ use Rattle.kp_model.specs.Epochs.{cut_place}
 use Rattle.kp_model.specs.World.{Leader, LeaderAndIsr, Mode, Down, Follows, Node, Message}
 use Rattle.kp_model.specs.Event.{Act, Adopt, Reply, Refused, AsksFrom, AsksEpoch, SentBatches, SentEpoch, Took, Cut}
 use Rattle.kp_model.specs.Local.{Effect, Local, becomes, sends, under, cause, take_cause_for, cut_cause_for}
+use Rattle.std.specs.Option.{option_map}
+use Rattle.kp_model.specs.declared.message.Said.{Said}
+use Rattle.kp_model.specs.declared.message.Said.TheVariants as says
 use Rattle.kp_model.specs.Letter.{Letter, Asking, From, ForEpoch, Answering, Batches, EpochEnd, letter_of}
 
 -- Under this record of the controller node n, which was x, did this, replied so, and is y now.
@@ -23,6 +26,13 @@ sent_reply (From offset) None = AsksFrom offset
 sent_reply (ForEpoch epoch) None = AsksEpoch (unwrap_or epoch 0)
 sent_reply asking (Some (Batches batches watermark)) = SentBatches (length batches) watermark
 sent_reply asking (Some (EpochEnd end)) = SentEpoch end
+
+-- what the code tells of such a message
+abbrev pub said_reply : Said → Reply
+said_reply (says.AsksFrom offset) = AsksFrom offset
+said_reply (says.AsksEpoch epoch) = AsksEpoch epoch
+said_reply (says.Batches count watermark) = SentBatches count watermark
+said_reply (says.EpochEnd end) = SentEpoch (option_map (λ e. (e.epoch, e.end)) end)
 
 -- It did so and sent a message with this letter, whatever the record was.
 pub record DoesSending (n : ℕ) (x y : Node) (act : Act) (letter : Letter) : Type 0 where

@@ -5,8 +5,9 @@ ghost use Rattle.kp_types.specs.Causes.{IsRefusedOnlyBy};
 ghost use Rattle.kp_model.specs.Beginning.{find_map};
 ghost use Rattle.kp_model.specs.Log.{carry_cause};
 
-use kp_batch::Batch;
+use kp_batch::{Batch, share_all};
 use kp_types::{Epoch, GREATEST_OFFSET, NodeId, Offset, Refusal};
+use std::alloc::Global;
 
 /// A fetching follower asks for the batches from its log's end on. (Kafka protocol guide, 'Fetch'; KIP-320 for the epoch;
 /// own: the life.)
@@ -68,9 +69,9 @@ pub struct EpochAnswer {
     pub end: Option<EpochEnd>,
 }
 
-/// A message of the protocol.
+/// The body of a message of the protocol: a request of a follower, or a leader's answer.
 #[derive(Drop)]
-pub enum Letter {
+pub enum MessageBody {
     FetchRequest(FetchRequest),
     EpochRequest(EpochRequest),
     FetchAnswer(FetchAnswer),
@@ -123,5 +124,73 @@ impl FetchAnswer {
             batches,
             watermark,
         })
+    }
+}
+
+/// What a message says, to be told: no share of a batch.
+#[derive(Clone, Copy, Debug, PartialEq, Eq)]
+pub enum Said {
+    /// A follower asks for the batches from its log's end on.
+    AsksFrom(Offset),
+    /// A follower asks where its last batch's leader epoch ends, or epoch 0 where its log is empty.
+    AsksEpoch(Epoch),
+    /// A leader hands over so many batches, with its high watermark.
+    Batches { count: u64, watermark: Offset },
+    /// A leader says where an epoch of its log ends; none where it has no epoch up to the asked one.
+    EpochEnd(Option<EpochEnd>),
+}
+
+impl MessageBody {
+    ghost use Rattle.std.specs.Prelude.{◌≡◌, IfOk, IfErr};
+    ghost use Rattle.kp_types.specs.declared.refusal.Refusal.TheVariants.{Memory};
+    ghost use Rattle.kp_model.specs.Letter.{goes_to, letter};
+    ghost use Rattle.kp_model.specs.Calls.{said_reply, sent_reply};
+
+    /// The node to which the message goes: the leader that a request's sender follows, or the sender of an answer's
+    /// request. O(1).
+    pub fn addressee(&self) -> NodeId
+        ensures { result ≡ goes_to (letter self.now) }
+    {
+        match self {
+            MessageBody::FetchRequest(request) => request.to,
+            MessageBody::EpochRequest(request) => request.to,
+            MessageBody::FetchAnswer(answer) => answer.request.from,
+            MessageBody::EpochAnswer(answer) => answer.request.from,
+        }
+    }
+
+    /// What the message says. O(1).
+    pub fn said(&self) -> Said
+        ensures { said_reply result ≡ sent_reply (letter self.now).asking (letter self.now).answering }
+    {
+        match self {
+            MessageBody::FetchRequest(request) => Said::AsksFrom(request.offset),
+            MessageBody::EpochRequest(request) => {
+                Said::AsksEpoch(request.last_epoch.unwrap_or(0))
+            }
+            MessageBody::FetchAnswer(answer) => Said::Batches {
+                count: answer.batches.len() as u64,
+                watermark: answer.watermark,
+            },
+            MessageBody::EpochAnswer(answer) => Said::EpochEnd(answer.end),
+        }
+    }
+
+    /// The message once more, as one that a carrier repeats: it says the same, and a fetch answer's batches are shared,
+    /// so that no byte is copied. F33 is the only refusal, of a fetch answer alone; O(n) in its batches.
+    pub fn share(&self, alloc: Global) -> Result<MessageBody, Refusal>
+        ensures same { IfOk result (λ body. letter body ≡ letter self.now) }
+        ensures only { IfErr result (λ refusal. refusal ≡ Memory) }
+    {
+        match self {
+            MessageBody::FetchRequest(request) => Ok(MessageBody::FetchRequest(*request)),
+            MessageBody::EpochRequest(request) => Ok(MessageBody::EpochRequest(*request)),
+            MessageBody::FetchAnswer(answer) => Ok(MessageBody::FetchAnswer(FetchAnswer {
+                request: answer.request,
+                batches: share_all(alloc, &answer.batches)?,
+                watermark: answer.watermark,
+            })),
+            MessageBody::EpochAnswer(answer) => Ok(MessageBody::EpochAnswer(*answer)),
+        }
     }
 }

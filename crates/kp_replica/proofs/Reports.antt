@@ -6,8 +6,8 @@ use Rattle.kp_types.specs.declared.refusal.Refusal.{Refusal}
 use Rattle.kp_model.specs.Log.{Batch, end_of, IsBoundary}
 use Rattle.kp_model.specs.World.{Leading, Mode, Down, Idle, Leads, Follows, no_reports}
 use Rattle.kp_insync.specs.Reports.{IsReported}
-use Rattle.kp_replica.specs.declared.replica.Receipt.{Receipt}
-use Rattle.kp_replica.specs.Member.{HasReports}
+use Rattle.kp_replica.specs.declared.producing.Receipt.{Receipt}
+use Rattle.kp_replica.specs.NumberedNode.{HasReports}
 use Rattle.kp_replica.proofs.Boundaries.{boundary_push, boundary_end}
 
 none_reported : (m : ℕ) → slice_index_or no_reports m None ≡ None

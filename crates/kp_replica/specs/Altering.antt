@@ -11,7 +11,7 @@ use Rattle.kp_control.specs.declared.record.LeaderAndIsr.{LeaderAndIsr as Record
 use Rattle.kp_control.specs.Set.{record_of}
 use Rattle.kp_replica.specs.declared.altering.IsrChange.{IsrChange}
 use Rattle.kp_replica.specs.declared.altering.IsrChange.TheVariants.{Join, Leave}
-use Rattle.kp_replica.specs.Member.{Member, IsSameNode}
+use Rattle.kp_replica.specs.NumberedNode.{NumberedNode, IsSameNode}
 
 -- the event that it is
 abbrev pub change_act : IsrChange → Act
@@ -48,5 +48,5 @@ altering_effect c y (Ok made) = record { node = y; controller = record_of made; 
 altering_effect c y (Err refusal) = becomes c y (Refused refusal)
 
 -- Under this record of the controller the node did this, which made another record of it, or was refused, and is now the new one.
-abbrev pub Alters : LeaderAndIsr → Member → Member → Act → Result Record Refusal → Type 0
+abbrev pub Alters : LeaderAndIsr → NumberedNode → NumberedNode → Act → Result Record Refusal → Type 0
 Alters c old new act result = Local c old.number old.state act (altering_effect c new.state result) × IsSameNode old new

@@ -9,7 +9,7 @@ use Rattle.kp_model.specs.Epochs.{cut_place}
 use Rattle.kp_model.specs.World.{LeaderAndIsr}
 use Rattle.kp_model.specs.Local.{has_epoch, mode_epoch, reconciles}
 use Rattle.kp_model.specs.declared.message.EpochAnswer.{EpochAnswer}
-use Rattle.kp_replica.specs.Member.{Member}
+use Rattle.kp_replica.specs.NumberedNode.{NumberedNode}
 
 -- where the log is cut on the answer, and whether the node fetches from then on
 abbrev pub place_for : List Batch → EpochAnswer → ℕ × Bool
@@ -17,7 +17,7 @@ place_for log a = cut_place log (option_map (λ found. (found.epoch, found.end))
 
 -- Why the node, which is up, doesn't cut: the record has moved on, the answer isn't awaited; or, as in no run, it would cut
 -- below its watermark, or at no boundary.
-abbrev pub epoch_cause : LeaderAndIsr → Member → EpochAnswer → Option Refusal
+abbrev pub epoch_cause : LeaderAndIsr → NumberedNode → EpochAnswer → Option Refusal
 epoch_cause c m a =
     let x = m.state in
     let r = a.request in

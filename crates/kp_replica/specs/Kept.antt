@@ -2,14 +2,14 @@
 use Rattle.std.specs.Prelude.{◌≡◌, ◌≤◌}
 use Rattle.kp_model.specs.Log.{IsBoundary}
 use Rattle.kp_log.specs.Entries.{AreEntriesOf}
-use Rattle.kp_replica.specs.Member.{Member, HasEpochs, HasReports, IsOfRecord}
+use Rattle.kp_replica.specs.NumberedNode.{NumberedNode, HasEpochs, HasReports, IsOfRecord}
 use Rattle.kp_replica.specs.Modes.{mode_of}
 use Rattle.kp_model.specs.World.{Down as IsDown}
 use Rattle.kp_replica.specs.declared.replica.Replica.TheInside.{Inside}
 use Rattle.kp_replica.specs.declared.kept.KeptNode.TheInside.{Inside as Down}
 
-abbrev pub member_of : Inside → Member
-member_of r =
+abbrev pub node_of : Inside → NumberedNode
+node_of r =
     record {
       number = r.number;
       limits = r.log.limits;
@@ -36,8 +36,8 @@ pub record IsKept (r : Inside) : Type 0 where
   pub passed : r.checkpoint ≤ r.watermark
 
 -- What is left of a node that is down.
-abbrev pub kept_member : Down → Member
-kept_member r =
+abbrev pub kept_node : Down → NumberedNode
+kept_node r =
     record {
       number = r.number;
       limits = r.kept.of.limits;

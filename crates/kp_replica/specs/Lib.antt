@@ -1,4 +1,4 @@
-pub mod Member
+pub mod NumberedNode
 pub mod Modes
 pub mod Kept
 pub mod Replies
@@ -8,3 +8,6 @@ pub mod Adopting
 pub mod Taking
 pub mod Cutting
 pub mod Altering
+pub mod Broker
+pub mod Acts
+pub mod Laws

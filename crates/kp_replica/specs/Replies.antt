@@ -7,12 +7,13 @@ use Rattle.kp_batch.specs.Reading.{IsFirstFault}
 use Rattle.kp_model.specs.Log.{Batch, last_offset}
 use Rattle.kp_marker.specs.Marker.{commits}
 use Rattle.kp_marker.specs.declared.parts.Marker.{Marker as HandedMarker}
-use Rattle.kp_model.specs.Event.{Act, Mark, Reply, Refused, NowLeads, NowFollows, At, DuplicateOf, Took, Cut, MarkAt}
+use Rattle.kp_model.specs.Event.{Act, Mark, Reply, Refused, NowLeads, NowFollows, At, DuplicateOf, Took, Cut, MarkAt, Shown as StateShown, Lines, Line}
 use Rattle.kp_model.specs.Local.{marker_body}
 use Rattle.kp_model.specs.Producers.{sequence_after}
-use Rattle.kp_replica.specs.declared.replica.Role.{Role}
-use Rattle.kp_replica.specs.declared.replica.Role.TheVariants as roles
-use Rattle.kp_replica.specs.declared.replica.Receipt.{Receipt}
+use Rattle.kp_replica.specs.declared.adopting.Role.{Role}
+use Rattle.kp_replica.specs.declared.adopting.Role.TheVariants as roles
+use Rattle.kp_replica.specs.declared.producing.Receipt.{Receipt}
+use Rattle.kp_replica.specs.declared.reading.Shown.{Shown}
 use Rattle.kp_replica.specs.declared.taking.Taken.{Taken}
 use Rattle.kp_replica.specs.declared.cutting.CutBack.{CutBack}
 
@@ -36,6 +37,14 @@ taken_reply (Err refusal) = Refused refusal
 abbrev pub cut_reply : Result CutBack Refusal → Reply
 cut_reply (Ok cut) = Cut cut.end cut.done
 cut_reply (Err refusal) = Refused refusal
+
+abbrev pub shown_reply : Shown → Reply
+shown_reply shown = StateShown shown.life shown.end shown.watermark shown.stable
+
+-- the reply to a read
+abbrev pub lines_reply : Result (List Line) Refusal → Reply
+lines_reply (Ok lines) = Lines lines
+lines_reply (Err refusal) = Refused refusal
 
 -- What the bytes hand in: the batch that they are, or their first fault.
 abbrev pub IsOffer : ℕ → List ℕ → Result Body Refusal → Type 0

@@ -38,12 +38,12 @@ impl Leading {
 }
 
 impl Replica {
-    ghost use Rattle.std.specs.Prelude.{◌≡◌, IfOk, OnErr};
+    ghost use Rattle.std.specs.Prelude.{◌≡◌, IfOk, IfNone, IfSome, OnErr};
     ghost use Rattle.kp_types.specs.Causes.{IsRefusedOnlyBy};
-    ghost use Rattle.kp_model.specs.World.{LeaderAndIsr as ModelRecord};
+    ghost use Rattle.kp_model.specs.World.{LeaderAndIsr as ModelRecord, Leading as ModelLeading, Leads as ModelLeads};
     ghost use Rattle.kp_model.specs.Local.{cause};
     ghost use Rattle.kp_control.specs.Set.{members_of, record_of};
-    ghost use Rattle.kp_replica.specs.Member.{Member, IsSameNode};
+    ghost use Rattle.kp_replica.specs.NumberedNode.{NumberedNode, IsSameNode};
     ghost use Rattle.kp_replica.specs.Modes.{leading_of};
     ghost use Rattle.kp_replica.specs.Altering.{change_act, changed_isr, isr_cause, would_cause, WouldMake, IsKnown, Alters};
 
@@ -70,6 +70,19 @@ impl Replica {
         }
     }
 
+    /// The controller's record as the node knows it, where it leads: the one that an exchange by which it changes the in-sync
+    /// replicas starts from. O(1), and no memory.
+    pub fn known(&self) -> Option<LeaderAndIsr>
+        ensures known { IfSome result (λ r.
+            IsKnown self.now.number self.now.state.mode (record_of r)) }
+        ensures none { IfNone result ((leading : ModelLeading) → self.now.state.mode ≡ ModelLeads leading → ⊥) }
+    {
+        match self.mode {
+            Mode::Leads(leading) => Some(leading.known(self.number)),
+            _ => None,
+        }
+    }
+
     /// The record that [`Replica::alter`] would make of the one that the leader knows, or its refusal: so a leader can make a
     /// change by one exchange of the record that it knows for this one. F15 where the node doesn't lead; F23 where the
     /// node to join has reported no end in this leadership, or one below the leader's high watermark or its start, F21
@@ -81,7 +94,7 @@ impl Replica {
         ensures made { IfOk result (λ made.
             WouldMake self.now.number self.now.state change (record_of made)) }
         ensures foreseen { (c : ModelRecord) → IsKnown self.now.number self.now.state.mode c
-            → (new : Member) × Alters c self.now new (change_act change) result }
+            → (new : NumberedNode) × Alters c self.now new (change_act change) result }
     {
         let Mode::Leads(leading) = self.mode else {
             return Err(Refusal::NotLeader);

@@ -1,7 +1,7 @@
 //! What a follower asks its leader.
 
 use crate::replica::{Mode, Replica};
-use kp_model::{EpochRequest, FetchRequest, Letter};
+use kp_model::{EpochRequest, FetchRequest, MessageBody};
 use kp_types::Refusal;
 
 impl Replica {
@@ -9,13 +9,13 @@ impl Replica {
     ghost use Rattle.kp_types.specs.declared.refusal.Refusal.TheVariants.{NotLeader};
     ghost use Rattle.kp_model.specs.Event.{Ask, Refused};
     ghost use Rattle.kp_model.specs.Letter.{letter};
-    ghost use Rattle.kp_replica.specs.Member.{Does};
+    ghost use Rattle.kp_replica.specs.NumberedNode.{Does};
     ghost use Rattle.kp_replica.specs.Sending.{DoesSending};
 
     /// The request to the leader that the node follows: where it fetches, for the batches from its
     /// log's end on; where it reconciles, for the end of its last batch's leader epoch. F15 exactly
     /// where it follows none. O(1), and no memory (Kafka protocol guide, 'Fetch'; KIP-101, KIP-320).
-    pub fn ask(&self) -> Result<Letter, Refusal>
+    pub fn ask(&self) -> Result<MessageBody, Refusal>
         ensures sent { IfOk result (λ request.
             DoesSending self.now self.now Ask (letter request)) }
         ensures refused { IfErr result (λ refusal. Does self.now self.now Ask (Refused refusal)) }
@@ -25,7 +25,7 @@ impl Replica {
             return Err(Refusal::NotLeader);
         };
         if following.fetching {
-            return Ok(Letter::FetchRequest(FetchRequest {
+            return Ok(MessageBody::FetchRequest(FetchRequest {
                 from: self.number,
                 to: following.leader,
                 life: self.life,
@@ -33,7 +33,7 @@ impl Replica {
                 offset: self.log.end_offset(),
             }));
         }
-        Ok(Letter::EpochRequest(EpochRequest {
+        Ok(MessageBody::EpochRequest(EpochRequest {
             from: self.number,
             to: following.leader,
             life: self.life,

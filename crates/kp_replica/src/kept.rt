@@ -2,10 +2,8 @@
 
 ghost use Rattle.std.specs.Prelude.{◌≡◌};
 
-use crate::replica::{Mode, Replica};
-use kp_log::{Kept, PartitionLog, UndoStack};
+use kp_log::{Kept, PartitionLog};
 use kp_types::{NodeId, Offset, Refusal};
-use std::alloc::Global;
 use std::marker::Model;
 
 /// A node that is down, with its number: what it keeps until it is restarted. Dropped, it is gone.
@@ -18,12 +16,12 @@ pub struct KeptNode {
 }
 
 impl Model for KeptNode {
-    ghost use Rattle.kp_replica.specs.Member.{Member};
-    ghost use Rattle.kp_replica.specs.Kept.{kept_member, IsKeptWhole};
+    ghost use Rattle.kp_replica.specs.NumberedNode.{NumberedNode};
+    ghost use Rattle.kp_replica.specs.Kept.{kept_node, IsKeptWhole};
 
-    ghost Value = { Member };
+    ghost Value = { NumberedNode };
 
-    ghost view = { kept_member };
+    ghost view = { kept_node };
 
     ghost invariant = { IsKeptWhole };
 }
@@ -105,54 +103,5 @@ impl KeptNode {
         ensures { result ≡ self.now.state.life }
     {
         self.life
-    }
-}
-
-impl Replica {
-    ghost use Rattle.std.specs.Prelude.{◌≡◌, IfOk, IfErr};
-    ghost use Rattle.kp_model.specs.Log.{end_of};
-    ghost use Rattle.kp_model.specs.Event.{Refused, Restart, Restarted};
-    ghost use Rattle.kp_replica.specs.Member.{Does};
-
-    /// Starts the node that is down again, in its next life: idle, with the log that it kept and the high watermark at its
-    /// checkpoint, up to which the log is settled, so that what lies above it may be taken back. Its tables are built anew. F24
-    /// where its life is at its greatest, 2^64 - 1, and F33: either gives the node back as it was. The cost is that of
-    /// `Kept::reopen` (own rule).
-    pub fn restart(alloc: Global, node: KeptNode) -> Result<Replica, (KeptNode, Refusal)>
-        ensures restarted { IfOk result (λ replica. Does node replica Restart (Restarted
-            replica.state.life (end_of replica.state.log) replica.state.watermark)) }
-        ensures refused { IfErr result (λ back. Does node back.0 Restart (Refused back.1)) }
-        ensures back { IfErr result (λ back. back.0 ≡ node) }
-    {
-        if node.life == u64::MAX {
-            return Err((node, Refusal::RecordFull));
-        }
-        let KeptNode {
-            number,
-            kept,
-            watermark,
-            life,
-        } = node;
-        let checkpoint = kept.start_offset();
-        match kept.reopen(alloc) {
-            Ok((log, entries)) => Ok(Replica {
-                number,
-                log,
-                entries: UndoStack::of(entries),
-                watermark: checkpoint,
-                checkpoint,
-                life: life + 1,
-                mode: Mode::Idle,
-            }),
-            Err((kept, refusal)) => {
-                let node = KeptNode {
-                    number,
-                    kept,
-                    watermark,
-                    life,
-                };
-                Err((node, refusal))
-            }
-        }
     }
 }

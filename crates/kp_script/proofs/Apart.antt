@@ -4,7 +4,9 @@ use Rattle.std.specs.Prelude.{IsTrue}
 use Rattle.std.specs.List.{list_all}
 use Rattle.std.specs.Fmt.{decimal}
 use Rattle.std.proofs.lemmas.Fmt.{decimal_injective}
-use Rattle.kp_script.specs.Call.{Call, Sender, Elect, Adopt, Append, Raw, Mark, Ask, Deliver, Raise, Join, Leave, Checkpoint, Stop, Restart, Show, Read, Committed, IsSender, IsCallInRange, HasOneCall, is_value, verb_text, fields_text, kind_text, values_text, pieces}
+use Rattle.kp_replica.specs.declared.act.PlainAct.TheVariants.{Mark, Alter, Read, Committed}
+use Rattle.kp_replica.specs.declared.altering.IsrChange.TheVariants.{Join, Leave}
+use Rattle.kp_script.specs.Call.{Call, Sender, Elect, Append, Raw, Acts, Deliver, IsSender, IsCallInRange, HasOneCall, is_value, verb_text, fields_text, kind_text, values_text, pieces}
 use Rattle.kp_script.specs.Hex.{hex_text, bytes_of}
 use Rattle.kp_script.specs.Read.{sender_front}
 use Rattle.kp_script.proofs.HexLaws.{bytes_back}
@@ -55,34 +57,27 @@ IsOnly count a b = IsCallInRange count b → fields_text a ≡ fields_text b →
 -- Calls in range of one verb that have the same fields are one call.
 apart : (count : ℕ) → count < 2 ^ 64 → (a : Call) → IsCallInRange count a → Each (IsOnly count a) (verb_text a)
 apart count fits (Elect m) p = λ n q e. ap Elect (same_node count m n fits p q e)
-apart count fits (Adopt m) p = λ n q e. ap Adopt (same_node count m n fits p q e)
 apart count fits (Append m t r x vs) p = λ n u s y ws q e.
     appends_apart m n t u r s x y vs ws (omega (arith, p.0)) (omega (arith, q.0)) (omega (arith, p.1)) (omega (arith, q.1)) p.2 q.2
     (same_values vs ws p.3 p.4 q.3 q.4) e
 apart count fits (Raw m bs) p = λ n cs q e.
     let first = same_field [] (fields_text (Raw m bs)) m n (hex_text bs) (hex_text cs) (omega (arith, p.0)) (omega (arith, q.0)) refl e in
     same_raw m n bs cs first.0 (sym (bytes_back bs p.2) ∙ ap bytes_of first.1 ∙ bytes_back cs q.2)
-apart count fits (Mark m t v w c x) p = λ n u producer epoch coordinator y q e.
-    marks_apart count m n t u v producer w epoch c coordinator x y fits p q e
-apart count fits (Ask m) p = λ n q e. ap Ask (same_node count m n fits p q e)
 apart count fits (Deliver m) p = λ n q e. ap Deliver (decimal_injective m n (omega arith) (omega arith) e)
-apart count fits (Raise m) p = λ n q e. ap Raise (same_node count m n fits p q e)
-apart count fits (Join m f) p = λ n g q e.
+apart count fits (Acts m (Mark marker)) p = λ n other q e. marks_apart count m n marker other fits p q e
+apart count fits (Acts m (Alter (Join f))) p = λ n g q e.
     let same = same_place count count m n f g fits fits p q e in
-    ap (λ (k : ℕ). Join k f) same.0 ∙ ap (λ (k : ℕ). Join n k) same.1
-apart count fits (Leave m f) p = λ n g q e.
+    ap (λ (k : ℕ). Acts k (Alter (Join f))) same.0 ∙ ap (λ (k : ℕ). Acts n (Alter (Join k))) same.1
+apart count fits (Acts m (Alter (Leave f))) p = λ n g q e.
     let same = same_place count count m n f g fits fits p q e in
-    ap (λ (k : ℕ). Leave k f) same.0 ∙ ap (λ (k : ℕ). Leave n k) same.1
-apart count fits (Checkpoint m) p = λ n q e. ap Checkpoint (same_node count m n fits p q e)
-apart count fits (Stop m) p = λ n q e. ap Stop (same_node count m n fits p q e)
-apart count fits (Restart m) p = λ n q e. ap Restart (same_node count m n fits p q e)
-apart count fits (Show m) p = λ n q e. ap Show (same_node count m n fits p q e)
-apart count fits (Read m f) p = λ n g q e.
+    ap (λ (k : ℕ). Acts k (Alter (Leave f))) same.0 ∙ ap (λ (k : ℕ). Acts n (Alter (Leave k))) same.1
+apart count fits (Acts m (Read f)) p = λ n g q e.
     let same = same_place count (2 ^ 62) m n f g fits (omega arith) p q e in
-    ap (λ (k : ℕ). Read k f) same.0 ∙ ap (λ (k : ℕ). Read n k) same.1
-apart count fits (Committed m f) p = λ n g q e.
+    ap (λ (k : ℕ). Acts k (Read f)) same.0 ∙ ap (λ (k : ℕ). Acts n (Read k)) same.1
+apart count fits (Acts m (Committed f)) p = λ n g q e.
     let same = same_place count (2 ^ 62) m n f g fits (omega arith) p q e in
-    ap (λ (k : ℕ). Committed k f) same.0 ∙ ap (λ (k : ℕ). Committed n k) same.1
+    ap (λ (k : ℕ). Acts k (Committed f)) same.0 ∙ ap (λ (k : ℕ). Acts n (Committed k)) same.1
+apart count fits (Acts m act) p = λ n q e. ap (λ (k : ℕ). Acts k act) (same_node count m n fits p.0 q.0 e)
 
 -- Two calls in range with one text are one call.
 pub one_call : HasOneCall

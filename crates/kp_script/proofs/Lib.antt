@@ -20,3 +20,4 @@ pub mod Apart
 pub mod Logs
 pub mod Played
 pub mod KeptLogs
+pub mod Counting

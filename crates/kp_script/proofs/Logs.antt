@@ -6,30 +6,30 @@ use Rattle.std.proofs.lemmas.List.FromFn.{get_or-map-range_with_len, length-map-
 use Rattle.kp_types.specs.declared.limits.Limits.{Limits}
 use Rattle.kp_log.specs.Partition.{Partition}
 use Rattle.kp_model.specs.World.{Node, World, fresh}
-use Rattle.kp_replica.specs.Member.{Member}
+use Rattle.kp_replica.specs.NumberedNode.{NumberedNode}
 use Rattle.kp_world.specs.Shown.{IsShown, Stage, log_of}
 use Rattle.kp_script.specs.Call.{Header}
 use Rattle.kp_script.specs.Ended.{limits_in, logs_in, node_log}
 
 -- some member, whose log is as much as any
-some_member : Partition → Member
-some_member p = record { number = 0; limits = p.limits; state = fresh }
+some_node : Partition → NumberedNode
+some_node p = record { number = 0; limits = p.limits; state = fresh }
 
 -- a member's log stands at its place
-pub log_at : (ms : List Member) (logs : List Partition) (n : ℕ) (log : Partition) → map log_of ms ≡ logs → n < length logs → ((m : Member) → log ≡ log_of (slice_index_or ms n m))
+pub log_at : (ms : List NumberedNode) (logs : List Partition) (n : ℕ) (log : Partition) → map log_of ms ≡ logs → n < length logs → ((m : NumberedNode) → log ≡ log_of (slice_index_or ms n m))
     → (other : Partition) → log ≡ slice_index_or logs n other
 log_at ms logs n log same inside is other =
     let within : n < length ms = omega (arith, inside, ap length same, length-map ms log_of) in
-    is (some_member other) ∙ sym (get_or-map log_of ms n (some_member other) other within) ∙ ap (λ (all : List Partition). slice_index_or all n other) same
+    is (some_node other) ∙ sym (get_or-map log_of ms n (some_node other) other within) ∙ ap (λ (all : List Partition). slice_index_or all n other) same
 
 -- what a stage shows of a world has the logs of the world's nodes
-pub shown_logs : (header : Header) (stage : Stage) (w : World) → IsShown (limits_in header) stage w → length stage.members ≡ header.count → map log_of stage.members ≡ logs_in header w
+pub shown_logs : (header : Header) (stage : Stage) (w : World) → IsShown (limits_in header) stage w → length stage.nodes ≡ header.count → map log_of stage.nodes ≡ logs_in header w
 shown_logs header stage w shown count =
-    let all = stage.members in
+    let all = stage.nodes in
     same_lists (map log_of all) (logs_in header w) (length-map all log_of ∙ count ∙ sym (length-map-range_with_len (λ n. node_log (limits_in header) (w.nodes n)) 0 header.count))
     (λ n d inside.
     let within : n < length all = omega (arith, inside, length-map all log_of) in
-    let m : Member = slice_index_or all n (some_member d) in
-    let node = shown.nodes n (some_member d) within in
-    get_or-map log_of all n (some_member d) d within ∙ ap (λ (limits : Limits). node_log limits m.state) node.limits_are
+    let m : NumberedNode = slice_index_or all n (some_node d) in
+    let node = shown.nodes_are n (some_node d) within in
+    get_or-map log_of all n (some_node d) d within ∙ ap (λ (limits : Limits). node_log limits m.state) node.limits_are
     ∙ ap (λ (x : Node). node_log (limits_in header) x) (sym node.state) ∙ sym (get_or-map-range_with_len (λ n. node_log (limits_in header) (w.nodes n)) 0 header.count n n d (omega (arith, within, count)) (omega arith)))

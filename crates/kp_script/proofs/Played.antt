@@ -12,20 +12,23 @@ use Rattle.kp_types.proofs.Fronts.{front_behind}
 use Rattle.kp_types.specs.declared.limits.Limits.{Limits}
 use Rattle.kp_types.specs.declared.refusal.Refusal.{Refusal}
 use Rattle.kp_types.specs.declared.refusal.Refusal.TheVariants as refusals
-use Rattle.kp_model.specs.Event.{Event, Outcome, Acts, Elect as ElectNode, Adopt as AdoptRecord, Produce, Mark as HandMarker, Ask as AskLeader, Deliver as DeliverMessage, Raise as RaiseMark, Join as AddInSync, Leave as RemoveInSync, Checkpoint as NoteMark, Stop as StopNode, Restart as RestartNode, Show as ShowState, Read as ReadFrom, Committed as ReadCommitted}
+use Rattle.kp_model.specs.Event as model
+use Rattle.kp_model.specs.Event.{Event, Outcome, Produce}
 use Rattle.kp_model.specs.Laws.{NoDeliveryIsRefusedOddly, RunsAreSafe}
 use Rattle.kp_model.specs.Run.{Moment, Run, last}
 use Rattle.kp_model.specs.World.{start}
+use Rattle.kp_replica.specs.Acts.{plain_act}
 use Rattle.kp_replica.specs.Offers.{BytesAreAnOffer}
+use Rattle.kp_replica.proofs.Told.{plain_asked}
 use Rattle.kp_world.specs.Answers.{outcome_of}
 use Rattle.kp_world.specs.Events.{AreEvents}
 use Rattle.kp_world.specs.declared.event.Event.{Event as CodeEvent}
 use Rattle.kp_world.specs.Laws.{MayCome, PlaysGoOn}
 use Rattle.kp_world.specs.Plays.{IsReached, LeadOn, events_of, outcomes_of}
 use Rattle.kp_world.specs.Shown.{IsShown, Stage, log_of}
-use Rattle.kp_world.specs.declared.event.Answer.{Answer}
+use Rattle.kp_world.specs.declared.event.EventAnswer.{EventAnswer}
 use Rattle.kp_world.proofs.Playing.{all_fit, answered, nothing_answered, reached_none}
-use Rattle.kp_script.specs.Call.{Call, Header, IsCall, IsCallInRange, node_of, Elect, Adopt, Append, Raw, Mark, Ask, Deliver, Raise, Join, Leave, Checkpoint, Stop, Restart, Show, Read, Committed}
+use Rattle.kp_script.specs.Call.{Call, Header, IsCall, IsCallInRange, node_of, Elect, Append, Raw, Acts, Deliver}
 use Rattle.kp_script.specs.Ended.{limits_in, WritesTo}
 use Rattle.kp_script.specs.Playing.{BeginFrom, LeadTo, PlayTo}
 use Rattle.kp_script.specs.Told.{IsTold, AreTold, TellsAll, offer_of}
@@ -68,7 +71,7 @@ as_many count calls es os r told p q =
 -- ---- one call of the world
 
 -- the events that the calls tell lead on
-pub leads_on : (calls : List (ℕ × Call)) (events shown : List CodeEvent) (answers : List (Result Answer Refusal)) (old new : Stage) → TellsAll largest_batch (asked calls) events → shown ≡ events
+pub leads_on : (calls : List (ℕ × Call)) (events shown : List CodeEvent) (answers : List (Result EventAnswer Refusal)) (old new : Stage) → TellsAll largest_batch (asked calls) events → shown ≡ events
     → ((limits : Limits) (es : List Event) → AreEvents limits.max_batch shown es → LeadOn limits old es answers new) → LeadTo calls old new answers
 leads_on calls events shown answers old new tells same played =
     record {
@@ -80,16 +83,16 @@ leads_on calls events shown answers old new tells same played =
     }
 
 -- the text that is written
-pub text_of : (shown text cleared : List ℕ) (lines : List Line) (outs answers : List (Result Answer Refusal)) → shown ≡ text
+pub text_of : (shown text cleared : List ℕ) (lines : List Line) (outs answers : List (Result EventAnswer Refusal)) → shown ≡ text
     → text ≡ cleared ++ trace_text (map (λ l. (l.number, node_of (seen_call l.call))) lines) (map outcome_of outs) → cleared ≡ [] → outs ≡ answers
     → shown ≡ trace_text (numbered (map seen_line lines)) (map outcome_of answers)
 text_of shown text cleared lines outs answers same is none outs_are =
     same ∙ is ∙ ap (λ (front : List ℕ). front ++ trace_text (map (λ l. (l.number, node_of (seen_call l.call))) lines) (map outcome_of outs)) none
-    ∙ ap (λ (os : List (Result Answer Refusal)). trace_text (map (λ l. (l.number, node_of (seen_call l.call))) lines) (map outcome_of os)) outs_are
+    ∙ ap (λ (os : List (Result EventAnswer Refusal)). trace_text (map (λ l. (l.number, node_of (seen_call l.call))) lines) (map outcome_of os)) outs_are
     ∙ ap (λ (xs : List (ℕ × ℕ)). trace_text xs (map outcome_of answers)) (sym (map-map (λ (call : ℕ × Call). (call.0, node_of call.1)) seen_line lines))
 
 -- as many answers as lines
-pub as_many_answers : (lines : List Line) (events shown : List CodeEvent) (answers outs : List (Result Answer Refusal)) → TellsAll largest_batch (asked (map seen_line lines)) events → shown ≡ events
+pub as_many_answers : (lines : List Line) (events shown : List CodeEvent) (answers outs : List (Result EventAnswer Refusal)) → TellsAll largest_batch (asked (map seen_line lines)) events → shown ≡ events
     → length answers ≡ length shown → outs ≡ answers → length outs ≡ length lines
 as_many_answers lines events shown answers outs tells same answered_all outs_are =
     ap length outs_are ∙ answered_all ∙ ap length same ∙ one_for_each largest_batch (asked (map seen_line lines)) events tells
@@ -151,7 +154,7 @@ calls_are all done rest next others p =
 pub record HasPlayed (header : Header) (done : List (ℕ × Call)) (stage : Stage) (refused : ℕ) (old now : Option (List ℕ)) : Type 0 where
   pub events : List Event
   pub told : AreTold largest_batch (asked done) events
-  pub answers : List (Result Answer Refusal)
+  pub answers : List (Result EventAnswer Refusal)
   pub reached : IsReached header.count (limits_in header) events answers stage
   pub refused_is : refused ≡ refusals_in (map outcome_of answers)
   pub written : Appends old now (trace_text (numbered done) (map outcome_of answers))
@@ -169,7 +172,7 @@ played_none header stage known shown =
 
 -- where these calls lead from what was reached
 led : (header : Header) (done calls : List (ℕ × Call)) (old new : Stage) (refused : ℕ) (known mid : Option (List ℕ)) (p : HasPlayed header done old refused known mid)
-    (answers : List (Result Answer Refusal)) (lead : LeadTo calls old new answers)
+    (answers : List (Result EventAnswer Refusal)) (lead : LeadTo calls old new answers)
     → (AreTold largest_batch (asked (done ++ calls)) (p.events ++ lead.events))
     × (IsReached header.count (limits_in header) (p.events ++ lead.events) (p.answers ++ answers) new)
     × (trace_text (numbered (done ++ calls)) (map outcome_of (p.answers ++ answers))
@@ -230,26 +233,14 @@ traced_none safe count =
 -- ---- calls that were not played tell events all the same, and the run goes on with them
 
 told_of : BytesAreAnOffer → (count : ℕ) (call : Call) → IsCallInRange count call → (e : Event) × (IsTold largest_batch call e × MayCome count e)
-told_of offers count (Elect node) h = (ElectNode node, (refl, tt))
-told_of offers count (Adopt node) h = (Acts node AdoptRecord, (refl, (h, tt)))
+told_of offers count (Elect node) h = (model.Elect node, (refl, tt))
 told_of offers count (Append node time sender transactional values) h =
-    (Acts node (Produce (offer_of largest_batch time sender transactional values)), (refl, (h.0, tt)))
+    (model.Acts node (Produce (offer_of largest_batch time sender transactional values)), (refl, (h.0, tt)))
 told_of offers count (Raw node bytes) h =
     let o = offers largest_batch bytes h.2 in
-    (Acts node (Produce o.0), ((o.0, o.1, refl), (h.0, tt)))
-told_of offers count (Mark node time producer epoch coordinator commit) h =
-    (Acts node (HandMarker time producer epoch coordinator commit), (refl, (h.0, tt)))
-told_of offers count (Ask node) h = (Acts node AskLeader, (refl, (h, tt)))
-told_of offers count (Deliver number) h = (DeliverMessage number, (refl, tt))
-told_of offers count (Raise node) h = (Acts node RaiseMark, (refl, (h, tt)))
-told_of offers count (Join node member) h = (Acts node (AddInSync member), (refl, (h.0, tt)))
-told_of offers count (Leave node member) h = (Acts node (RemoveInSync member), (refl, (h.0, tt)))
-told_of offers count (Checkpoint node) h = (Acts node NoteMark, (refl, (h, tt)))
-told_of offers count (Stop node) h = (Acts node StopNode, (refl, (h, tt)))
-told_of offers count (Restart node) h = (Acts node RestartNode, (refl, (h, tt)))
-told_of offers count (Show node) h = (Acts node ShowState, (refl, (h, tt)))
-told_of offers count (Read node from) h = (Acts node (ReadFrom from), (refl, (h.0, tt)))
-told_of offers count (Committed node from) h = (Acts node (ReadCommitted from), (refl, (h.0, tt)))
+    (model.Acts node (Produce o.0), ((o.0, o.1, refl), (h.0, tt)))
+told_of offers count (Acts node act) h = (model.Acts node (plain_act act), (refl, (h.0, plain_asked act)))
+told_of offers count (Deliver number) h = (model.Deliver number, (refl, tt))
 
 record Tellings (count : ℕ) (calls : List (ℕ × Call)) : Type 0 where
   events : List Event
@@ -334,8 +325,8 @@ begun_lines safe odd go offers header all done calls others stage refused old mi
 -- ---- and where the input is known
 
 pub writes_to : RunsAreSafe → NoDeliveryIsRefusedOddly → (input : Option (List ℕ)) (bytes : List ℕ) (script : Script) (stage : Stage) (refused : ℕ) (old now : Option (List ℕ)) → IfSome input (λ all. bytes ≡ all)
-    → IsScript bytes script → length stage.members ≡ script.header.count → HasPlayed script.header script.calls stage refused old now
-    → WritesTo input old now (record { refused = refused; logs = map log_of stage.members })
+    → IsScript bytes script → length stage.nodes ≡ script.header.count → HasPlayed script.header script.calls stage refused old now
+    → WritesTo input old now (record { refused = refused; logs = map log_of stage.nodes })
 writes_to safe odd None bytes script stage refused old now same spelled count p = tt
 writes_to safe odd (Some all) bytes script stage refused old now same spelled count p = (
   trace_text (numbered script.calls) (map outcome_of p.answers),

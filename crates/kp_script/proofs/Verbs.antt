@@ -4,7 +4,11 @@ use Rattle.std.specs.Prelude.{bytes_eq, IfNone, IfSome, None, Option, Some}
 use Rattle.std.specs.Fmt.{decimal}
 use Rattle.std.specs.List.{list_all}
 use Rattle.std.proofs.lemmas.Bool.{and_parts, eqb-false, not-true}
-use Rattle.kp_script.specs.Call.{Call, Sender, Elect, Adopt, Append, Raw, Mark, Ask, Deliver, Raise, Join, Leave, Checkpoint, Stop, Restart, Show, Read, Committed, IsCallInRange, SpellsNoCall, verb_text, fields_text}
+use Rattle.kp_marker.specs.declared.parts.Marker.{Marker}
+use Rattle.kp_replica.specs.declared.act.PlainAct.{PlainAct}
+use Rattle.kp_replica.specs.declared.act.PlainAct.TheVariants.{Adopt, Mark, Ask, Raise, Alter, Checkpoint, Stop, Restart, Show, Read, Committed}
+use Rattle.kp_replica.specs.declared.altering.IsrChange.TheVariants.{Join, Leave}
+use Rattle.kp_script.specs.Call.{Call, Sender, Elect, Append, Raw, Acts, Deliver, IsCallInRange, SpellsNoCall, verb_text, fields_text}
 use Rattle.kp_script.specs.Read.{Lacks, AreFields, AreNoFields, IsNoNodeVerb}
 use Rattle.kp_script.specs.Seen.{seen_call}
 use Rattle.kp_script.specs.declared.call.Call.{Call as ParsedCall}
@@ -18,42 +22,35 @@ when b then X else Y = MatchBool b X Y
 abbrev pub Each : (P : Call → Type 0) → (verb : List ℕ) → Type 0
 Each P verb =
     when bytes_eq verb (codes "elect") then ((node : ℕ) → P (Elect node)) else
-    when bytes_eq verb (codes "adopt") then ((node : ℕ) → P (Adopt node)) else
+    when bytes_eq verb (codes "adopt") then ((node : ℕ) → P (Acts node Adopt)) else
     when bytes_eq verb (codes "append") then ((node time : ℕ) (sender : Sender) (transactional : Bool) (values : List (List ℕ)) →
     P (Append node time sender transactional values)) else
     when bytes_eq verb (codes "raw") then ((node : ℕ) (bytes : List ℕ) → P (Raw node bytes)) else
-    when bytes_eq verb (codes "mark") then ((node time producer epoch coordinator : ℕ) (commit : Bool) →
-    P (Mark node time producer epoch coordinator commit)) else
-    when bytes_eq verb (codes "ask") then ((node : ℕ) → P (Ask node)) else
+    when bytes_eq verb (codes "mark") then ((node : ℕ) (marker : Marker) → P (Acts node (Mark marker))) else
+    when bytes_eq verb (codes "ask") then ((node : ℕ) → P (Acts node Ask)) else
     when bytes_eq verb (codes "deliver") then ((number : ℕ) → P (Deliver number)) else
-    when bytes_eq verb (codes "raise") then ((node : ℕ) → P (Raise node)) else
-    when bytes_eq verb (codes "join") then ((node member : ℕ) → P (Join node member)) else
-    when bytes_eq verb (codes "leave") then ((node member : ℕ) → P (Leave node member)) else
-    when bytes_eq verb (codes "checkpoint") then ((node : ℕ) → P (Checkpoint node)) else
-    when bytes_eq verb (codes "stop") then ((node : ℕ) → P (Stop node)) else
-    when bytes_eq verb (codes "restart") then ((node : ℕ) → P (Restart node)) else
-    when bytes_eq verb (codes "show") then ((node : ℕ) → P (Show node)) else
-    when bytes_eq verb (codes "read") then ((node from : ℕ) → P (Read node from)) else
-    when bytes_eq verb (codes "committed") then ((node from : ℕ) → P (Committed node from)) else
+    when bytes_eq verb (codes "raise") then ((node : ℕ) → P (Acts node Raise)) else
+    when bytes_eq verb (codes "join") then ((node member : ℕ) → P (Acts node (Alter (Join member)))) else
+    when bytes_eq verb (codes "leave") then ((node member : ℕ) → P (Acts node (Alter (Leave member)))) else
+    when bytes_eq verb (codes "checkpoint") then ((node : ℕ) → P (Acts node Checkpoint)) else
+    when bytes_eq verb (codes "stop") then ((node : ℕ) → P (Acts node Stop)) else
+    when bytes_eq verb (codes "restart") then ((node : ℕ) → P (Acts node Restart)) else
+    when bytes_eq verb (codes "show") then ((node : ℕ) → P (Acts node Show)) else
+    when bytes_eq verb (codes "read") then ((node from : ℕ) → P (Acts node (Read from))) else
+    when bytes_eq verb (codes "committed") then ((node from : ℕ) → P (Acts node (Committed from))) else
     Unit {0}
 
 each : (P : Call → Type 0) (call : Call) → Each P (verb_text call) → P call
 each P (Elect node) h = h node
-each P (Adopt node) h = h node
 each P (Append node time sender transactional values) h = h node time sender transactional values
 each P (Raw node bytes) h = h node bytes
-each P (Mark node time producer epoch coordinator commit) h = h node time producer epoch coordinator commit
-each P (Ask node) h = h node
 each P (Deliver number) h = h number
-each P (Raise node) h = h node
-each P (Join node member) h = h node member
-each P (Leave node member) h = h node member
-each P (Checkpoint node) h = h node
-each P (Stop node) h = h node
-each P (Restart node) h = h node
-each P (Show node) h = h node
-each P (Read node from) h = h node from
-each P (Committed node from) h = h node from
+each P (Acts node (Mark marker)) h = h node marker
+each P (Acts node (Alter (Join member))) h = h node member
+each P (Acts node (Alter (Leave member))) h = h node member
+each P (Acts node (Read from)) h = h node from
+each P (Acts node (Committed from)) h = h node from
+each P (Acts node _) h = h node
 
 -- So is a call that has this verb.
 pub by_verb : (P : Call → Type 0) (verb : List ℕ) (call : Call) → Each P verb → verb ≡ verb_text call → P call
@@ -72,7 +69,10 @@ lacks_from c (x ∷ xs) all =
     (eqb-false x c (not-true (eqb x c) parts.0), lacks_from c xs parts.1)
 
 no_spaces : (call : Call) → list_all (λ x. not (eqb x 32)) (verb_text call) ≡ true
-no_spaces (Elect node) = refl
+no_spaces (Acts node (Alter (Join member))) = refl
+no_spaces (Acts node (Alter (Leave member))) = refl
+no_spaces (Acts node Adopt) = refl
+no_spaces (Acts node _) = refl
 no_spaces _ = refl
 
 -- A verb has no space.
@@ -104,40 +104,34 @@ pub record NamesNode (count : ℕ) (call : Call) : Type 0 where
 
 pub names_node : (count : ℕ) (text : List ℕ) → IsNoLongVerb text → (call : Call) → IsCallInRange count call → text ≡ verb_text call → NamesNode count call
 names_node count text none (Elect node) range v = record { node = node; within = range; fields = refl }
-names_node count text none (Adopt node) range v = record { node = node; within = range; fields = refl }
 names_node count text none (Append node time sender transactional values) range v = absurd (none.append v)
 names_node count text none (Raw node bytes) range v = absurd (none.raw v)
-names_node count text none (Mark node time producer epoch coordinator commit) range v = absurd (none.mark v)
-names_node count text none (Ask node) range v = record { node = node; within = range; fields = refl }
 names_node count text none (Deliver number) range v = absurd (none.deliver v)
-names_node count text none (Raise node) range v = record { node = node; within = range; fields = refl }
-names_node count text none (Join node member) range v = absurd (none.join v)
-names_node count text none (Leave node member) range v = absurd (none.leave v)
-names_node count text none (Checkpoint node) range v = record { node = node; within = range; fields = refl }
-names_node count text none (Stop node) range v = record { node = node; within = range; fields = refl }
-names_node count text none (Restart node) range v = record { node = node; within = range; fields = refl }
-names_node count text none (Show node) range v = record { node = node; within = range; fields = refl }
-names_node count text none (Read node from) range v = absurd (none.read v)
-names_node count text none (Committed node from) range v = absurd (none.committed v)
+names_node count text none (Acts node (Mark marker)) range v = absurd (none.mark v)
+names_node count text none (Acts node (Alter (Join member))) range v = absurd (none.join v)
+names_node count text none (Acts node (Alter (Leave member))) range v = absurd (none.leave v)
+names_node count text none (Acts node (Read from)) range v = absurd (none.read v)
+names_node count text none (Acts node (Committed from)) range v = absurd (none.committed v)
+names_node count text none (Acts node _) range v = record { node = node; within = range.0; fields = refl }
 
 -- A text that is neither verb is no call's.
 pub no_verb : (text : List ℕ) → IsNoLongVerb text → IsNoNodeVerb text → (call : Call) → text ≢ verb_text call
 no_verb text none other (Elect node) = other.elect
-no_verb text none other (Adopt node) = other.adopt
 no_verb text none other (Append node time sender transactional values) = none.append
 no_verb text none other (Raw node bytes) = none.raw
-no_verb text none other (Mark node time producer epoch coordinator commit) = none.mark
-no_verb text none other (Ask node) = other.ask
 no_verb text none other (Deliver number) = none.deliver
-no_verb text none other (Raise node) = other.raise
-no_verb text none other (Join node member) = none.join
-no_verb text none other (Leave node member) = none.leave
-no_verb text none other (Checkpoint node) = other.checkpoint
-no_verb text none other (Stop node) = other.stop
-no_verb text none other (Restart node) = other.restart
-no_verb text none other (Show node) = other.show
-no_verb text none other (Read node from) = none.read
-no_verb text none other (Committed node from) = none.committed
+no_verb text none other (Acts node Adopt) = other.adopt
+no_verb text none other (Acts node (Mark marker)) = none.mark
+no_verb text none other (Acts node Ask) = other.ask
+no_verb text none other (Acts node Raise) = other.raise
+no_verb text none other (Acts node (Alter (Join member))) = none.join
+no_verb text none other (Acts node (Alter (Leave member))) = none.leave
+no_verb text none other (Acts node Checkpoint) = other.checkpoint
+no_verb text none other (Acts node Stop) = other.stop
+no_verb text none other (Acts node Restart) = other.restart
+no_verb text none other (Acts node Show) = other.show
+no_verb text none other (Acts node (Read from)) = none.read
+no_verb text none other (Acts node (Committed from)) = none.committed
 
 -- ---- what a call of a node alone comes to
 

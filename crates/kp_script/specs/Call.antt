@@ -3,6 +3,11 @@ use Rattle.std.specs.Prelude.{◌≡◌, ◌≢◌, ℕ, ◌<◌, ◌≤◌, ◌
 use Rattle.std.specs.List.{join_with_byte, list_all, slice_split}
 use Rattle.std.specs.Fmt.{decimal}
 use Rattle.kp_record.specs.Record.{AreBytes}
+use Rattle.kp_marker.specs.Marker.{commits}
+use Rattle.kp_replica.specs.Acts.{IsInRange}
+use Rattle.kp_replica.specs.declared.act.PlainAct.{PlainAct}
+use Rattle.kp_replica.specs.declared.act.PlainAct.TheVariants.{Adopt, Mark, Ask, Raise, Alter, Checkpoint, Stop, Restart, Show, Read, Committed}
+use Rattle.kp_replica.specs.declared.altering.IsrChange.TheVariants.{Join, Leave}
 use Rattle.kp_script.specs.Hex.{hex_text}
 
 -- What an append says of its producer: who, in which epoch, and with which first sequence number (KIP-98). None is -1.
@@ -11,43 +16,22 @@ pub record Sender : Type 0 where
   pub epoch : Option ℕ
   pub sequence : Option ℕ
 
--- what an event's line asks for, mostly of a node
+-- What an event's line asks for: an election, that a batch or other bytes are handed in, an act that is handed no bytes, or
+-- that a message comes.
 pub data Call : Type 0 where
   Elect : (node : ℕ) → Call
-  Adopt : (node : ℕ) → Call
   Append : (node time : ℕ) → (sender : Sender) → (transactional : Bool) → (values : List (List ℕ)) → Call
   Raw : (node : ℕ) → (bytes : List ℕ) → Call
-  Mark : (node time producer epoch coordinator : ℕ) → (commit : Bool) → Call
-  Ask : (node : ℕ) → Call
+  Acts : (node : ℕ) → PlainAct → Call
   Deliver : (number : ℕ) → Call
-  Raise : (node : ℕ) → Call
-  Join : (node member : ℕ) → Call
-  Leave : (node member : ℕ) → Call
-  Checkpoint : (node : ℕ) → Call
-  Stop : (node : ℕ) → Call
-  Restart : (node : ℕ) → Call
-  Show : (node : ℕ) → Call
-  Read : (node from : ℕ) → Call
-  Committed : (node from : ℕ) → Call
 
 -- The node that a call names. A delivery names none, and none of its replies tells a node: 0 stands there.
 abbrev pub node_of : Call → ℕ
 node_of (Elect node) = node
-node_of (Adopt node) = node
 node_of (Append node time sender transactional values) = node
 node_of (Raw node bytes) = node
-node_of (Mark node time producer epoch coordinator commit) = node
-node_of (Ask node) = node
+node_of (Acts node act) = node
 node_of (Deliver number) = 0
-node_of (Raise node) = node
-node_of (Join node member) = node
-node_of (Leave node member) = node
-node_of (Checkpoint node) = node
-node_of (Stop node) = node
-node_of (Restart node) = node
-node_of (Show node) = node
-node_of (Read node from) = node
-node_of (Committed node from) = node
 
 -- what the first line that counts says: how many nodes there are, and the limits of their segments and indexes
 pub record Header : Type 0 where
@@ -86,28 +70,34 @@ abbrev pub header_text : Header → List ℕ
 header_text header =
     spaced (codes "nodes" ∷ decimal header.count ∷ codes "segment" ∷ decimal header.segment ∷ codes "interval" ∷ decimal header.interval ∷ [])
 
+-- the verb of an act, and its fields behind the node
+abbrev pub act_words : PlainAct → List ℕ × List (List ℕ)
+act_words Adopt = (codes "adopt", [])
+act_words (Mark marker) = (
+  codes "mark",
+  decimal marker.timestamp ∷ decimal marker.producer_id ∷ decimal marker.producer_epoch ∷ decimal marker.coordinator_epoch ∷ ending_text (commits marker.kind) ∷ [],
+)
+act_words Ask = (codes "ask", [])
+act_words Raise = (codes "raise", [])
+act_words (Alter (Join member)) = (codes "join", decimal member ∷ [])
+act_words (Alter (Leave member)) = (codes "leave", decimal member ∷ [])
+act_words Checkpoint = (codes "checkpoint", [])
+act_words Stop = (codes "stop", [])
+act_words Restart = (codes "restart", [])
+act_words Show = (codes "show", [])
+act_words (Read from) = (codes "read", decimal from ∷ [])
+act_words (Committed from) = (codes "committed", decimal from ∷ [])
+
 -- the verb of a call, and its fields
 abbrev pub words_of : Call → List ℕ × List (List ℕ)
 words_of (Elect node) = (codes "elect", decimal node ∷ [])
-words_of (Adopt node) = (codes "adopt", decimal node ∷ [])
 words_of (Append node time sender transactional values) = (
   codes "append",
   decimal node ∷ decimal time ∷ signed_text sender.producer ∷ signed_text sender.epoch ∷ signed_text sender.sequence ∷ kind_text transactional ∷ values_text values ∷ [],
 )
 words_of (Raw node bytes) = (codes "raw", decimal node ∷ hex_text bytes ∷ [])
-words_of (Mark node time producer epoch coordinator commit) =
-    (codes "mark", decimal node ∷ decimal time ∷ decimal producer ∷ decimal epoch ∷ decimal coordinator ∷ ending_text commit ∷ [])
-words_of (Ask node) = (codes "ask", decimal node ∷ [])
+words_of (Acts node act) = ((act_words act).0, decimal node ∷ (act_words act).1)
 words_of (Deliver number) = (codes "deliver", decimal number ∷ [])
-words_of (Raise node) = (codes "raise", decimal node ∷ [])
-words_of (Join node member) = (codes "join", decimal node ∷ decimal member ∷ [])
-words_of (Leave node member) = (codes "leave", decimal node ∷ decimal member ∷ [])
-words_of (Checkpoint node) = (codes "checkpoint", decimal node ∷ [])
-words_of (Stop node) = (codes "stop", decimal node ∷ [])
-words_of (Restart node) = (codes "restart", decimal node ∷ [])
-words_of (Show node) = (codes "show", decimal node ∷ [])
-words_of (Read node from) = (codes "read", decimal node ∷ decimal from ∷ [])
-words_of (Committed node from) = (codes "committed", decimal node ∷ decimal from ∷ [])
 
 abbrev pub verb_text : Call → List ℕ
 verb_text call = (words_of call).0
@@ -141,27 +131,24 @@ pub record IsSender (sender : Sender) : Type 0 where
   pub epoch : IfSome sender.epoch (λ epoch. epoch < 2 ^ 15)
   pub sequence : IfSome sender.sequence (λ sequence. sequence < 2 ^ 31)
 
--- A call's numbers, its values and its bytes are in range where there are so many nodes. Times and offsets are
--- below 2 ^ 62. There is a value, or a byte.
+-- An act's numbers are in range where there are so many nodes. Offsets are below 2 ^ 62.
+abbrev pub IsActInRange : (count : ℕ) → PlainAct → Type 0
+IsActInRange count (Mark marker) = IsInRange marker
+IsActInRange count (Alter (Join member)) = member < count
+IsActInRange count (Alter (Leave member)) = member < count
+IsActInRange count (Read from) = from < 2 ^ 62
+IsActInRange count (Committed from) = from < 2 ^ 62
+IsActInRange count _ = Unit {0}
+
+-- A call's numbers, its values and its bytes are in range where there are so many nodes. Times are below 2 ^ 62. There is a
+-- value, or a byte.
 abbrev pub IsCallInRange : (count : ℕ) → Call → Type 0
 IsCallInRange count (Elect node) = node < count
-IsCallInRange count (Adopt node) = node < count
 IsCallInRange count (Append node time sender transactional values) =
     (node < count) × (time < 2 ^ 62) × IsSender sender × (0 < length values) × IsTrue (list_all is_value values)
 IsCallInRange count (Raw node bytes) = (node < count) × (0 < length bytes) × AreBytes bytes
-IsCallInRange count (Mark node time producer epoch coordinator commit) =
-    (node < count) × (time < 2 ^ 62) × (producer < 2 ^ 63) × (epoch < 2 ^ 15) × (coordinator < 2 ^ 31)
-IsCallInRange count (Ask node) = node < count
+IsCallInRange count (Acts node act) = (node < count) × IsActInRange count act
 IsCallInRange count (Deliver number) = number < 2 ^ 31
-IsCallInRange count (Raise node) = node < count
-IsCallInRange count (Join node member) = (node < count) × (member < count)
-IsCallInRange count (Leave node member) = (node < count) × (member < count)
-IsCallInRange count (Checkpoint node) = node < count
-IsCallInRange count (Stop node) = node < count
-IsCallInRange count (Restart node) = node < count
-IsCallInRange count (Show node) = node < count
-IsCallInRange count (Read node from) = (node < count) × (from < 2 ^ 62)
-IsCallInRange count (Committed node from) = (node < count) × (from < 2 ^ 62)
 
 -- A call is in range, and its line has at most 2,100,000 bytes.
 pub record IsCall (count : ℕ) (call : Call) : Type 0 where

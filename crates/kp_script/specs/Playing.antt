@@ -8,21 +8,21 @@ use Rattle.kp_model.specs.Event.{Event}
 use Rattle.kp_world.specs.Answers.{outcome_of}
 use Rattle.kp_world.specs.Plays.{LeadOn}
 use Rattle.kp_world.specs.Shown.{Stage}
-use Rattle.kp_world.specs.declared.event.Answer.{Answer}
+use Rattle.kp_world.specs.declared.event.EventAnswer.{EventAnswer}
 use Rattle.kp_script.specs.Call.{Call}
 use Rattle.kp_script.specs.Told.{AreTold}
 use Rattle.kp_script.specs.Trace.{trace_text}
 use Rattle.kp_script.specs.Transcript.{largest_batch, numbered, refusals_in}
 
 -- The calls tell events that lead from a stage to another one with these answers, whatever came before.
-pub record LeadTo (calls : List (ℕ × Call)) (old new : Stage) (answers : List (Result Answer Refusal)) : Type 0 where
+pub record LeadTo (calls : List (ℕ × Call)) (old new : Stage) (answers : List (Result EventAnswer Refusal)) : Type 0 where
   pub events : List Event
   pub told : AreTold largest_batch (map (λ call. call.1) calls) events
   pub reach : (limits : Limits) → limits.max_batch ≡ largest_batch → LeadOn limits old events answers new
 
 -- And the known bytes grew by the trace of these calls; so many of the events were refused.
 pub record PlayTo (calls : List (ℕ × Call)) (old new : Stage) (refused : ℕ) (before after : Option (List ℕ)) : Type 0 where
-  pub answers : List (Result Answer Refusal)
+  pub answers : List (Result EventAnswer Refusal)
   pub lead : LeadTo calls old new answers
   pub refused_is : refused ≡ refusals_in (map outcome_of answers)
   pub written : Appends before after (trace_text (numbered calls) (map outcome_of answers))
@@ -30,6 +30,6 @@ pub record PlayTo (calls : List (ℕ × Call)) (old new : Stage) (refused : ℕ)
 -- And the known bytes grew by a beginning of it.
 pub record BeginFrom (calls : List (ℕ × Call)) (old : Stage) (before after : Option (List ℕ)) : Type 0 where
   pub new : Stage
-  pub answers : List (Result Answer Refusal)
+  pub answers : List (Result EventAnswer Refusal)
   pub lead : LeadTo calls old new answers
   pub begun : AppendsFront before after (trace_text (numbered calls) (map outcome_of answers))

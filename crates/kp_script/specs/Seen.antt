@@ -1,7 +1,6 @@
 -- What the parser's values say, apart from where they lie in memory.
 use Rattle.std.specs.Prelude.{ℕ, map}
-use Rattle.kp_script.specs.Call.{Call, Header, Sender, Elect, Adopt, Append, Raw, Mark, Ask, Deliver, Raise, Join, Leave, Checkpoint, Stop, Restart, Show, Read, Committed, pieces}
-use Rattle.kp_marker.specs.Marker.{commits}
+use Rattle.kp_script.specs.Call.{Call, Header, Sender, Elect, Append, Raw, Acts, Deliver, pieces}
 use Rattle.kp_script.specs.Hex.{bytes_of}
 use Rattle.kp_script.specs.declared.call.Call.{Call as ParsedCall}
 use Rattle.kp_script.specs.declared.call.Call.TheVariants as parsed
@@ -19,22 +18,10 @@ seen_sender sender = record { producer = sender.producer; epoch = sender.epoch; 
 
 abbrev pub seen_call : ParsedCall → Call
 seen_call (parsed.Elect node) = Elect node
-seen_call (parsed.Adopt node) = Adopt node
 seen_call (parsed.Append node time sender transactional values) = Append node time (seen_sender sender) transactional (pieces values.now)
 seen_call (parsed.Raw node digits) = Raw node (bytes_of digits.now)
-seen_call (parsed.Mark node marker) =
-    Mark node marker.timestamp marker.producer_id marker.producer_epoch marker.coordinator_epoch (commits marker.kind)
-seen_call (parsed.Ask node) = Ask node
+seen_call (parsed.Acts node act) = Acts node act
 seen_call (parsed.Deliver number) = Deliver number
-seen_call (parsed.Raise node) = Raise node
-seen_call (parsed.Join node member) = Join node member
-seen_call (parsed.Leave node member) = Leave node member
-seen_call (parsed.Checkpoint node) = Checkpoint node
-seen_call (parsed.Stop node) = Stop node
-seen_call (parsed.Restart node) = Restart node
-seen_call (parsed.Show node) = Show node
-seen_call (parsed.Read node from) = Read node from
-seen_call (parsed.Committed node from) = Committed node from
 
 abbrev pub seen_line : ParsedLine → ℕ × Call
 seen_line line = (line.number, seen_call line.call)

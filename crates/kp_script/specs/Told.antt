@@ -5,11 +5,13 @@ use Rattle.kp_types.specs.declared.refusal.Refusal.{Refusal}
 use Rattle.kp_types.specs.declared.refusal.Refusal.TheVariants.{TooLarge, BadProducerFields}
 use Rattle.kp_record.specs.Record.{Record, records_spelling}
 use Rattle.kp_batch.specs.Batch.{Content, Plain, Produced, Body}
-use Rattle.kp_model.specs.Event.{Event, Elect as ElectNode, Acts, Deliver as DeliverMessage, Adopt as AdoptRecord, Produce, Mark as HandMarker, Ask as AskLeader, Raise as RaiseMark, Join as AddInSync, Leave as RemoveInSync, Checkpoint as NoteMark, Stop as StopNode, Restart as RestartNode, Show as ShowState, Read as ReadFrom, Committed as ReadCommitted}
+use Rattle.kp_model.specs.Event as model
+use Rattle.kp_model.specs.Event.{Event, Produce}
+use Rattle.kp_replica.specs.Acts.{plain_act}
 use Rattle.kp_replica.specs.Replies.{IsOffer}
 use Rattle.kp_world.specs.Events.{IsEvent, AreEvents}
 use Rattle.kp_world.specs.declared.event.Event.{Event as CodeEvent}
-use Rattle.kp_script.specs.Call.{Call, Sender, Elect, Adopt, Append, Raw, Mark, Ask, Deliver, Raise, Join, Leave, Checkpoint, Stop, Restart, Show, Read, Committed}
+use Rattle.kp_script.specs.Call.{Call, Sender, Elect, Append, Raw, Acts, Deliver}
 
 -- a record that has a value alone
 abbrev pub plain_record : (time : ℕ) → List ℕ → Record
@@ -40,25 +42,13 @@ offer_of max time sender transactional values =
 -- The call tells this event, where batches have at most so many bytes. Raw bytes hand in the batch that they
 -- spell, or the first fault of them.
 abbrev pub IsTold : (max : ℕ) → Call → Event → Type 0
-IsTold max (Elect node) e = e ≡ ElectNode node
-IsTold max (Adopt node) e = e ≡ Acts node AdoptRecord
+IsTold max (Elect node) e = e ≡ model.Elect node
 IsTold max (Append node time sender transactional values) e =
-    e ≡ Acts node (Produce (offer_of max time sender transactional values))
+    e ≡ model.Acts node (Produce (offer_of max time sender transactional values))
 IsTold max (Raw node bytes) e =
-    (offer : Result Body Refusal) × IsOffer max bytes offer × (e ≡ Acts node (Produce offer))
-IsTold max (Mark node time producer epoch coordinator commit) e =
-    e ≡ Acts node (HandMarker time producer epoch coordinator commit)
-IsTold max (Ask node) e = e ≡ Acts node AskLeader
-IsTold max (Deliver number) e = e ≡ DeliverMessage number
-IsTold max (Raise node) e = e ≡ Acts node RaiseMark
-IsTold max (Join node member) e = e ≡ Acts node (AddInSync member)
-IsTold max (Leave node member) e = e ≡ Acts node (RemoveInSync member)
-IsTold max (Checkpoint node) e = e ≡ Acts node NoteMark
-IsTold max (Stop node) e = e ≡ Acts node StopNode
-IsTold max (Restart node) e = e ≡ Acts node RestartNode
-IsTold max (Show node) e = e ≡ Acts node ShowState
-IsTold max (Read node from) e = e ≡ Acts node (ReadFrom from)
-IsTold max (Committed node from) e = e ≡ Acts node (ReadCommitted from)
+    (offer : Result Body Refusal) × IsOffer max bytes offer × (e ≡ model.Acts node (Produce offer))
+IsTold max (Acts node act) e = e ≡ model.Acts node (plain_act act)
+IsTold max (Deliver number) e = e ≡ model.Deliver number
 
 -- The calls tell these events, each call one of them, in their order.
 abbrev pub AreTold : (max : ℕ) → List Call → List Event → Type 0

@@ -9,8 +9,8 @@ ghost use Rattle.kp_script.specs.Seen.{seen_header, seen_call};
 use crate::fields::{append_of, mark_of, node_and_offset_of, node_of, raw_of, two_nodes_of};
 use crate::lines::LONGEST_LINE;
 use crate::words::{field_then, last_field, number_below, split_first_at};
-use kp_marker::Marker;
-use kp_types::{GREATEST_SEGMENT_BYTES, LEAST_SEGMENT_BYTES, MAX_INDEX_INTERVAL, NodeId, Offset};
+use kp_replica::{IsrChange, PlainAct};
+use kp_types::{GREATEST_SEGMENT_BYTES, LEAST_SEGMENT_BYTES, MAX_INDEX_INTERVAL, NodeId};
 
 /// The greatest time of a record, 2^62 - 1.
 pub const GREATEST_TIME: u64 = 4_611_686_018_427_387_903;
@@ -41,17 +41,11 @@ pub struct Sender {
     pub sequence: Option<u32>,
 }
 
-/// What an event's line asks for, mostly of a node.
+/// What an event's line asks for.
 #[derive(Clone, Copy, Debug, PartialEq, Eq)]
 pub enum Call<'a> {
     /// The controller elects the node leader, of a new leader epoch.
-    Elect {
-        node: NodeId,
-    },
-    /// The node adopts the controller's record.
-    Adopt {
-        node: NodeId,
-    },
+    Elect { node: NodeId },
     /// A client hands the node a batch with a record for each of these values, which stand with a comma between
     /// each two. Each record has this time in milliseconds.
     Append {
@@ -64,64 +58,11 @@ pub enum Call<'a> {
         values: &'a [u8],
     },
     /// A client hands the node the bytes that these hexadecimal digits spell.
-    Raw {
-        node: NodeId,
-        digits: &'a [u8],
-    },
-    /// A transaction coordinator hands the node this marker, which ends a producer's transaction (KIP-98).
-    Mark {
-        node: NodeId,
-        marker: Marker,
-    },
-    /// The node asks the leader that it follows.
-    Ask {
-        node: NodeId,
-    },
+    Raw { node: NodeId, digits: &'a [u8] },
+    /// The node does this.
+    Acts { node: NodeId, act: PlainAct },
     /// The message of this number, below 2^31, comes to the node to which it goes. Messages have the numbers from 0 on.
-    Deliver {
-        number: u64,
-    },
-    /// The node raises its high watermark.
-    Raise {
-        node: NodeId,
-    },
-    /// The node, which leads, adds the other node to the in-sync replicas.
-    Join {
-        node: NodeId,
-        member: NodeId,
-    },
-    /// The node, which leads, takes the other node away from the in-sync replicas.
-    Leave {
-        node: NodeId,
-        member: NodeId,
-    },
-    /// The node notes its high watermark, to start from there when it is restarted.
-    Checkpoint {
-        node: NodeId,
-    },
-    /// The node stops, and keeps its log.
-    Stop {
-        node: NodeId,
-    },
-    /// The node starts again, in its next life.
-    Restart {
-        node: NodeId,
-    },
-    /// The node's state is shown.
-    Show {
-        node: NodeId,
-    },
-    /// A consumer reads at the node, the records from this offset on that lie below the high watermark.
-    Read {
-        node: NodeId,
-        from: Offset,
-    },
-    /// A consumer reads at the node, of the records from this offset on that lie below the last stable offset, those
-    /// that no aborted transaction has (KIP-98, `read_committed`).
-    Committed {
-        node: NodeId,
-        from: Offset,
-    },
+    Deliver { number: u64 },
 }
 
 impl Call<'_> {
@@ -135,20 +76,9 @@ impl Call<'_> {
     {
         match self {
             Call::Elect { node }
-            | Call::Adopt { node }
             | Call::Append { node, .. }
             | Call::Raw { node, .. }
-            | Call::Mark { node, .. }
-            | Call::Ask { node }
-            | Call::Raise { node }
-            | Call::Join { node, .. }
-            | Call::Leave { node, .. }
-            | Call::Checkpoint { node }
-            | Call::Stop { node }
-            | Call::Restart { node }
-            | Call::Show { node }
-            | Call::Read { node, .. }
-            | Call::Committed { node, .. } => *node,
+            | Call::Acts { node, .. } => *node,
             Call::Deliver { .. } => 0,
         }
     }
@@ -190,13 +120,34 @@ fn node_call<'a>(verb: &[u8], node: NodeId) -> Option<Call<'a>>
 {
     match verb {
         b"elect" => Some(Call::Elect { node }),
-        b"adopt" => Some(Call::Adopt { node }),
-        b"ask" => Some(Call::Ask { node }),
-        b"raise" => Some(Call::Raise { node }),
-        b"checkpoint" => Some(Call::Checkpoint { node }),
-        b"stop" => Some(Call::Stop { node }),
-        b"restart" => Some(Call::Restart { node }),
-        b"show" => Some(Call::Show { node }),
+        b"adopt" => Some(Call::Acts {
+            node,
+            act: PlainAct::Adopt,
+        }),
+        b"ask" => Some(Call::Acts {
+            node,
+            act: PlainAct::Ask,
+        }),
+        b"raise" => Some(Call::Acts {
+            node,
+            act: PlainAct::Raise,
+        }),
+        b"checkpoint" => Some(Call::Acts {
+            node,
+            act: PlainAct::Checkpoint,
+        }),
+        b"stop" => Some(Call::Acts {
+            node,
+            act: PlainAct::Stop,
+        }),
+        b"restart" => Some(Call::Acts {
+            node,
+            act: PlainAct::Restart,
+        }),
+        b"show" => Some(Call::Acts {
+            node,
+            act: PlainAct::Show,
+        }),
         _ => None,
     }
 }
@@ -211,12 +162,27 @@ fn call_with<'a>(verb: &[u8], fields: &'a [u8], count: NodeId) -> Option<Call<'a
         b"append" => append_of(fields, count),
         b"raw" => raw_of(fields, count),
         b"mark" => mark_of(fields, count),
-        b"join" => two_nodes_of(fields, count).map(|(node, member)| Call::Join { node, member }),
-        b"leave" => two_nodes_of(fields, count).map(|(node, member)| Call::Leave { node, member }),
-        b"read" => node_and_offset_of(fields, count).map(|(node, from)| Call::Read { node, from }),
-        b"committed" => node_and_offset_of(fields, count).map(|(node, from)| Call::Committed {
+        b"join" => two_nodes_of(fields, count).map(|(node, member)| {
+            let change = IsrChange::Join(member);
+            Call::Acts {
+                node,
+                act: PlainAct::Alter { change },
+            }
+        }),
+        b"leave" => two_nodes_of(fields, count).map(|(node, member)| {
+            let change = IsrChange::Leave(member);
+            Call::Acts {
+                node,
+                act: PlainAct::Alter { change },
+            }
+        }),
+        b"read" => node_and_offset_of(fields, count).map(|(node, from)| Call::Acts {
             node,
-            from,
+            act: PlainAct::Read { from },
+        }),
+        b"committed" => node_and_offset_of(fields, count).map(|(node, from)| Call::Acts {
+            node,
+            act: PlainAct::Committed { from },
         }),
         b"deliver" => number_below(fields, GREATEST_MESSAGE + 1).map(|number| Call::Deliver {
             number,

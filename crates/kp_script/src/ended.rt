@@ -27,10 +27,10 @@ impl Model for Ended {
 
     ghost view = { λ ended. record {
       refused = ended.refused;
-      logs = map log_of ended.world.members;
+      logs = map log_of ended.world.nodes;
     } };
 
-    ghost invariant = { λ ended. (length ended.world.members ≡ ended.count)
+    ghost invariant = { λ ended. (length ended.world.nodes ≡ ended.count)
         × (0 < ended.count)
         × (ended.count ≤ 7) };
 }
@@ -38,10 +38,10 @@ impl Model for Ended {
 impl Ended {
     /// The end of a run of so many nodes that left this world.
     pub(crate) fn new(refused: u64, count: NodeId, world: World) -> Ended
-        requires count { length world.members ≡ count }
+        requires count { length world.nodes ≡ count }
         requires some { 0 < count }
         requires most { count ≤ 7 }
-        ensures { result ≡ record { refused = refused; logs = map log_of world.members } }
+        ensures { result ≡ record { refused = refused; logs = map log_of world.nodes } }
     {
         Ended {
             refused,

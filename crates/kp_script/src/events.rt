@@ -16,9 +16,9 @@ use crate::script::Line;
 use crate::words::split_first_at;
 use bytes::Bytes;
 use kp_batch::{Fields, Handed, Parts, Speller};
-use kp_replica::IsrChange;
+use kp_replica::Act;
 use kp_types::{NodeId, Refusal};
-use kp_world::{Act, Event};
+use kp_world::Event;
 use std::alloc::{AllocError, Global};
 
 /// The record at this time in milliseconds with this value.
@@ -122,37 +122,22 @@ fn event_of<'a>(
     ensures only { IfErr result (λ refusal. refusal ≡ Memory) }
 {
     let _ = count;
-    let (node, act) = match *call {
-        Call::Elect { node } => return Ok(Event::Elect { node }),
-        Call::Deliver { number } => return Ok(Event::Deliver { number }),
+    match *call {
+        Call::Elect { node } => Ok(Event::Elect { node }),
         Call::Append {
             node,
             time,
             sender,
             transactional,
             values,
-        } => return append_event(speller, parts, node, time, sender, transactional, values),
-        Call::Raw { node, digits } => return raw_event(alloc, node, digits),
-        Call::Adopt { node } => (node, Act::Adopt),
-        Call::Mark { node, marker } => (node, Act::Mark { marker }),
-        Call::Ask { node } => (node, Act::Ask),
-        Call::Raise { node } => (node, Act::Raise),
-        Call::Join { node, member } => {
-            let change = IsrChange::Join(member);
-            (node, Act::Alter { change })
-        }
-        Call::Leave { node, member } => {
-            let change = IsrChange::Leave(member);
-            (node, Act::Alter { change })
-        }
-        Call::Checkpoint { node } => (node, Act::Checkpoint),
-        Call::Stop { node } => (node, Act::Stop),
-        Call::Restart { node } => (node, Act::Restart),
-        Call::Show { node } => (node, Act::Show),
-        Call::Read { node, from } => (node, Act::Read { from }),
-        Call::Committed { node, from } => (node, Act::Committed { from }),
-    };
-    Ok(Event::Acts { node, act })
+        } => append_event(speller, parts, node, time, sender, transactional, values),
+        Call::Raw { node, digits } => raw_event(alloc, node, digits),
+        Call::Acts { node, act } => Ok(Event::Acts {
+            node,
+            act: Act::Plain(act),
+        }),
+        Call::Deliver { number } => Ok(Event::Deliver { number }),
+    }
 }
 
 /// The events of these lines, in their order. Takes time and memory proportional to the lines. F33.

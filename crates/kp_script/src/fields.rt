@@ -6,7 +6,7 @@ ghost use Rattle.std.specs.Fmt.{decimal};
 ghost use Rattle.std.specs.List.{list_all};
 ghost use Rattle.kp_marker.specs.Marker.{commits};
 ghost use Rattle.kp_marker.specs.declared.parts.Marker.{Marker as SpelledMarker};
-ghost use Rattle.kp_world.specs.Events.{IsInRange};
+ghost use Rattle.kp_replica.specs.Acts.{IsInRange};
 ghost use Rattle.kp_script.specs.Call.{Sender as SpelledSender, is_value, kind_text, ending_text, pieces, IsSender};
 ghost use Rattle.kp_script.specs.Read.{sender_front, marker_text, AreFields, AreNoFields};
 ghost use Rattle.kp_script.specs.Seen.{seen_sender, seen_call};
@@ -15,6 +15,7 @@ use crate::call::{Call, GREATEST_TIME, Sender};
 use crate::digits::is_hex;
 use crate::words::{after, number_below, number_then, signed_then};
 use kp_marker::{Kind, Marker};
+use kp_replica::PlainAct;
 use kp_types::{GREATEST_OFFSET, NodeId, Offset};
 
 /// The greatest number of a producer, 2^63 - 1.
@@ -249,7 +250,10 @@ pub fn mark_of(fields: &[u8], count: NodeId) -> Option<Call<'_>>
         return None;
     };
     match marker_of(rest) {
-        Some(marker) => Some(Call::Mark { node, marker }),
+        Some(marker) => Some(Call::Acts {
+            node,
+            act: PlainAct::Mark { marker },
+        }),
         None => None,
     }
 }

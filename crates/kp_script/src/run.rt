@@ -1,16 +1,15 @@
 //! A script run from its bytes to its trace's bytes.
 
-ghost use Rattle.std.specs.Prelude.{◌≡◌, ◌+◌, ◌<◌, ◌≤◌, ◌^◌, ℕ, IfOk, IfErr, IfSome, OnErr, Err, length, map};
+ghost use Rattle.std.specs.Prelude.{◌≡◌, ◌+◌, ◌<◌, ◌≤◌, ◌^◌, ℕ, IfOk, IfErr, IfSome, OnErr, Err, count_by, is_err, length, map};
 ghost use Rattle.std.specs.List.{AllByRecursion};
 ghost use Rattle.kp_types.specs.declared.refusal.Refusal.TheVariants.{BadScript, Device as DeviceFault, Memory as WantOfMemory};
 ghost use Rattle.kp_types.specs.Devices.{CountsFaults, CountsOne, IsDeviceFault, device_of, faults_of};
-ghost use Rattle.kp_world.specs.Answers.{outcome_of};
 ghost use Rattle.kp_script.specs.Call.{IsCall};
 ghost use Rattle.kp_script.specs.Ended.{limits_in, WritesTo};
 ghost use Rattle.kp_script.specs.Playing.{BeginFrom, PlayTo};
 ghost use Rattle.kp_script.specs.Script.{IsFaultAt};
 ghost use Rattle.kp_script.specs.Seen.{seen_header, seen_line};
-ghost use Rattle.kp_script.specs.Transcript.{refusals_in, IsRunRefusal, Writes, WritesFirst, WritesFront};
+ghost use Rattle.kp_script.specs.Transcript.{IsRunRefusal, Writes, WritesFirst, WritesFront};
 
 use crate::call::Header;
 use crate::ended::Ended;
@@ -19,7 +18,7 @@ use crate::script::{Line, parse};
 use crate::trace::push_trace;
 use kp_batch::Speller;
 use kp_types::{Counted, Limits, MAX_BATCH, NodeId, Refusal};
-use kp_world::{Answer, World};
+use kp_world::{EventAnswer, World};
 use std::alloc::Global;
 use std::io::{Read, Write};
 
@@ -31,7 +30,7 @@ const EVENTS_AT_ONCE: usize = 512;
 #[derive(Drop)]
 struct Lists {
     speller: Speller,
-    outcomes: Vec<Result<Answer, Refusal>>,
+    outcomes: Vec<Result<EventAnswer, Refusal>>,
     text: Vec<u8>,
 }
 
@@ -47,11 +46,17 @@ fn limits_of(header: &Header) -> Limits
 }
 
 /// How many events were refused.
-fn count_refused(outcomes: &[Result<Answer, Refusal>]) -> u64
-    ensures count { result ≡ refusals_in (map outcome_of outcomes.now) }
+fn count_refused(outcomes: &[Result<EventAnswer, Refusal>]) -> u64
+    ensures count { result ≡ count_by is_err outcomes.now }
     ensures few { result ≤ length outcomes.now }
 {
-    outcomes.iter().filter(|outcome| outcome.is_err()).count() as u64
+    let mut refused = 0;
+    for outcome in outcomes {
+        if outcome.is_err() {
+            refused += 1;
+        }
+    }
+    refused
 }
 
 /// Makes the events of these lines, plays them in the world, and writes their lines. Answers how many of them were
@@ -65,7 +70,7 @@ fn play_lines<W: Write>(
     writer: &mut Counted<W>,
 ) -> Result<u64, Refusal>
     requires calls { AllByRecursion (λ call. IsCall count call.1) (map seen_line lines.now) }
-    requires nodes { length world.old.members ≡ count }
+    requires nodes { length world.old.nodes ≡ count }
     requires writes { faults_of writer.old + 1 < 2 ^ 64 }
     ensures played { IfOk result (λ refused.
         PlayTo (map seen_line lines.now) world.old world.new refused
@@ -73,7 +78,7 @@ fn play_lines<W: Write>(
     ensures begun { result ≡ Err DeviceFault → BeginFrom (map seen_line lines.now) world.old
         (W.contents (device_of writer.old)) (W.contents (device_of writer.new)) }
     ensures untouched { result ≡ Err WantOfMemory → writer.new ≡ writer.old }
-    ensures nodes { length world.new.members ≡ count }
+    ensures nodes { length world.new.nodes ≡ count }
     ensures few { IfOk result (λ refused. refused ≤ length lines.now) }
     ensures only { IfErr result IsDeviceFault }
     ensures counted { CountsFaults result (faults_of writer.old) (faults_of writer.new) }

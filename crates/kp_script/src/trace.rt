@@ -4,9 +4,11 @@ ghost use Rattle.std.specs.Prelude.{◌≡◌, [], ◌∷◌, ◌++◌, length, 
 ghost use Rattle.std.specs.Option.{option_map};
 ghost use Rattle.kp_types.specs.Texts.{refusal_text};
 ghost use Rattle.kp_control.specs.Set.{leader_of, members_of, record_of};
-ghost use Rattle.kp_replica.specs.Replies.{role_reply, receipt_reply, cut_reply};
-ghost use Rattle.kp_world.specs.Answers.{answer_reply, number_in, outcome_of, said_reply};
-ghost use Rattle.kp_world.specs.Records.{line_of};
+ghost use Rattle.kp_model.specs.Calls.{said_reply};
+ghost use Rattle.kp_replica.specs.Acts.{answer_reply};
+ghost use Rattle.kp_replica.specs.Replies.{role_reply, receipt_reply, cut_reply, shown_reply};
+ghost use Rattle.kp_visible.specs.Lines.{line_of};
+ghost use Rattle.kp_world.specs.Answers.{number_in, outcome_of, told_reply};
 ghost use Rattle.kp_script.specs.Call.{node_of};
 ghost use Rattle.kp_script.specs.Seen.{seen_call};
 ghost use Rattle.kp_script.specs.Trace.{leader_text, life_text, line_text, lines_text, nodes_text, record_text, reply_text, outcome_text, trace_text};
@@ -14,9 +16,11 @@ ghost use Rattle.kp_script.specs.Trace.{leader_text, life_text, line_text, lines
 use crate::script::Line;
 use crate::text::{push_hex, push_named, push_number};
 use kp_control::{Leader, LeaderAndIsr, NodeSet};
-use kp_replica::{CutBack, Receipt, Role};
+use kp_model::Said;
+use kp_replica::{Answer, CutBack, Receipt, Role, Shown};
 use kp_types::{NodeId, Offset, Refusal};
-use kp_world::{Answer, ReadRecord, ReadRecords, Said};
+use kp_visible::{ReadRecord, ReadRecords};
+use kp_world::EventAnswer;
 use std::alloc::AllocError;
 
 /// Appends a space and a record that was read.
@@ -175,17 +179,26 @@ fn push_life(
     push_named(text, b" mark ", watermark)
 }
 
-/// Appends what an event that names this node answers.
+/// Appends the state that this node shows.
+fn push_shown(text: &mut Vec<u8>, node: NodeId, shown: &Shown) -> Result<(), AllocError>
+    ensures { OnOk result
+        (text.new.items ≡ text.old.items ++ reply_text node None (shown_reply shown.now)) }
+{
+    push_named(text, b"node ", u64::from(node))?;
+    text.push(b' ')?;
+    push_life(text, shown.life, shown.end, shown.watermark)?;
+    push_named(text, b" stable ", shown.stable)
+}
+
+/// Appends what this node answers.
 fn push_answer(text: &mut Vec<u8>, node: NodeId, answer: &Answer) -> Result<(), AllocError>
     ensures { OnOk result
         (text.new.items ≡ text.old.items
-        ++ reply_text node (number_in answer.now) (answer_reply answer.now)) }
+        ++ reply_text node None (answer_reply answer.now)) }
 {
     match answer {
-        Answer::Changed(controller) => push_record(text, controller),
         Answer::Adopted(role) => push_role(text, node, role),
         Answer::Appended(receipt) => push_receipt(text, node, receipt),
-        Answer::Sent { number, said } => push_sent(text, node, *number, said),
         Answer::Took(taken) => {
             push_named(text, b"end ", taken.end)?;
             push_named(text, b" mark ", taken.watermark)
@@ -199,18 +212,21 @@ fn push_answer(text: &mut Vec<u8>, node: NodeId, answer: &Answer) -> Result<(), 
             end,
             watermark,
         } => push_life(text, *life, *end, *watermark),
-        Answer::Shown {
-            life,
-            end,
-            watermark,
-            stable,
-        } => {
-            push_named(text, b"node ", u64::from(node))?;
-            text.push(b' ')?;
-            push_life(text, *life, *end, *watermark)?;
-            push_named(text, b" stable ", *stable)
-        }
+        Answer::Shown(shown) => push_shown(text, node, shown),
         Answer::Lines(lines) => push_lines(text, lines),
+    }
+}
+
+/// Appends what is told of an event that names this node.
+fn push_told(text: &mut Vec<u8>, node: NodeId, told: &EventAnswer) -> Result<(), AllocError>
+    ensures { OnOk result
+        (text.new.items ≡ text.old.items
+        ++ reply_text node (number_in told.now) (told_reply told.now)) }
+{
+    match told {
+        EventAnswer::Changed(controller) => push_record(text, controller),
+        EventAnswer::Sent { number, said } => push_sent(text, node, *number, said),
+        EventAnswer::Answered(answer) => push_answer(text, node, answer),
     }
 }
 
@@ -230,13 +246,13 @@ fn push_refusal(text: &mut Vec<u8>, refusal: &Refusal) -> Result<(), AllocError>
 fn push_outcome(
     text: &mut Vec<u8>,
     node: NodeId,
-    outcome: &Result<Answer, Refusal>,
+    outcome: &Result<EventAnswer, Refusal>,
 ) -> Result<(), AllocError>
     ensures ok { OnOk result
         (text.new.items ≡ text.old.items ++ outcome_text node (outcome_of outcome.now)) }
 {
     match outcome {
-        Ok(answer) => push_answer(text, node, answer),
+        Ok(told) => push_told(text, node, told),
         Err(refusal) => push_refusal(text, refusal),
     }
 }
@@ -246,7 +262,7 @@ fn push_outcome(
 pub fn push_trace(
     text: &mut Vec<u8>,
     lines: &[Line<'_>],
-    outcomes: &[Result<Answer, Refusal>],
+    outcomes: &[Result<EventAnswer, Refusal>],
 ) -> Result<(), AllocError>
     requires { length outcomes.now ≡ length lines.now }
     ensures { OnOk result (text.new.items ≡ text.old.items ++ trace_text

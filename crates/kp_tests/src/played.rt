@@ -5,7 +5,7 @@ use crate::node_tests::bytes_of;
 use kp_batch::Batch;
 use kp_control::LeaderAndIsr;
 use kp_log::PartitionLog;
-use kp_model::{EpochAnswer, EpochRequest, FetchAnswer, FetchRequest, Letter};
+use kp_model::{EpochAnswer, EpochRequest, FetchAnswer, FetchRequest, MessageBody};
 use kp_replica::{IsrChange, KeptNode, Replica, Role};
 use kp_types::{Epoch, NodeId, Offset, Refusal};
 use std::alloc::{AllocError, Global};
@@ -50,7 +50,7 @@ struct Play {
     record: LeaderAndIsr,
     before: LeaderAndIsr,
     nodes: Vec<Option<Node>>,
-    mail: Vec<Letter>,
+    mail: Vec<MessageBody>,
 }
 
 fn place(nodes: &mut Vec<Option<Node>>, node: NodeId) -> Result<&mut Option<Node>, Refusal> {
@@ -94,18 +94,18 @@ fn push_role(text: &mut String, role: Role) -> Result<(), AllocError> {
     }
 }
 
-fn push_letter(text: &mut String, letter: &Letter) -> Result<(), AllocError> {
+fn push_letter(text: &mut String, letter: &MessageBody) -> Result<(), AllocError> {
     match letter {
-        Letter::FetchRequest(request) => write!(text, "asks from {}", request.offset),
-        Letter::EpochRequest(request) => match request.last_epoch {
+        MessageBody::FetchRequest(request) => write!(text, "asks from {}", request.offset),
+        MessageBody::EpochRequest(request) => match request.last_epoch {
             Some(epoch) => write!(text, "asks epoch {epoch}"),
             None => text.push_str("asks no epoch"),
         },
-        Letter::FetchAnswer(answer) => {
+        MessageBody::FetchAnswer(answer) => {
             let (count, watermark) = (answer.batches.len(), answer.watermark);
             write!(text, "batches {count} mark {watermark}")
         }
-        Letter::EpochAnswer(answer) => match answer.end {
+        MessageBody::EpochAnswer(answer) => match answer.end {
             Some(found) => write!(text, "epoch {} end {}", found.epoch, found.end),
             None => text.push_str("no epoch"),
         },
@@ -249,7 +249,7 @@ impl Play {
         Ok(push_record(text, &record)?)
     }
 
-    fn send(&mut self, text: &mut String, letter: Letter) -> Result<(), Refusal> {
+    fn send(&mut self, text: &mut String, letter: MessageBody) -> Result<(), Refusal> {
         write!(text, "sent {} ", self.mail.len())?;
         push_letter(text, &letter)?;
         Ok(self.mail.push(letter)?)
@@ -262,26 +262,26 @@ impl Play {
         request: &FetchRequest,
     ) -> Result<(), Refusal> {
         let answer = up(&mut self.nodes, request.to)?.serve_fetch(alloc, request)?;
-        self.send(text, Letter::FetchAnswer(answer))
+        self.send(text, MessageBody::FetchAnswer(answer))
     }
 
     fn serve_epoch(&mut self, text: &mut String, request: &EpochRequest) -> Result<(), Refusal> {
         let answer = up(&mut self.nodes, request.to)?.serve_epoch(request)?;
-        self.send(text, Letter::EpochAnswer(answer))
+        self.send(text, MessageBody::EpochAnswer(answer))
     }
 
     fn deliver(&mut self, alloc: Global, text: &mut String, number: usize) -> Result<(), Refusal> {
         match self.mail.get(number) {
-            Some(Letter::FetchRequest(request)) => {
+            Some(MessageBody::FetchRequest(request)) => {
                 let request = *request;
                 self.serve_fetch(alloc, text, &request)
             }
-            Some(Letter::EpochRequest(request)) => {
+            Some(MessageBody::EpochRequest(request)) => {
                 let request = *request;
                 self.serve_epoch(text, &request)
             }
-            Some(Letter::FetchAnswer(answer)) => take_fetch(text, &mut self.nodes, answer),
-            Some(Letter::EpochAnswer(answer)) => {
+            Some(MessageBody::FetchAnswer(answer)) => take_fetch(text, &mut self.nodes, answer),
+            Some(MessageBody::EpochAnswer(answer)) => {
                 let node = up(&mut self.nodes, answer.request.from)?;
                 take_epoch(text, node, answer, &self.record)
             }

@@ -12,3 +12,5 @@ pub mod Showing
 pub mod Consumers
 pub mod Growing
 pub mod Passing
+pub mod LineLists
+pub mod Spans

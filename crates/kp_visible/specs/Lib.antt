@@ -3,3 +3,4 @@ pub mod Near
 pub mod Searched
 pub mod Lent
 pub mod Laws
+pub mod Lines

@@ -5,6 +5,7 @@
 
 mod committed;
 mod filter;
+mod lines;
 mod near;
 mod placed;
 mod searched;
@@ -21,6 +22,7 @@ ghost use Rattle.kp_visible.specs.Laws.{AbortedRecordsAreHidden, AbortedRecordsW
 
 use crate::near::Nearby;
 pub use committed::CommittedRecords;
+pub use lines::{ReadRecord, ReadRecords, push_committed, push_lines};
 use kp_batch::Batch;
 use kp_txns::AbortedTransaction;
 

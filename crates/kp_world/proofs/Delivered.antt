@@ -1,7 +1,6 @@
 -- What a message that comes leads on to.
 use Rattle.std.proofs.Common.{◌≡◌, ℕ, ◌<◌, ◌≤◌, List, [], ◌∷◌, length, map, set, get_or, None, Some, Option, Result, Err, refl, sym, ap, ◌∙◌, subst, arith, inl, inr}
 use Rattle.std.specs.Prelude.{slice_get, is_some}
-use Rattle.std.proofs.lemmas.Bool.{false≢true}
 use Rattle.std.specs.Option.{option_map}
 use Rattle.std.proofs.lemmas.List.{get_or-map, length-map, map-set}
 use Rattle.std.proofs.lemmas.Option.{slice_get-map}
@@ -11,21 +10,19 @@ use Rattle.kp_types.specs.declared.refusal.Refusal.TheVariants as refusals
 use Rattle.kp_model.specs.Log.{IsLog, IsKin}
 use Rattle.kp_model.specs.World.{LeaderAndIsr, Node, Answer as ModelAnswer, Message, Asks, Answers, IsSent, addressee, sender}
 use Rattle.kp_model.specs.Event.{Receive, Refused, Deliver, Reply}
-use Rattle.kp_model.specs.declared.message.EpochAnswer.{EpochAnswer}
 use Rattle.kp_model.specs.Laws.{MessagesGoToNodes, RunsKeepCount, RunsKeepLogs, RunsKeepKin, NoCutBelowTheWatermark, AreTwoNodes, place_of}
-use Rattle.kp_model.specs.Letter.{Letter, epoch_end_answer, letter_of}
+use Rattle.kp_model.specs.Letter.{Letter, goes_to, letter_of}
 use Rattle.kp_model.specs.Local.{cut_cause}
 use Rattle.kp_model.specs.Run.{Run, last}
 use Rattle.kp_model.specs.Step.{Delivers, NodeStep, told}
 use Rattle.kp_model.proofs.RunLaws.{last_is_of}
-use Rattle.kp_model.proofs.Letters.{asks_for}
-use Rattle.kp_replica.specs.Member.{Member, DoesUnder}
-use Rattle.kp_world.specs.declared.event.Answer.{Answer}
-use Rattle.kp_world.specs.Answers.{outcome_of}
-use Rattle.kp_world.specs.Moves.{IsOfRun, Moves, goes_to}
+use Rattle.kp_replica.specs.NumberedNode.{NumberedNode, DoesUnder}
+use Rattle.kp_world.specs.declared.event.EventAnswer.{EventAnswer}
+use Rattle.kp_replica.specs.Acts.{Acts, IsOfRun}
+use Rattle.kp_replica.specs.declared.act.Effect.{Effect}
+use Rattle.kp_world.specs.Answers.{IsTold, outcome_of}
 use Rattle.kp_world.specs.Plays.{LeadOn}
-use Rattle.kp_world.specs.Shown.{IsNode, Stage, member_at}
-use Rattle.kp_world.specs.declared.place.Place.{Place}
+use Rattle.kp_world.specs.Shown.{IsNode, Stage, next}
 use Rattle.kp_world.proofs.Moved.{stepped}
 use Rattle.kp_world.proofs.Playing.{reached_more}
 
@@ -56,8 +53,8 @@ goes (Asks r) = refl
 goes (Answers a) = refl
 
 -- what the laws of runs say of a message
-of_run : RunsKeepLogs → RunsKeepKin → NoCutBelowTheWatermark → (count : ℕ) (r : Run count) (number : ℕ) (m : Message) (c : LeaderAndIsr) (x : Member) → slice_get (last r).messages number ≡ Some m
-    → (last r).controller ≡ c → (last r).nodes x.number ≡ x.state → IsOfRun c x m
+of_run : RunsKeepLogs → RunsKeepKin → NoCutBelowTheWatermark → (count : ℕ) (r : Run count) (number : ℕ) (m : Message) (c : LeaderAndIsr) (x : NumberedNode) → slice_get (last r).messages number ≡ Some m
+    → (last r).controller ≡ c → (last r).nodes x.number ≡ x.state → IsOfRun c x (Receive m)
 of_run keep_logs keep_kin no_cut count r number (Asks q) c x there record_is state = tt
 of_run keep_logs keep_kin no_cut count r number (Answers a) c x there record_is state =
     let w = last r in
@@ -72,21 +69,21 @@ of_run keep_logs keep_kin no_cut count r number (Answers a) c x there record_is 
     )
 
 -- the message came to the node to which it goes
-pub delivered : RunsKeepLogs → RunsKeepKin → NoCutBelowTheWatermark → (limits : Limits) (number : ℕ) (l : Letter) (i : ℕ) (stage : Stage) (x m : Member) (outcome : Result Answer Refusal)
-    (letters : List Letter) → slice_get stage.letters number ≡ Some l → i ≡ goes_to l → i < length stage.members → x ≡ get_or stage.members i x
-    → ((message : Message) → letter_of message ≡ l → IsOfRun stage.controller x message → Moves stage.controller stage.controller stage.letters x m (Receive message) outcome letters)
-    → LeadOn limits stage (Deliver number ∷ []) (outcome ∷ []) (record { controller = stage.controller; members = set stage.members i m; letters = letters })
-delivered keep_logs keep_kin no_cut limits number l i stage x m outcome letters is goes_there inside there did count before earlier p =
+pub delivered : RunsKeepLogs → RunsKeepKin → NoCutBelowTheWatermark → (limits : Limits) (number : ℕ) (l : Letter) (i : ℕ) (stage : Stage) (x m : NumberedNode) (outcome : Result Effect Refusal)
+    (telling : Result EventAnswer Refusal) → slice_get stage.letters number ≡ Some l → i ≡ goes_to l → i < length stage.nodes → x ≡ get_or stage.nodes i x → IsTold (length stage.letters) outcome telling
+    → ((message : Message) → letter_of message ≡ l → Acts stage.controller x m (Receive message) outcome) → LeadOn limits stage (Deliver number ∷ []) (telling ∷ []) (next stage i m outcome)
+delivered keep_logs keep_kin no_cut limits number l i stage x m outcome telling is goes_there inside there tells did count before earlier p =
     let w = last p.run in
+    let c = stage.controller in
     let sent = sent_there w.messages stage.letters number l p.shown.letters_are is in
     let message = sent.message in
     let here : i ≡ addressee message = goes_there ∙ ap goes_to (sym sent.letter_is) ∙ goes message in
-    let old : IsNode limits i x (w.nodes i) = subst (λ (y : Member). IsNode limits i y (w.nodes i)) (sym there) (p.shown.nodes i x inside) in
+    let old : IsNode limits i x (w.nodes i) = subst (λ (y : NumberedNode). IsNode limits i y (w.nodes i)) (sym there) (p.shown.nodes_are i x inside) in
     let state : w.nodes x.number ≡ x.state = ap w.nodes old.number_is ∙ old.state in
-    let s = stepped limits i stage x m (Receive message) outcome stage.controller letters w inside there p.shown (number, sent.there)
-    (λ number_is limits_are. did message sent.letter_is (of_run keep_logs keep_kin no_cut count p.run number message stage.controller x sent.there p.shown.controller_is state)) in
-    reached_more count limits before earlier stage _ (Deliver number) outcome p s.after
-    (subst (λ (o : Option Message). Delivers w o (outcome_of outcome) s.after) (sym sent.there) (subst (λ (k : ℕ). NodeStep w k (Receive message) (outcome_of outcome) s.after) here s.step)) tt s.shown
+    let s = stepped limits i stage x m (Receive message) outcome telling w inside there p.shown (number, sent.there) tells
+    (λ number_is. did message sent.letter_is c (λ looks. refl) (of_run keep_logs keep_kin no_cut count p.run number message c x sent.there p.shown.controller_is state)) in
+    reached_more count limits before earlier stage _ (Deliver number) telling p s.after
+    (subst (λ (o : Option Message). Delivers w o (outcome_of telling) s.after) (sym sent.there) (subst (λ (k : ℕ). NodeStep w k (Receive message) (outcome_of telling) s.after) here s.step)) tt s.shown
 
 -- no message has this number
 pub undelivered : (limits : Limits) (number : ℕ) (stage : Stage) → slice_get stage.letters number ≡ None
@@ -97,8 +94,8 @@ undelivered limits number stage none count before earlier p =
     (subst (λ (o : Option Message). Delivers w o (told (Refused refusals.StaleAnswer)) w) (sym (none_there w.messages stage.letters number p.shown.letters_are none)) (refl, refl)) tt p.shown
 
 -- no message of a run goes nowhere
-pub goes_nowhere : MessagesGoToNodes → RunsKeepCount → (limits : Limits) (number : ℕ) (l : Letter) (stage new : Stage) (outcome : Result Answer Refusal) → slice_get stage.letters number ≡ Some l
-    → length stage.members ≤ goes_to l → LeadOn limits stage (Deliver number ∷ []) (outcome ∷ []) new
+pub goes_nowhere : MessagesGoToNodes → RunsKeepCount → (limits : Limits) (number : ℕ) (l : Letter) (stage new : Stage) (outcome : Result EventAnswer Refusal) → slice_get stage.letters number ≡ Some l
+    → length stage.nodes ≤ goes_to l → LeadOn limits stage (Deliver number ∷ []) (outcome ∷ []) new
 goes_nowhere go keep limits number l stage new outcome is beyond count before earlier p =
     let w = last p.run in
     let is_of = last_is_of count p.run in
@@ -106,28 +103,3 @@ goes_nowhere go keep limits number l stage new outcome is beyond count before ea
     let two : AreTwoNodes count (sender sent.message) (addressee sent.message) = go count p.run w is_of sent.message (number, sent.there) in
     let there : goes_to l ≡ addressee sent.message = ap goes_to (sym sent.letter_is) ∙ goes sent.message in
     absurd (omega (arith, two.1, there, beyond, p.shown.count, keep count p.run w is_of))
-
--- what an epoch answer does, for each message with its letter
-pub epoch_came : (c : LeaderAndIsr) (old new : Member) (answer : EpochAnswer) (m : Message) (reply : Reply) → letter_of m ≡ epoch_end_answer answer → IsOfRun c old m
-    → ((a : ModelAnswer) → letter_of (Answers a) ≡ epoch_end_answer answer → IsLog a.log → IsKin old.state.log a.log
-    → (cut_cause c old.number old.state a ≡ None → old.state.watermark ≤ (place_of old.state a).0) → DoesUnder c old new (Receive (Answers a)) reply)
-    → DoesUnder c old new (Receive m) reply
-epoch_came c old new answer (Asks q) reply is of event =
-    absurd (false≢true (ap (λ (l : Letter). is_some l.answering) is))
-epoch_came c old new answer (Answers a) reply is of event =
-    event a is of.0 of.1 (λ free. of.2 (asks_for a.request answer.request.last_epoch (ap (λ (l : Letter). l.asking) is)).fetching free)
-
--- ---- beside the code's places and letters
-
-pub came : RunsKeepLogs → RunsKeepKin → NoCutBelowTheWatermark → (limits : Limits) (number : ℕ) (l : Letter) (i : ℕ) (c : LeaderAndIsr) (places : List Place) (p q : Place)
-    (letters after : List Letter) (outcome : Result Answer Refusal) → slice_get letters number ≡ Some l → i ≡ goes_to l → i < length places → p ≡ get_or places i p
-    → ((message : Message) → letter_of message ≡ l → IsOfRun c (member_at p) message → Moves c c letters (member_at p) (member_at q) (Receive message) outcome after)
-    → LeadOn limits (record { controller = c; members = map member_at places; letters = letters }) (Deliver number ∷ []) (outcome ∷ [])
-    (record { controller = c; members = map member_at (set places i q); letters = after })
-came keep_logs keep_kin no_cut limits number l i c places p q letters after outcome is goes_there inside there did =
-    let old : Stage = record { controller = c; members = map member_at places; letters = letters } in
-    let within : i < length (map member_at places) = omega (arith, length-map places member_at, inside) in
-    let stands : member_at p ≡ get_or (map member_at places) i (member_at p) = ap member_at there ∙ sym (get_or-map member_at places i p (member_at p) inside) in
-    subst (λ (members : List Member). LeadOn limits old (Deliver number ∷ []) (outcome ∷ []) (record { controller = c; members = members; letters = after }))
-    (sym (map-set member_at places i q))
-    (delivered keep_logs keep_kin no_cut limits number l i old (member_at p) (member_at q) outcome after is goes_there within stands did)

@@ -21,8 +21,10 @@ use Rattle.kp_model.proofs.Beginnings.{Begins-nil}
 use Rattle.kp_model.proofs.RunLaws.{last_is_of}
 use Rattle.kp_model.proofs.Steps.{lacked_memory, was_refused}
 use Rattle.kp_model.specs.Step.{Delivers, ElectsBy, IsGiven, NodeStep, Step, answered, elect_cause, moved, told}
-use Rattle.kp_world.specs.Laws.{IsAsked, MayCome, PlaysGoOn}
+use Rattle.kp_replica.specs.Acts.{IsAsked}
+use Rattle.kp_world.specs.Laws.{MayCome, PlaysGoOn}
 use Rattle.kp_world.specs.Plays.{events_of, outcomes_of}
+use Rattle.kp_world.proofs.Moved.{given}
 use Rattle.kp_world.proofs.Playing.{all_fit}
 
 -- an answer to an event, and the world after it
@@ -101,22 +103,6 @@ does c n x (model.Committed from) None is asked = (becomes c x (Refused refusals
 acts_locally : (c : LeaderAndIsr) (n : ℕ) (x : Node) (act : Act) → IsAsked act → (e : Effect) × Local c n x act e
 unfolding Local
 acts_locally c n x act asked = does c n x act (cause c n x act) refl asked
-
-given : (messages : List Message) (act : Act) → IsAsked act → IsGiven messages act
-given messages model.Adopt asked = tt
-given messages (model.Produce offer) asked = tt
-given messages (model.Mark time producer epoch coordinator commit) asked = tt
-given messages model.Ask asked = tt
-given messages (model.Receive m) asked = absurd asked
-given messages model.Raise asked = tt
-given messages (model.Join member) asked = tt
-given messages (model.Leave member) asked = tt
-given messages model.Checkpoint asked = tt
-given messages model.Stop asked = tt
-given messages model.Restart asked = tt
-given messages model.Show asked = tt
-given messages (model.Read from) asked = tt
-given messages (model.Committed from) asked = tt
 
 -- a message that comes: a request meets want of memory, and so does a fetch answer, which leaves the node down
 receives : (c : LeaderAndIsr) (n : ℕ) (x : Node) (m : Message) (o : Option Refusal) → o ≡ cause c n x (Receive m)

@@ -1,11 +1,5 @@
-pub mod Mapped
 pub mod Playing
 pub mod Moved
 pub mod Delivered
-pub mod Moving
-pub mod Downs
-pub mod Lines
-pub mod Places
-pub mod ReadBelow
 pub mod Told
 pub mod GoingOn

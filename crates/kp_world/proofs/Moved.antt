@@ -1,49 +1,104 @@
 -- What a node or the controller does leads on from each run that was reached.
 use Rattle.std.proofs.Common.{◌≡◌, ℕ, ◌<◌, ◌≤◌, true, false, cond, eqb, List, [], ◌∷◌, ◌++◌, length, map, set, get_or, None, Some, Option, Result, Ok, Err, refl, sym, ap, ◌∙◌, subst, arith, inl, inr, length-set}
 use Rattle.std.specs.Prelude.{unwrap_or}
-use Rattle.std.proofs.lemmas.List.{get_or-set_same, get_or-set_other, map-append}
+use Rattle.std.proofs.lemmas.List.{get_or-map, get_or-set_same, get_or-set_other, length-map, map-append, map-set}
 use Rattle.std.proofs.lemmas.Bool.{eq-eqb, ne_eqb, cases_eq}
 use Rattle.kp_types.specs.declared.limits.Limits.{Limits}
 use Rattle.kp_types.specs.declared.refusal.Refusal.{Refusal}
-use Rattle.kp_model.specs.Log.{end_of}
-use Rattle.kp_model.specs.Transactions.{stable}
-use Rattle.kp_model.specs.World.{Leader, LeaderAndIsr, Node, World, with_record}
-use Rattle.kp_model.specs.Event.{Act, Show, Elect, Acts, Changed, Refused, Shown}
+use Rattle.kp_model.specs.Log.{Batch}
+use Rattle.kp_model.specs.World.{Leader, LeaderAndIsr, Message, Node, World, with_record}
+use Rattle.kp_model.specs.Event as model
+use Rattle.kp_model.specs.Event.{Act, Elect, Acts, Changed, Outcome, Refused, Reply}
 use Rattle.kp_model.specs.Laws.{EpochsAreElected}
-use Rattle.kp_model.specs.Local.{Effect, Local, is_down, becomes, elected, last_epoch}
+use Rattle.kp_model.specs.Local.{Effect as ModelEffect, Local, elected, last_epoch}
 use Rattle.kp_model.specs.Run.{Run, last}
 use Rattle.kp_model.specs.Letter.{Letter, letter_of}
-use Rattle.kp_model.specs.Step.{ElectsBy, NodeStep, moved, told, IsGiven, elect_cause}
-use Rattle.kp_replica.specs.Adopting.{IsWithin}
-use Rattle.kp_replica.specs.Member.{Member}
+use Rattle.kp_model.specs.Step.{ElectsBy, NodeStep, answered, moved, number_after, told, IsGiven, elect_cause}
 use Rattle.kp_control.specs.Set.{record_of}
 use Rattle.kp_control.specs.declared.record.LeaderAndIsr.{LeaderAndIsr as CodeRecord}
-use Rattle.kp_world.specs.Answers.{outcome_of}
-use Rattle.kp_world.specs.declared.event.Answer.{Answer}
-use Rattle.kp_world.specs.declared.event.Answer.TheVariants as answers
-use Rattle.kp_world.specs.Moves.{Moves}
+use Rattle.kp_replica.specs.Acts.{Comes, IsAsked, IsOfRun, NamesIn, letters_in, record_after, reply_of, Acts as ActsSo}
+use Rattle.kp_replica.specs.Broker.{node_at}
+use Rattle.kp_replica.specs.declared.broker.Broker.{Broker}
+use Rattle.kp_replica.specs.Adopting.{IsWithin}
+use Rattle.kp_replica.specs.NumberedNode.{NumberedNode}
+use Rattle.kp_replica.specs.declared.act.Effect.{Effect}
+use Rattle.kp_replica.specs.declared.act.Effect.TheVariants.{Answers, Sends, Changes}
+use Rattle.kp_world.specs.Answers.{IsTold, outcome_of}
+use Rattle.kp_world.specs.declared.event.EventAnswer.{EventAnswer}
+use Rattle.kp_world.specs.declared.event.EventAnswer.TheVariants as answers
 use Rattle.kp_world.specs.Plays.{LeadOn}
-use Rattle.kp_world.specs.Shown.{IsNode, IsShown, KeepsReceipt, Stage}
+use Rattle.kp_world.specs.Shown.{IsNode, IsShown, KeepsReceipt, Stage, next}
 use Rattle.kp_world.proofs.Playing.{reached_more}
 use Rattle.kp_model.proofs.LogEpochs.{last_occurs}
 use Rattle.kp_model.proofs.RunLaws.{last_is_of}
-use Rattle.kp_model.proofs.Steps.{happened}
+
+-- ---- what is told
+
+-- a message that is sent is numbered by those before
+abbrev pub number_for : ℕ → List Letter → Option ℕ
+number_for count [] = None
+number_for count (l ∷ ls) = Some count
+
+numbered : (messages sent : List Message) (letters : List Letter) → map letter_of sent ≡ letters → number_after messages sent ≡ number_for (length messages) letters
+numbered messages [] [] is = refl
+numbered messages [] (l ∷ ls) is = absurd cc
+numbered messages (m ∷ ms) [] is = absurd cc
+numbered messages (m ∷ ms) (l ∷ ls) is = refl
+
+-- what is told is the reply, and the number of the message that was sent
+told_so : (count : ℕ) (outcome : Result Effect Refusal) (telling : Result EventAnswer Refusal) → IsTold count outcome telling
+    → outcome_of telling ≡ record { reply = reply_of outcome; number = number_for count (letters_in outcome) }
+told_so count (Ok (Answers answer)) telling is = ap outcome_of is
+told_so count (Ok (Sends body)) telling (said, is, says) =
+    ap outcome_of is ∙ ap (λ (r : Reply). let o : Outcome = record { reply = r; number = Some count } in o) says
+told_so count (Ok (Changes made)) telling is = ap outcome_of is
+told_so count (Err refusal) telling is = ap outcome_of is
+
+told_as : (messages : List Message) (letters : List Letter) (effect : ModelEffect) (outcome : Result Effect Refusal) (telling : Result EventAnswer Refusal) → map letter_of messages ≡ letters
+    → map letter_of effect.sent ≡ letters_in outcome → effect.reply ≡ reply_of outcome → IsTold (length letters) outcome telling → outcome_of telling ≡ answered messages effect
+told_as messages letters effect outcome telling are sent replied is =
+    let many : length letters ≡ length messages = ap length (sym are) ∙ length-map messages letter_of in
+    told_so (length letters) outcome telling is
+    ∙ ap (λ (r : Reply). let o : Outcome = record { reply = r; number = number_for (length letters) (letters_in outcome) } in o) (sym replied)
+    ∙ ap (λ (n : ℕ). let o : Outcome = record { reply = effect.reply; number = number_for n (letters_in outcome) } in o) many
+    ∙ ap (λ (n : Option ℕ). let o : Outcome = record { reply = effect.reply; number = n } in o) (sym (numbered messages effect.sent (letters_in outcome) sent))
+
+-- a receipt that is told is the one that was answered
+pub told_receipt : (log : List Batch) (count : ℕ) (outcome : Result Effect Refusal) (telling : Result EventAnswer Refusal) → IsTold count outcome telling → NamesIn log outcome
+    → KeepsReceipt log telling
+told_receipt log count (Ok (Answers answer)) telling is named = subst (KeepsReceipt log) (sym is) named
+told_receipt log count (Ok (Sends body)) telling is named = subst (KeepsReceipt log) (sym is.1) tt
+told_receipt log count (Ok (Changes made)) telling is named = subst (KeepsReceipt log) (sym is) tt
+told_receipt log count (Err refusal) telling is named = subst (KeepsReceipt log) (sym is) tt
+
+-- ---- a node's step
+
+-- an act that is asked for is handed no message
+pub given : (messages : List Message) (act : Act) → IsAsked act → IsGiven messages act
+given messages (model.Receive m) asked = absurd asked
+given messages _ asked = tt
+
+-- and a run has of it that its node's log has no epoch above the record's
+pub asked_of_run : (c : LeaderAndIsr) (x : NumberedNode) (act : Act) → IsAsked act → IsWithin c x.state.log → IsOfRun c x act
+asked_of_run c x (model.Receive m) asked within = absurd asked
+asked_of_run c x model.Adopt asked within = within
+asked_of_run c x _ asked within = tt
 
 -- node n as it is after the call, and the others as they were
-after : (limits : Limits) (n : ℕ) (m : Member) (members : List Member) (x : Node) (nodes : ℕ → Node) → n < length members → m.number ≡ n → m.limits ≡ limits → x ≡ m.state
-    → ((k : ℕ) (d : Member) → k < length members → IsNode limits k (get_or members k d) (nodes k))
-    → (k : ℕ) (d : Member) → k < length (set members n m) → IsNode limits k (get_or (set members n m) k d) (cond (eqb k n) x (nodes k))
+after : (limits : Limits) (n : ℕ) (m : NumberedNode) (members : List NumberedNode) (x : Node) (nodes : ℕ → Node) → n < length members → m.number ≡ n → m.limits ≡ limits → x ≡ m.state
+    → ((k : ℕ) (d : NumberedNode) → k < length members → IsNode limits k (get_or members k d) (nodes k))
+    → (k : ℕ) (d : NumberedNode) → k < length (set members n m) → IsNode limits k (get_or (set members n m) k d) (cond (eqb k n) x (nodes k))
 after limits n m members x nodes inside number limits_are state old k d h =
     let within : k < length members = omega (arith, length-set members n m) in
     elim (cases_eq k n) [
       | inl e ↦
           (let same : eqb k n ≡ true = eq-eqb k n e in
           let there : get_or (set members n m) k d ≡ m = ap (λ (i : ℕ). get_or (set members n m) i d) e ∙ get_or-set_same members n m d inside in
-          rw same (subst (λ (y : Member). IsNode limits k y x) (sym there) (record { number_is = number ∙ sym e; limits_are = limits_are; state = state })))
+          rw same (subst (λ (y : NumberedNode). IsNode limits k y x) (sym there) (record { number_is = number ∙ sym e; limits_are = limits_are; state = state })))
       | inr ne ↦
           (let other : eqb k n ≡ false = ne_eqb k n ne in
           let there : get_or (set members n m) k d ≡ get_or members k d = get_or-set_other members n k m d ne in
-          rw other (subst (λ (y : Member). IsNode limits k y (nodes k)) (sym there) (old k d within)))
+          rw other (subst (λ (y : NumberedNode). IsNode limits k y (nodes k)) (sym there) (old k d within)))
     ]
 
 -- node n itself
@@ -63,58 +118,68 @@ within elected_all count r n l is = by_last (last_epoch ((last r).nodes n).log) 
         subst (λ (k : Leader). epoch ≤ k.epoch) same by.2
 
 -- a step of node n, after which the stage is this one
-pub record Stepped (limits : Limits) (new : Stage) (m : Member) (w : World) (n : ℕ) (act : Act) (outcome : Result Answer Refusal) : Type 0 where
+pub record Stepped (limits : Limits) (new : Stage) (m : NumberedNode) (w : World) (n : ℕ) (act : Act) (telling : Result EventAnswer Refusal) : Type 0 where
   pub after : World
-  pub step : NodeStep w n act (outcome_of outcome) after
+  pub step : NodeStep w n act (outcome_of telling) after
   pub node_is : after.nodes n ≡ m.state
   pub shown : IsShown limits new after
 
 -- the node x at place n did this and became m
-pub stepped : (limits : Limits) (n : ℕ) (stage : Stage) (x m : Member) (act : Act) (outcome : Result Answer Refusal) (made : LeaderAndIsr) (letters : List Letter) (w : World)
-    → n < length stage.members → x ≡ get_or stage.members n x → IsShown limits stage w → IsGiven w.messages act
-    → (x.number ≡ n → x.limits ≡ limits → Moves stage.controller made stage.letters x m act outcome letters)
-    → Stepped limits (record { controller = made; members = set stage.members n m; letters = letters }) m w n act outcome
-stepped limits n stage x m act outcome made letters w inside there shown given did =
+pub stepped : (limits : Limits) (n : ℕ) (stage : Stage) (x m : NumberedNode) (act : Act) (outcome : Result Effect Refusal) (telling : Result EventAnswer Refusal) (w : World)
+    → n < length stage.nodes → x ≡ get_or stage.nodes n x → IsShown limits stage w → IsGiven w.messages act → IsTold (length stage.letters) outcome telling
+    → (x.number ≡ n → Comes stage.controller x m act outcome) → Stepped limits (next stage n m outcome) m w n act telling
+stepped limits n stage x m act outcome telling w inside there shown given is did =
     let c = stage.controller in
-    let old : IsNode limits n x (w.nodes n) = subst (λ (y : Member). IsNode limits n y (w.nodes n)) (sym there) (shown.nodes n x inside) in
-    let moves = did old.number_is old.limits_are in
+    let old : IsNode limits n x (w.nodes n) = subst (λ (y : NumberedNode). IsNode limits n y (w.nodes n)) (sym there) (shown.nodes_are n x inside) in
+    let moves = did old.number_is in
     let e = moves.effect in
     let local : Local w.controller n (w.nodes n) act e =
     subst (λ (k : LeaderAndIsr). Local k n (w.nodes n) act e) (sym shown.controller_is)
     (subst (λ (y : Node). Local c n y act e) (sym old.state) (subst (λ (k : ℕ). Local c k x.state act e) old.number_is moves.local)) in
     record {
       after = moved w n e;
-      step = record { counted = omega (arith, shown.count, inside); given = given; effect = e; local = local; outcome_is = moves.outcome_is w.messages shown.letters_are; new_is = refl };
+      step = record {
+        counted = omega (arith, shown.count, inside);
+        given = given;
+        effect = e;
+        local = local;
+        outcome_is = told_as w.messages stage.letters e outcome telling shown.letters_are moves.letters_are moves.reply_is is;
+        new_is = refl;
+      };
       node_is = here n e.node w.nodes ∙ moves.node_is;
       shown = record {
         controller_is = moves.record_is;
-        count = shown.count ∙ sym (length-set stage.members n m);
-        nodes = after limits n m stage.members e.node w.nodes inside (moves.same.0 ∙ old.number_is) (moves.same.1 ∙ old.limits_are) moves.node_is shown.nodes;
-        letters_are = map-append letter_of w.messages e.sent ∙ ap (λ (ls : List Letter). ls ++ map letter_of e.sent) shown.letters_are ∙ sym moves.letters_are;
+        count = shown.count ∙ sym (length-set stage.nodes n m);
+        nodes_are = after limits n m stage.nodes e.node w.nodes inside (moves.same.0 ∙ old.number_is) (moves.same.1 ∙ old.limits_are) moves.node_is shown.nodes_are;
+        letters_are = map-append letter_of w.messages e.sent ∙ ap (λ (ls : List Letter). ls ++ map letter_of e.sent) shown.letters_are
+            ∙ ap (λ (ls : List Letter). stage.letters ++ ls) moves.letters_are;
       };
     }
 
 -- the node x at place i, which is its number, did this and became m
-pub acted : EpochsAreElected → (limits : Limits) (n i : ℕ) (stage : Stage) (x m : Member) (act : Act) (outcome : Result Answer Refusal) (made : LeaderAndIsr) (letters : List Letter) → i ≡ n
-    → n < length stage.members → x ≡ get_or stage.members i x → ((w : World) → IsGiven w.messages act)
-    → (x.limits ≡ limits → IsWithin stage.controller x.state.log → Moves stage.controller made stage.letters x m act outcome letters) → KeepsReceipt m.state.log outcome
-    → LeadOn limits stage (Acts n act ∷ []) (outcome ∷ []) (record { controller = made; members = set stage.members i m; letters = letters })
-acted elected_all limits n i stage x m act outcome made letters same inside there given did receipt count before earlier p =
+pub acted : EpochsAreElected → (limits : Limits) (n i : ℕ) (stage : Stage) (x m : NumberedNode) (act : Act) (outcome : Result Effect Refusal) (telling : Result EventAnswer Refusal) → i ≡ n
+    → n < length stage.nodes → x ≡ get_or stage.nodes i x → IsAsked act → IsTold (length stage.letters) outcome telling → NamesIn m.state.log outcome
+    → (x.limits ≡ limits → ActsSo stage.controller x m act outcome) → LeadOn limits stage (Acts n act ∷ []) (telling ∷ []) (next stage i m outcome)
+acted elected_all limits n i stage x m act outcome telling same inside there asked is named did count before earlier p =
     let w = last p.run in
-    let there_n : x ≡ get_or stage.members n x = there ∙ ap (λ (k : ℕ). get_or stage.members k x) same in
-    let old : IsNode limits n x (w.nodes n) = subst (λ (y : Member). IsNode limits n y (w.nodes n)) (sym there_n) (p.shown.nodes n x inside) in
-    let epochs : IsWithin stage.controller x.state.log =
+    let c = stage.controller in
+    let there_n : x ≡ get_or stage.nodes n x = there ∙ ap (λ (k : ℕ). get_or stage.nodes k x) same in
+    let old : IsNode limits n x (w.nodes n) = subst (λ (y : NumberedNode). IsNode limits n y (w.nodes n)) (sym there_n) (p.shown.nodes_are n x inside) in
+    let epochs : IsWithin c x.state.log =
     subst (λ (k : LeaderAndIsr). IsWithin k x.state.log) p.shown.controller_is
     (subst (λ (y : Node). IsWithin w.controller y.log) old.state (within elected_all count p.run n)) in
-    let s = stepped limits n stage x m act outcome made letters w inside there_n p.shown (given w) (λ number_is limits_are. did limits_are epochs) in
-    reached_more count limits before earlier stage _ (Acts n act) outcome p s.after s.step
-    (subst (λ (y : Node). KeepsReceipt y.log outcome) (sym s.node_is) receipt)
-    (subst (λ (k : ℕ). IsShown limits (record { controller = made; members = set stage.members k m; letters = letters }) s.after) (sym same) s.shown)
+    let s = stepped limits n stage x m act outcome telling w inside there_n p.shown (given w.messages act asked) is
+    (λ number_is. did old.limits_are c (λ looks. refl) (asked_of_run c x act asked epochs)) in
+    reached_more count limits before earlier stage _ (Acts n act) telling p s.after s.step
+    (subst (λ (y : Node). KeepsReceipt y.log telling) (sym s.node_is) (told_receipt m.state.log (length stage.letters) outcome telling is named))
+    (subst (λ (k : ℕ). IsShown limits (next stage k m outcome) s.after) (sym same) s.shown)
+
+-- ---- the controller's step
 
 -- the controller's record changed by an election
-pub elected_on : (limits : Limits) (n : ℕ) (old new : CodeRecord) (members : List Member) (letters : List Letter) → elect_cause (record_of old) n ≡ None → record_of new ≡ elected (record_of old) n
-    → LeadOn limits (record { controller = record_of old; members = members; letters = letters }) (Elect n ∷ []) (Ok (answers.Changed new) ∷ [])
-    (record { controller = record_of new; members = members; letters = letters })
+pub elected_on : (limits : Limits) (n : ℕ) (old new : CodeRecord) (members : List NumberedNode) (letters : List Letter) → elect_cause (record_of old) n ≡ None → record_of new ≡ elected (record_of old) n
+    → LeadOn limits (record { controller = record_of old; nodes = members; letters = letters }) (Elect n ∷ []) (Ok (answers.Changed new) ∷ [])
+    (record { controller = record_of new; nodes = members; letters = letters })
 elected_on limits n old new members letters free is count before earlier p =
     let w = last p.run in
     let shown = p.shown in
@@ -125,7 +190,7 @@ elected_on limits n old new members letters free is count before earlier p =
     let unrefused : elect_cause w.controller n ≡ None = ap (λ (k : LeaderAndIsr). elect_cause k n) shown.controller_is ∙ free in
     reached_more count limits before earlier _ _ (Elect n) (Ok (answers.Changed new)) p (with_record w r)
     (subst (λ (o : Option Refusal). ElectsBy o w n (told (Changed changed)) (with_record w r)) (sym unrefused) (ap (λ (k : LeaderAndIsr). told (Changed k)) (sym same), refl)) tt
-    (record { controller_is = same; count = shown.count; nodes = shown.nodes; letters_are = shown.letters_are })
+    (record { controller_is = same; count = shown.count; nodes_are = shown.nodes_are; letters_are = shown.letters_are })
 
 -- or the election was refused
 pub not_elected : (limits : Limits) (n : ℕ) (stage : Stage) (refusal : Refusal) → elect_cause stage.controller n ≡ Some refusal
@@ -136,10 +201,21 @@ not_elected limits n stage refusal is count before earlier p =
     reached_more count limits before earlier stage stage (Elect n) (Err refusal) p w
     (subst (λ (o : Option Refusal). ElectsBy o w n (told (Refused refusal)) w) (sym refused) (refl, refl)) tt p.shown
 
--- a node that is up tells its state
-pub showed : (c : LeaderAndIsr) (n : ℕ) (x : Node) (life end mark held : ℕ) → is_down x.mode ≡ false → life ≡ x.life → end ≡ end_of x.log → mark ≡ x.watermark → held ≡ stable x.log x.watermark
-    → Local c n x Show (becomes c x (Shown life end mark held))
-showed c n x life end mark held up is_life is_end is_mark is_held =
-    let e : Effect = becomes c x (Shown life end mark held) in
-    let same : e ≡ becomes c x (Shown x.life (end_of x.log) x.watermark (stable x.log x.watermark)) = cc in
-    happened c n x Show e (rw up refl) same
+-- ---- beside the code's nodes and letters
+
+-- what is carried out of an outcome leaves the stage of that outcome
+pub carried : (limits : Limits) (e : model.Event) (i : ℕ) (c made : LeaderAndIsr) (brokers : List Broker) (q : Broker) (letters after : List Letter) (outcome : Result Effect Refusal)
+    (telling : Result EventAnswer Refusal) → made ≡ record_after c outcome → after ≡ letters ++ letters_in outcome
+    → LeadOn limits (record { controller = c; nodes = map node_at brokers; letters = letters }) (e ∷ []) (telling ∷ [])
+    (next (record { controller = c; nodes = map node_at brokers; letters = letters }) i (node_at q) outcome)
+    → LeadOn limits (record { controller = c; nodes = map node_at brokers; letters = letters }) (e ∷ []) (telling ∷ [])
+    (record { controller = made; nodes = map node_at (set brokers i q); letters = after })
+carried limits e i c made brokers q letters after outcome telling changed sent leads =
+    let old : Stage = record { controller = c; nodes = map node_at brokers; letters = letters } in
+    let same : next old i (node_at q) outcome ≡ record { controller = made; nodes = map node_at (set brokers i q); letters = after } =
+    λ k. record { controller = sym changed k; nodes = sym (map-set node_at brokers i q) k; letters = sym sent k } in
+    subst (λ (stage : Stage). LeadOn limits old (e ∷ []) (telling ∷ []) stage) same leads
+
+-- the broker at a place stands there among the nodes
+pub placed : (brokers : List Broker) (i : ℕ) (p : Broker) → p ≡ get_or brokers i p → i < length brokers → node_at p ≡ get_or (map node_at brokers) i (node_at p)
+placed brokers i p is within = ap node_at is ∙ sym (get_or-map node_at brokers i p (node_at p) within)

@@ -14,7 +14,7 @@ use Rattle.kp_model.specs.Step.{Step, Delivers}
 use Rattle.kp_model.proofs.RunLaws.{last_is_of}
 use Rattle.kp_world.specs.Answers.{outcome_of}
 use Rattle.kp_world.specs.Events.{IsEvent, AreEvents}
-use Rattle.kp_world.specs.declared.event.Answer.{Answer}
+use Rattle.kp_world.specs.declared.event.EventAnswer.{EventAnswer}
 use Rattle.kp_world.specs.declared.event.Event.{Event as CodeEvent}
 use Rattle.kp_world.specs.Plays.{AllFit, Fits, HaveReceipts, IsAnswered, IsReached, LeadOn}
 use Rattle.kp_world.specs.Shown.{HasReceipt, IsShown, Stage}
@@ -24,7 +24,7 @@ pub reached_none : (count : ℕ) (limits : Limits) (stage : Stage) → IsShown l
 reached_none count limits stage shown =
     record { run = record { moments = []; is_run = tt }; events_are = refl; outcomes_are = refl; receipts = tt; shown = shown }
 
-receipts-push : (moments : List Moment) (outcomes : List (Result Answer Refusal)) (m : Moment) (outcome : Result Answer Refusal) → HaveReceipts moments outcomes
+receipts-push : (moments : List Moment) (outcomes : List (Result EventAnswer Refusal)) (m : Moment) (outcome : Result EventAnswer Refusal) → HaveReceipts moments outcomes
     → HasReceipt m.event m.after outcome → HaveReceipts (moments ++ m ∷ []) (outcomes ++ outcome ∷ [])
 receipts-push [] [] m outcome h one = (one, tt)
 receipts-push [] (o ∷ os) m outcome h one = absurd h
@@ -32,7 +32,7 @@ receipts-push (x ∷ xs) [] m outcome h one = absurd h
 receipts-push (x ∷ xs) (o ∷ os) m outcome h one = (h.0, receipts-push xs os m outcome h.1 one)
 
 -- one event more
-pub reached_more : (count : ℕ) (limits : Limits) (es : List Event) (os : List (Result Answer Refusal)) (old new : Stage) (e : Event) (o : Result Answer Refusal)
+pub reached_more : (count : ℕ) (limits : Limits) (es : List Event) (os : List (Result EventAnswer Refusal)) (old new : Stage) (e : Event) (o : Result EventAnswer Refusal)
     (p : IsReached count limits es os old) (after : World) → Step (last p.run) e (outcome_of o) after → HasReceipt e after o → IsShown limits new after
     → IsReached count limits (es ++ e ∷ []) (os ++ o ∷ []) new
 reached_more count limits es os old new e o p after step receipt shown =
@@ -50,18 +50,18 @@ reached_more count limits es os old new e o p after step receipt shown =
     }
 
 -- no events lead on to where the run is
-pub lead_none : (limits : Limits) (stage : Stage) (es : List Event) (os : List (Result Answer Refusal)) → es ≡ [] → os ≡ [] → LeadOn limits stage es os stage
+pub lead_none : (limits : Limits) (stage : Stage) (es : List Event) (os : List (Result EventAnswer Refusal)) → es ≡ [] → os ≡ [] → LeadOn limits stage es os stage
 lead_none limits stage es os no_events no_answers count before earlier p =
     subst (λ (xs : List Event). IsReached count limits xs (earlier ++ os) stage) (sym (ap (λ (xs : List Event). before ++ xs) no_events ∙ append-nil before))
-    (subst (λ (xs : List (Result Answer Refusal)). IsReached count limits before xs stage)
-    (sym (ap (λ (xs : List (Result Answer Refusal)). earlier ++ xs) no_answers ∙ append-nil earlier)) p)
+    (subst (λ (xs : List (Result EventAnswer Refusal)). IsReached count limits before xs stage)
+    (sym (ap (λ (xs : List (Result EventAnswer Refusal)). earlier ++ xs) no_answers ∙ append-nil earlier)) p)
 
 -- and some events and then others, where both lead
-pub lead_more : (limits : Limits) (old mid new : Stage) (es ds : List Event) (os qs : List (Result Answer Refusal)) → LeadOn limits old es os mid → LeadOn limits mid ds qs new
+pub lead_more : (limits : Limits) (old mid new : Stage) (es ds : List Event) (os qs : List (Result EventAnswer Refusal)) → LeadOn limits old es os mid → LeadOn limits mid ds qs new
     → LeadOn limits old (es ++ ds) (os ++ qs) new
 lead_more limits old mid new es ds os qs first second count before earlier p =
     subst (λ (xs : List Event). IsReached count limits xs (earlier ++ (os ++ qs)) new) (append_assoc before es ds)
-    (subst (λ (xs : List (Result Answer Refusal)). IsReached count limits ((before ++ es) ++ ds) xs new) (append_assoc earlier os qs)
+    (subst (λ (xs : List (Result EventAnswer Refusal)). IsReached count limits ((before ++ es) ++ ds) xs new) (append_assoc earlier os qs)
     (second count (before ++ es) (earlier ++ os) (first count before earlier p)))
 
 -- no message of a run is out of place
@@ -84,7 +84,7 @@ all_fit odd count r = by r.moments r.is_run
     by (m ∷ past) is_run = (fits odd count (record { moments = past; is_run = is_run.1 }) m.event m.outcome m.after is_run.0, by past is_run.1)
 
 -- what is reached is answered, safe, and in place
-pub answered : (count : ℕ) (limits : Limits) (es : List Event) (os : List (Result Answer Refusal)) (stage : Stage) → ((r : Run count) → IsSafe r) → NoDeliveryIsRefusedOddly
+pub answered : (count : ℕ) (limits : Limits) (es : List Event) (os : List (Result EventAnswer Refusal)) (stage : Stage) → ((r : Run count) → IsSafe r) → NoDeliveryIsRefusedOddly
     → IsReached count limits es os stage → IsAnswered count es os
 answered count limits es os stage safe odd p = record {
   played = record { run = p.run; events_are = p.events_are; outcomes_are = p.outcomes_are; safe = safe p.run; fits = all_fit odd count p.run };

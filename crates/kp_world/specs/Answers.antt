@@ -1,53 +1,35 @@
--- The code's answers as the definitions' replies.
-use Rattle.std.specs.Prelude.{ℕ, Result, Ok, Err, List, Option, Some, None}
-use Rattle.std.specs.Option.{option_map}
+-- What is told of events as the definitions' outcomes.
+use Rattle.std.specs.Prelude.{◌≡◌, ℕ, Result, Ok, Err, Option, Some, None}
 use Rattle.kp_types.specs.declared.refusal.Refusal.{Refusal}
-use Rattle.kp_model.specs.Event as model
-use Rattle.kp_model.specs.Event.{Line as ModelLine, Reply, Refused, Changed as RecordChanged, SentBatches, SentEpoch, MarkAt, CheckpointAt, Shown as StateShown, Lines as LinesRead, Outcome}
+use Rattle.kp_model.specs.Calls.{said_reply, sent_reply}
+use Rattle.kp_model.specs.Event.{Reply, Refused, Changed as RecordChanged, Outcome}
+use Rattle.kp_model.specs.Letter.{letter}
+use Rattle.kp_model.specs.declared.message.Said.{Said}
 use Rattle.kp_control.specs.Set.{record_of}
-use Rattle.kp_replica.specs.Replies.{role_reply, receipt_reply, taken_reply, cut_reply}
-use Rattle.kp_world.specs.declared.event.Said.{Said}
-use Rattle.kp_world.specs.declared.event.Said.TheVariants.{AsksFrom, AsksEpoch, Batches, EpochEnd}
-use Rattle.kp_world.specs.declared.event.Answer.{Answer}
-use Rattle.kp_world.specs.declared.event.Answer.TheVariants.{Changed, Adopted, Appended, Sent, Took, Cut, Watermark, Checkpoint, Stopped, Restarted, Shown, Lines}
+use Rattle.kp_replica.specs.Acts.{answer_reply}
+use Rattle.kp_replica.specs.declared.act.Effect.{Effect}
+use Rattle.kp_replica.specs.declared.act.Effect.TheVariants.{Answers, Sends, Changes}
+use Rattle.kp_world.specs.declared.event.EventAnswer.{EventAnswer}
+use Rattle.kp_world.specs.declared.event.EventAnswer.TheVariants.{Changed, Sent, Answered}
 
-abbrev pub said_reply : Said → Reply
-said_reply (AsksFrom offset) = model.AsksFrom offset
-said_reply (AsksEpoch epoch) = model.AsksEpoch epoch
-said_reply (Batches count watermark) = SentBatches count watermark
-said_reply (EpochEnd end) = SentEpoch (option_map (λ e. (e.epoch, e.end)) end)
-
-abbrev pub answer_reply : Answer → Reply
-answer_reply (Changed controller) = RecordChanged (record_of controller)
-answer_reply (Adopted role) = role_reply (Ok role)
-answer_reply (Appended receipt) = receipt_reply (Ok receipt)
-answer_reply (Sent number said) = said_reply said
-answer_reply (Took taken) = taken_reply (Ok taken)
-answer_reply (Cut cut) = cut_reply (Ok cut)
-answer_reply (Watermark watermark) = MarkAt watermark
-answer_reply (Checkpoint watermark) = CheckpointAt watermark
-answer_reply Stopped = model.Stopped
-answer_reply (Restarted life end watermark) = model.Restarted life end watermark
-answer_reply (Shown life end watermark stable) = StateShown life end watermark stable
-answer_reply (Lines lines) = LinesRead lines
-
-abbrev pub reply_of : Result Answer Refusal → Reply
-reply_of (Ok answer) = answer_reply answer
-reply_of (Err refusal) = Refused refusal
+abbrev pub told_reply : EventAnswer → Reply
+told_reply (Changed controller) = RecordChanged (record_of controller)
+told_reply (Sent number said) = said_reply said
+told_reply (Answered answer) = answer_reply answer
 
 -- the number of the message that was sent
-abbrev pub number_in : Answer → Option ℕ
+abbrev pub number_in : EventAnswer → Option ℕ
 number_in (Sent number said) = Some number
 number_in _ = None
 
-abbrev pub number_of : Result Answer Refusal → Option ℕ
-number_of (Ok answer) = number_in answer
-number_of (Err refusal) = None
+abbrev pub outcome_of : Result EventAnswer Refusal → Outcome
+outcome_of (Ok answer) = record { reply = told_reply answer; number = number_in answer }
+outcome_of (Err refusal) = record { reply = Refused refusal; number = None }
 
-abbrev pub outcome_of : Result Answer Refusal → Outcome
-outcome_of result = record { reply = reply_of result; number = number_of result }
-
--- the reply to a read
-abbrev pub lines_reply : Result (List ModelLine) Refusal → Reply
-lines_reply (Ok lines) = LinesRead lines
-lines_reply (Err refusal) = Refused refusal
+-- This is told of what came of a node's act, where so many messages had been sent before.
+abbrev pub IsTold : (count : ℕ) → Result Effect Refusal → Result EventAnswer Refusal → Type 0
+IsTold count (Ok (Answers answer)) told = told ≡ Ok (Answered answer)
+IsTold count (Ok (Sends body)) told =
+    (said : Said) × (told ≡ Ok (Sent count said)) × (said_reply said ≡ sent_reply (letter body).asking (letter body).answering)
+IsTold count (Ok (Changes made)) told = told ≡ Ok (Changed made)
+IsTold count (Err refusal) told = told ≡ Err refusal

@@ -3,6 +3,7 @@ use Rattle.std.specs.Prelude.{◌≡◌, ℕ, ◌<◌, List, ◌++◌}
 use Rattle.std.specs.List.{AllByRecursion}
 use Rattle.kp_model.specs.Event as model
 use Rattle.kp_model.specs.Event.{Event as ModelEvent, Outcome}
+use Rattle.kp_replica.specs.Acts.{IsAsked}
 use Rattle.kp_world.specs.declared.event.Event.{Event}
 use Rattle.kp_world.specs.Events.{AreEvents, HasBytes}
 use Rattle.kp_world.specs.Plays.{IsPlayed}
@@ -18,12 +19,7 @@ EventsAreToldOnce =
     (max : ℕ) (events : List Event) (es others : List ModelEvent) → AllByRecursion HasBytes events →
     AreEvents max events es → AreEvents max events others → es ≡ others
 
--- An action of those that `Act` has: all but that a message comes, which comes by its number.
-abbrev pub IsAsked : model.Act → Type 0
-IsAsked (model.Receive m) = ⊥
-IsAsked _ = Unit {0}
-
--- An election, such an action of one of so many nodes, or a delivery.
+-- An election, an act that one of so many nodes is asked for, or a delivery.
 abbrev pub MayCome : (count : ℕ) → ModelEvent → Type 0
 MayCome count (model.Elect node) = Unit {0}
 MayCome count (model.Acts node act) = (node < count) × IsAsked act

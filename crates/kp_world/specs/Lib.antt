@@ -1,7 +1,5 @@
-pub mod Records
 pub mod Answers
 pub mod Events
 pub mod Plays
 pub mod Shown
-pub mod Moves
 pub mod Laws

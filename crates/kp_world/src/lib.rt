@@ -5,17 +5,10 @@
 
 ghost use Rattle.kp_world.specs.Laws.{EventsAreTold, EventsAreToldOnce, PlaysGoOn};
 
-mod acting;
-mod delivering;
 mod event;
-mod place;
-mod read;
-mod records;
-mod sending;
 mod world;
 
-pub use event::{Act, Answer, Event, Said, Stopped, Trace};
-pub use records::{ReadRecord, ReadRecords};
+pub use event::{Event, EventAnswer, Stopped, Trace};
 pub use world::{World, run};
 
 /// Every list of events, in which numbers below 256 are handed in, is a list of events of the definitions, and of
@@ -24,7 +17,7 @@ pub fn events_are_told()
     ensures some { EventsAreTold }
     ensures one { EventsAreToldOnce }
 {
-    kp_replica::bytes_are_an_offer();
+    kp_replica::acts_are_told();
 }
 
 /// Every run that is played goes on: whatever events of these come next, there are answers to them, so that a run over the

@@ -1,26 +1,24 @@
 //! The controller's record, the nodes, and a run over events.
 
-ghost use Rattle.std.specs.Prelude.{◌≡◌, ◌+◌, ◌<◌, ◌≤◌, ℕ, List, [], ◌∷◌, length, map, take, IfOk, IfErr, OnErr, OnOk, slice_index_or};
+ghost use Rattle.std.specs.Prelude.{◌≡◌, ◌+◌, ◌<◌, ◌≤◌, ◌++◌, ℕ, List, [], ◌∷◌, length, map, take, IfOk, IfErr, OnErr, OnOk, slice_index_or, vec_capacity};
 ghost use Rattle.std.specs.List.{AllByRecursion};
 ghost use Rattle.kp_types.specs.declared.limits.Limits.{Limits as LogLimits};
 ghost use Rattle.kp_model.specs.World.{start};
-ghost use Rattle.kp_model.specs.Event.{Event as ModelEvent, Elect as ModelElect, Deliver as ModelDeliver};
+ghost use Rattle.kp_model.specs.Event.{Act as ModelAct, Acts as ModelActs, Event as ModelEvent, Elect as ModelElect, Deliver as ModelDeliver};
+ghost use Rattle.kp_model.specs.Letter.{letter};
 ghost use Rattle.kp_control.specs.Set.{record_of};
-ghost use Rattle.kp_world.specs.Answers.{outcome_of};
+ghost use Rattle.kp_replica.specs.Acts.{HandsMarker, IsAct, letters_in, record_after};
+ghost use Rattle.kp_world.specs.Answers.{IsTold};
 ghost use Rattle.kp_world.specs.Events.{AreEvents, HasMarker, IsAmong, IsEvent};
 ghost use Rattle.kp_world.specs.Plays.{IsAnswered, LeadOn};
-ghost use Rattle.kp_replica.specs.Member.{Member};
+ghost use Rattle.kp_replica.specs.NumberedNode.{NumberedNode};
 ghost use Rattle.kp_world.specs.Shown.{IsShown, log_of};
 
-use crate::acting::act;
-use crate::delivering::{Came, receive};
-use crate::event::{Answer, Event, Stopped, Trace};
-use crate::place::Place;
-use crate::sending::{addressee, send};
+use crate::event::{Event, EventAnswer, Stopped, Trace};
 use kp_control::LeaderAndIsr;
 use kp_log::PartitionLog;
-use kp_model::Letter;
-use kp_replica::Replica;
+use kp_model::MessageBody;
+use kp_replica::{Act, Broker, Effect};
 use kp_types::{Limits, NodeId, Refusal};
 use std::alloc::{AllocError, Global};
 use std::marker::Model;
@@ -29,24 +27,57 @@ use std::marker::Model;
 #[derive(Drop)]
 pub struct World {
     controller: LeaderAndIsr,
-    places: Vec<Place>,
+    nodes: Vec<Broker>,
     // All messages ever sent, by their numbers.
-    messages: Vec<Letter>,
+    messages: Vec<MessageBody>,
 }
 
 impl Model for World {
     ghost use Rattle.kp_control.specs.Set.{record_of};
     ghost use Rattle.std.specs.Prelude.{map};
     ghost use Rattle.kp_model.specs.Letter.{letter};
-    ghost use Rattle.kp_world.specs.Shown.{Stage, member_at};
+    ghost use Rattle.kp_replica.specs.Broker.{node_at};
+    ghost use Rattle.kp_world.specs.Shown.{Stage};
 
     ghost Value = { Stage };
 
     ghost view = { λ w. record {
       controller = record_of w.controller;
-      members = map member_at w.places.items;
+      nodes = map node_at w.nodes.items;
       letters = map letter w.messages.items;
     } };
+}
+
+/// Carries out what came of a node's act, and tells it: a record that was changed stands from then on, and a message that
+/// was sent stands behind the others, for which there is room. O(1).
+fn carry_out(
+    controller: &mut LeaderAndIsr,
+    messages: &mut Vec<MessageBody>,
+    outcome: Result<Effect, Refusal>,
+) -> Result<EventAnswer, Refusal>
+    requires { length messages.old.items < vec_capacity messages.old }
+    ensures told { IsTold (length messages.old.items) outcome result }
+    ensures record { record_of controller.new ≡ record_after (record_of controller.old) outcome }
+    ensures letters { map letter messages.new.items
+        ≡ map letter messages.old.items ++ letters_in outcome }
+{
+    match outcome {
+        Ok(Effect::Answers(answer)) => Ok(EventAnswer::Answered(answer)),
+        Ok(Effect::Sends(body)) => {
+            let number = messages.len() as u64;
+            let said = body.said();
+            match messages.push(body) {
+                Ok(()) => {}
+                Err(_) => unreachable!(),
+            }
+            Ok(EventAnswer::Sent { number, said })
+        }
+        Ok(Effect::Changes(changed)) => {
+            *controller = changed;
+            Ok(EventAnswer::Changed(changed))
+        }
+        Err(refusal) => Err(refusal),
+    }
 }
 
 impl World {
@@ -54,49 +85,46 @@ impl World {
     pub fn start(alloc: Global, count: NodeId, limits: &Limits) -> Result<World, AllocError>
         requires { count ≤ 7 }
         ensures shown { IfOk result (λ w. IsShown limits.now w (start count)) }
-        ensures count { IfOk result (λ w. length w.members ≡ count) }
+        ensures count { IfOk result (λ w. length w.nodes ≡ count) }
     {
-        let mut places = Vec::new(alloc);
+        let mut nodes = Vec::new(alloc);
         for number in 0..count {
-            places.push(Place::Up(Replica::new(alloc, number, limits)))?;
+            nodes.push(Broker::new(alloc, number, limits))?;
         }
         Ok(World {
             controller: LeaderAndIsr::initial(count),
-            places,
+            nodes,
             messages: Vec::new(alloc),
         })
     }
 
     /// The log of a node, up or down, settled up to the node's high watermark. O(1).
     pub fn log(&self, node: NodeId) -> &PartitionLog
-        requires { node < length self.now.members }
-        ensures { (other : Member) → result.now
-            ≡ log_of (slice_index_or self.now.members node other) }
+        requires { node < length self.now.nodes }
+        ensures { (other : NumberedNode) → result.now
+            ≡ log_of (slice_index_or self.now.nodes node other) }
     {
-        match &self.places[usize::from(node)] {
-            Place::Up(replica) => replica.log(),
-            Place::Down(kept) => kept.log(),
-        }
+        self.nodes[usize::from(node)].log()
     }
 
     /// The controller elects a node.
-    fn elect(&mut self, node: NodeId) -> Result<Answer, Refusal>
+    fn elect(&mut self, node: NodeId) -> Result<EventAnswer, Refusal>
         ensures step { (limits : LogLimits)
             → LeadOn limits self.old (ModelElect node ∷ []) (result ∷ []) self.new }
-        ensures count { length self.new.members ≡ length self.old.members }
+        ensures count { length self.new.nodes ≡ length self.old.nodes }
     {
         let changed = self.controller.elected(node)?;
         self.controller = changed;
-        Ok(Answer::Changed(changed))
+        Ok(EventAnswer::Changed(changed))
     }
 
     /// The message of this number comes to the node to which it goes; F29 where no message has it. An `Err` says that there
     /// was no room for a message more, and nothing has happened.
-    fn deliver(&mut self, alloc: Global, number: u64) -> Result<Result<Answer, Refusal>, AllocError>
+    fn deliver(&mut self, alloc: Global, number: u64) -> Result<Result<EventAnswer, Refusal>, AllocError>
         ensures step { IfOk result (λ outcome. (limits : LogLimits)
             → LeadOn limits self.old (ModelDeliver number ∷ []) (outcome ∷ []) self.new) }
         ensures err { OnErr result (self.new ≡ self.old) }
-        ensures count { length self.new.members ≡ length self.old.members }
+        ensures count { length self.new.nodes ≡ length self.old.nodes }
     {
         kp_model::runs_keep_count();
         kp_model::messages_go_to_nodes();
@@ -104,37 +132,52 @@ impl World {
         kp_model::runs_keep_kin();
         kp_model::no_cut_below_the_watermark();
         self.messages.reserve(1)?;
-        let Some(letter) = self.messages.get(number as usize) else {
+        let Some(body) = self.messages.get(number as usize) else {
             return Ok(Err(Refusal::StaleAnswer));
         };
-        let node = usize::from(addressee(letter));
-        if node >= self.places.len() {
+        let node = usize::from(body.addressee());
+        if node >= self.nodes.len() {
             return Ok(Err(Refusal::StaleAnswer)); // as no message of a run: each goes to a node
         }
-        match receive(alloc, &self.controller, &mut self.places[node], letter) {
-            Ok(Came::Answered(answer)) => Ok(Ok(answer)),
-            Ok(Came::Sends(letter)) => Ok(Ok(send(&mut self.messages, letter))),
-            Err(refusal) => Ok(Err(refusal)),
-        }
+        let outcome = self.nodes[node].receive(alloc, &self.controller, body);
+        Ok(carry_out(&mut self.controller, &mut self.messages, outcome))
+    }
+
+    /// The node does this. An `Err` says that there was no room for a message more, and nothing has happened.
+    fn act(
+        &mut self,
+        alloc: Global,
+        node: NodeId,
+        act: Act,
+    ) -> Result<Result<EventAnswer, Refusal>, AllocError>
+        requires node { node < length self.old.nodes }
+        requires marker { HandsMarker act }
+        ensures step { IfOk result (λ outcome. (limits : LogLimits) (a : ModelAct)
+            → IsAct limits.max_batch act a
+            → LeadOn limits self.old (ModelActs node a ∷ []) (outcome ∷ []) self.new) }
+        ensures err { OnErr result (self.new ≡ self.old) }
+        ensures count { length self.new.nodes ≡ length self.old.nodes }
+    {
+        kp_model::epochs_are_elected();
+        kp_replica::acts_are_told();
+        self.messages.reserve(1)?;
+        let outcome = self.nodes[usize::from(node)].act(alloc, &self.controller, act);
+        Ok(carry_out(&mut self.controller, &mut self.messages, outcome))
     }
 
     /// Makes the event happen. An `Err` says that there was no room for a message, and nothing has happened.
-    fn step(&mut self, alloc: Global, event: Event) -> Result<Result<Answer, Refusal>, AllocError>
-        requires node { IsAmong (length self.old.members) event }
+    fn step(&mut self, alloc: Global, event: Event) -> Result<Result<EventAnswer, Refusal>, AllocError>
+        requires node { IsAmong (length self.old.nodes) event }
         requires marker { HasMarker event }
         ensures step { IfOk result (λ outcome. (limits : LogLimits) (e : ModelEvent)
             → IsEvent limits.max_batch event e
             → LeadOn limits self.old (e ∷ []) (outcome ∷ []) self.new) }
         ensures err { OnErr result (self.new ≡ self.old) }
-        ensures count { length self.new.members ≡ length self.old.members }
+        ensures count { length self.new.nodes ≡ length self.old.nodes }
     {
-        kp_model::epochs_are_elected();
         match event {
             Event::Elect { node } => Ok(self.elect(node)),
-            Event::Acts { node, act: what } => {
-                let place = &mut self.places[usize::from(node)];
-                act(alloc, &mut self.controller, &mut self.messages, place, what)
-            }
+            Event::Acts { node, act } => self.act(alloc, node, act),
             Event::Deliver { number } => self.deliver(alloc, number),
         }
     }
@@ -149,9 +192,9 @@ impl World {
         &mut self,
         alloc: Global,
         events: Vec<Event>,
-        outcomes: &mut Vec<Result<Answer, Refusal>>,
+        outcomes: &mut Vec<Result<EventAnswer, Refusal>>,
     ) -> Result<(), AllocError>
-        requires nodes { AllByRecursion (IsAmong (length self.old.members)) events.items }
+        requires nodes { AllByRecursion (IsAmong (length self.old.nodes)) events.items }
         requires markers { AllByRecursion HasMarker events.items }
         ensures played { OnOk result ((limits : LogLimits) (es : List ModelEvent)
             → AreEvents limits.max_batch events.items es
@@ -160,7 +203,7 @@ impl World {
             → AreEvents limits.max_batch events.items es
             → (k : ℕ) × LeadOn limits self.old (take k es) outcomes.new.items self.new) }
         ensures answered { OnOk result (length outcomes.new.items ≡ length events.items) }
-        ensures count { length self.new.members ≡ length self.old.members }
+        ensures count { length self.new.nodes ≡ length self.old.nodes }
     {
         outcomes.clear();
         outcomes.reserve(events.len())?;

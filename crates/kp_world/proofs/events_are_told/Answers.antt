@@ -3,6 +3,6 @@ use Rattle.kp_world.proofs.events_are_told.Goals as goal
 
 pub returns : goal.returns
 returns c = record {
-  some = events_told c.bytes_are_an_offer.ensures.some;
-  one = events_told_once c.bytes_are_an_offer.ensures.one;
+  some = events_told c.acts_are_told.ensures.some;
+  one = events_told_once c.acts_are_told.ensures.one;
 }

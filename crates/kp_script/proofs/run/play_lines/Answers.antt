@@ -4,10 +4,11 @@ use Rattle.std.specs.Io.KnownBytes.{Appends}
 use Rattle.kp_types.specs.Devices.{AppendsFront, device_of}
 use Rattle.kp_types.specs.declared.refusal.Refusal.{Refusal}
 use Rattle.kp_world.specs.Answers.{outcome_of}
-use Rattle.kp_world.specs.declared.event.Answer.{Answer}
+use Rattle.kp_world.specs.declared.event.EventAnswer.{EventAnswer}
 use Rattle.kp_script.specs.Seen.{seen_line}
 use Rattle.kp_script.specs.Transcript.{largest_batch, refusals_in}
 use Rattle.kp_script.proofs.Played.{as_many_answers, leads_on, text_of}
+use Rattle.kp_script.proofs.Counting.{refusals_are}
 use Rattle.kp_script.proofs.run.play_lines.Goals as goal
 
 pub push_trace-requires : goal.push_trace-requires
@@ -34,7 +35,7 @@ returns-clause-played g c = record {
   lead =
       leads_on (map seen_line c.args.lines.now) c.in_ok-events.events.items c.in_ok-events.events.items c.play.new.outcomes.items c.args.world.now c.play.new.self
       (c.in_ok-events.ensures.told largest_batch) refl c.in_ok-play.ensures.played;
-  refused_is = c.count_refused.ensures.count ∙ ap (λ (os : List (Result Answer Refusal)). refusals_in (map outcome_of os)) c.deref-3.ensures.value;
+  refused_is = c.count_refused.ensures.count ∙ refusals_are c.deref-3.result.now ∙ ap (λ (os : List (Result EventAnswer Refusal)). refusals_in (map outcome_of os)) c.deref-3.ensures.value;
   written =
       subst (Appends (g.W.Write.contents (device_of c.args.writer.now)) (g.W.Write.contents (device_of c.write_all.new.self)))
       (text_of c.deref-2.result.now c.push_trace.new.text.items c.clear.new.self.items c.args.lines.now c.deref.result.now c.play.new.outcomes.items c.deref-2.ensures.value

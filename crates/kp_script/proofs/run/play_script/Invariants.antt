@@ -9,7 +9,7 @@ abbrev pub invariant-loop-rest : goal.invariant-loop-rest
 invariant-loop-rest g l = record {
   played : (done : List Line) × ((l.initial.rest ≡ done ++ l.rest)
       × HasPlayed (seen_header l.header) (map seen_line done) l.world l.refused (g.W.Write.contents (device_of l.fn.writer)) (g.W.Write.contents (device_of l.writer)));
-  nodes : length l.world.members ≡ l.header.count;
+  nodes : length l.world.nodes ≡ l.header.count;
   few : l.refused + length l.rest ≤ length l.initial.rest;
   faults : faults_of l.writer ≡ faults_of l.fn.writer;
 }

@@ -3,7 +3,7 @@ use Rattle.std.specs.Prelude.{codes}
 use Rattle.std.specs.Fmt.{decimal}
 use Rattle.std.specs.List.{flat_map}
 use Rattle.kp_model.specs.Event.{Line}
-use Rattle.kp_world.specs.Records.{line_of}
+use Rattle.kp_visible.specs.Lines.{line_of}
 use Rattle.kp_script.specs.Trace.{line_text}
 use Rattle.kp_script.proofs.Tracing.{grown, lines_as_pieces, lines_more}
 use Rattle.kp_script.proofs.trace.push_lines.Goals as goal

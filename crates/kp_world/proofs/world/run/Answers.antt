@@ -3,7 +3,7 @@ use Rattle.std.specs.List.{AllByRecursion}
 use Rattle.kp_types.specs.declared.refusal.Refusal.{Refusal}
 use Rattle.kp_world.specs.Events.{IsAmong}
 use Rattle.kp_world.specs.Plays.{IsAnswered, IsReached}
-use Rattle.kp_world.specs.declared.event.Answer.{Answer}
+use Rattle.kp_world.specs.declared.event.EventAnswer.{EventAnswer}
 use Rattle.kp_world.proofs.Playing.{answered, nothing_answered, reached_none}
 use Rattle.kp_world.proofs.world.run.Goals as goal
 use Rattle.kp_world.proofs.world.run.Goals.{In-Ok}
@@ -11,7 +11,7 @@ use Rattle.kp_world.proofs.world.run.Goals.{In-Ok}
 pub returns-in_default-clause-stopped : goal.returns-in_default-clause-stopped
 returns-in_default-clause-stopped c = λ es are. (
   0,
-  subst (λ (os : List (Result Answer Refusal)). IsAnswered c.args.count [] os) (sym c.new-outcomes.ensures.items)
+  subst (λ (os : List (Result EventAnswer Refusal)). IsAnswered c.args.count [] os) (sym c.new-outcomes.ensures.items)
       (nothing_answered c.args.count (c.runs_are_safe.ensures c.args.count)),
 )
 

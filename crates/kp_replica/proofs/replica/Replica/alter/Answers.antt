@@ -12,17 +12,17 @@ use Rattle.kp_control.specs.declared.record.LeaderAndIsr.{LeaderAndIsr as Record
 use Rattle.kp_control.specs.Set.{members_of, record_of}
 use Rattle.kp_control.specs.Altering.{alter_cause}
 use Rattle.kp_replica.specs.Altering.{change_act, changed_isr, isr_cause, Alters}
-use Rattle.kp_replica.specs.Member.{Member}
+use Rattle.kp_replica.specs.NumberedNode.{NumberedNode}
 use Rattle.kp_replica.specs.Modes.{mode_of, leading_of}
 use Rattle.kp_replica.proofs.Ups.{leads_not}
-use Rattle.kp_replica.proofs.Alters.{cause_is, by_change, by_version, alters, not_leading, refused_change, refused_exit}
+use Rattle.kp_replica.proofs.AlteringFacts.{cause_is, by_change, by_version, alters, not_leading, refused_change, refused_exit}
 use Rattle.kp_replica.proofs.replica.Replica.alter.Goals as goal
 
 pub returns-in_default : goal.returns-in_default
 returns-in_default c =
     let m = c.args.self.now in
     let k = record_of c.args.controller.now in
-    let mode : mode_of c.self.inside.mode ≡ m.state.mode = ap (λ (x : Member). x.state.mode) c.self.view_is in
+    let mode : mode_of c.self.inside.mode ≡ m.state.mode = ap (λ (x : NumberedNode). x.state.mode) c.self.view_is in
     let is = not_leading k m.number m.state c.args.change
     (λ why. subst (λ (mode : Mode). unless_leads mode why ≡ Some refusals.NotLeader) mode (leads_not c.self.inside.mode why c.in_default.not-Leads)) in
     record {
@@ -36,8 +36,8 @@ returns-then-not-is_same-clause-event c =
     let m = c.args.self.now in
     let k = record_of c.args.controller.now in
     let l = leading_of c.in-Leads.leading in
-    let leads : m.state.mode ≡ Leads l = ap (λ (x : Member). x.state.mode) (sym c.self.view_is) ∙ ap mode_of c.in-Leads.is in
-    let number : c.self.inside.number ≡ m.number = ap (λ (x : Member). x.number) c.self.view_is in
+    let leads : m.state.mode ≡ Leads l = ap (λ (x : NumberedNode). x.state.mode) (sym c.self.view_is) ∙ ap mode_of c.in-Leads.is in
+    let number : c.self.inside.number ≡ m.number = ap (λ (x : NumberedNode). x.number) c.self.view_is in
     let known = c.known.ensures ∙ ap (λ (n : ℕ). known_by n l) number in
     let same : same_record k (known_by m.number l) ≡ false = ap (same_record k) (sym known) ∙ sym c.is_same.ensures ∙ c.if-not-is_same.true in
     refused_change k m c.args.change refusals.StaleRecord (Err refusals.StaleRecord) (cause_is k m.number m.state l c.args.change false leads same) refl
@@ -47,8 +47,8 @@ returns-in_err-isr-clause-refused c =
     let m = c.args.self.now in
     let k = record_of c.args.controller.now in
     let l = leading_of c.in-Leads.leading in
-    let leads : m.state.mode ≡ Leads l = ap (λ (x : Member). x.state.mode) (sym c.self.view_is) ∙ ap mode_of c.in-Leads.is in
-    let number : c.self.inside.number ≡ m.number = ap (λ (x : Member). x.number) c.self.view_is in
+    let leads : m.state.mode ≡ Leads l = ap (λ (x : NumberedNode). x.state.mode) (sym c.self.view_is) ∙ ap mode_of c.in-Leads.is in
+    let number : c.self.inside.number ≡ m.number = ap (λ (x : NumberedNode). x.number) c.self.view_is in
     let known = c.known.ensures ∙ ap (λ (n : ℕ). known_by n l) number in
     let same : same_record k (known_by m.number l) ≡ true = ap (same_record k) (sym known) ∙ sym c.is_same.ensures ∙ c.if-not-is_same.false in
     let r = c.in_err-isr.field-0.0 in
@@ -70,8 +70,8 @@ returns-in_err-made-clause-refused c =
     let m = c.args.self.now in
     let k = record_of c.args.controller.now in
     let l = leading_of c.in-Leads.leading in
-    let leads : m.state.mode ≡ Leads l = ap (λ (x : Member). x.state.mode) (sym c.self.view_is) ∙ ap mode_of c.in-Leads.is in
-    let number : c.self.inside.number ≡ m.number = ap (λ (x : Member). x.number) c.self.view_is in
+    let leads : m.state.mode ≡ Leads l = ap (λ (x : NumberedNode). x.state.mode) (sym c.self.view_is) ∙ ap mode_of c.in-Leads.is in
+    let number : c.self.inside.number ≡ m.number = ap (λ (x : NumberedNode). x.number) c.self.view_is in
     let known = c.known.ensures ∙ ap (λ (n : ℕ). known_by n l) number in
     let same : same_record k (known_by m.number l) ≡ true = ap (same_record k) (sym known) ∙ sym c.is_same.ensures ∙ c.if-not-is_same.false in
     let free = only_none NodeSet (isr_cause m.number m.state.watermark l c.args.change) c.in_ok-isr.isr c.in_ok-isr.ensures.refused in
@@ -96,8 +96,8 @@ returns-clause-refused c =
     let m = c.args.self.now in
     let k = record_of c.args.controller.now in
     let l = leading_of c.in-Leads.leading in
-    let leads : m.state.mode ≡ Leads l = ap (λ (x : Member). x.state.mode) (sym c.self.view_is) ∙ ap mode_of c.in-Leads.is in
-    let number : c.self.inside.number ≡ m.number = ap (λ (x : Member). x.number) c.self.view_is in
+    let leads : m.state.mode ≡ Leads l = ap (λ (x : NumberedNode). x.state.mode) (sym c.self.view_is) ∙ ap mode_of c.in-Leads.is in
+    let number : c.self.inside.number ≡ m.number = ap (λ (x : NumberedNode). x.number) c.self.view_is in
     let known = c.known.ensures ∙ ap (λ (n : ℕ). known_by n l) number in
     let same : same_record k (known_by m.number l) ≡ true = ap (same_record k) (sym known) ∙ sym c.is_same.ensures ∙ c.if-not-is_same.false in
     let free = only_none NodeSet (isr_cause m.number m.state.watermark l c.args.change) c.in_ok-isr.isr c.in_ok-isr.ensures.refused in
@@ -112,13 +112,13 @@ returns-clause-event c =
     let l = leading_of c.in-Leads.leading in
     let change = c.args.change in
     let made = c.in_ok-made.made in
-    let leads : m.state.mode ≡ Leads l = ap (λ (x : Member). x.state.mode) (sym c.self.view_is) ∙ ap mode_of c.in-Leads.is in
+    let leads : m.state.mode ≡ Leads l = ap (λ (x : NumberedNode). x.state.mode) (sym c.self.view_is) ∙ ap mode_of c.in-Leads.is in
     let isr : members_of c.in_ok-isr.isr ≡ changed_isr change l.isr = c.in_ok-isr.ensures.changed in
     let is : record_of made ≡ altered k (changed_isr change l.isr) = c.in_ok-made.ensures.altered ∙ ap (altered k) isr in
     let version : made.version ≡ k.version + 1 = ap (λ (r : LeaderAndIsr). r.version) is in
-    let P : Member → List ℕ → ℕ → Type 0 =
+    let P : NumberedNode → List ℕ → ℕ → Type 0 =
     λ x isr v. Alters k m (record x { state = record x.state { mode = Leads (record l { isr = isr; version = v }) } }) (change_act change) (Ok made) in
-    subst (λ (x : Member). P x (members_of c.in_ok-isr.isr) made.version) (sym c.self.view_is)
+    subst (λ (x : NumberedNode). P x (members_of c.in_ok-isr.isr) made.version) (sym c.self.view_is)
     (subst (λ (v : ℕ). P m (members_of c.in_ok-isr.isr) v) (sym version)
     (subst (λ (i : List ℕ). P m i (k.version + 1)) (sym isr)
     (alters k m l change (Ok made) leads (returns-clause-refused c) is)))

@@ -7,9 +7,9 @@ use Rattle.kp_insync.specs.Reports.{ends_over}
 use Rattle.std.specs.Prelude.{max, unwrap_or}
 use Rattle.kp_log.specs.Partition.{Partition}
 use Rattle.kp_model.specs.Event.{Raise, Refused, MarkAt}
-use Rattle.kp_replica.specs.Member.{Member, Does, HasEpochs, HasReports}
+use Rattle.kp_replica.specs.NumberedNode.{NumberedNode, Does, HasEpochs, HasReports}
 use Rattle.kp_replica.specs.Modes.{mode_of, leading_of}
-use Rattle.kp_replica.specs.Kept.{member_of}
+use Rattle.kp_replica.specs.Kept.{node_of}
 use Rattle.kp_replica.proofs.Calls.{raises}
 use Rattle.kp_replica.proofs.Reports.{raised_boundary}
 use Rattle.kp_replica.proofs.Ups.{leads_not}
@@ -18,13 +18,13 @@ use Rattle.kp_model.proofs.Steps.{was_refused}
 
 pub returns-in_default : goal.returns-in_default
 returns-in_default c =
-    let m = member_of c.self.inside in
-    subst (λ (x : Member). Does x x Raise (Refused refusals.NotLeader)) c.self.view_is
+    let m = node_of c.self.inside in
+    subst (λ (x : NumberedNode). Does x x Raise (Refused refusals.NotLeader)) c.self.view_is
     (λ r. (was_refused r m.number m.state Raise refusals.NotLeader (leads_not c.self.inside.mode _ c.in_default.not-Leads), (refl, refl)))
 
 pub invariant_of-self : goal.invariant_of-self
 invariant_of-self c =
-    let m = member_of c.self.inside in
+    let m = node_of c.self.inside in
     let l = leading_of c.in-Leads.leading in
     let mark = c.max-watermark.result in
     let same : m.state.log ≡ c.settle.new.log.log = ap (λ (p : Partition). p.log) (sym c.settle.ensures.same_log) in
@@ -45,7 +45,7 @@ invariant_of-self c =
 
 pub returns : goal.returns
 returns c =
-    let m = member_of c.self.inside in
+    let m = node_of c.self.inside in
     let l = leading_of c.in-Leads.leading in
     let mark = c.max-watermark.result in
     let over : ℕ → Option ℕ = λ end. least_end (ends_over l.isr m.number end l.reported) in
@@ -54,8 +54,8 @@ returns c =
     let is : raised m.number m.state l ≡ mark =
     sym (c.max-watermark.ensures
     ∙ ap (λ (o : ℕ). max m.state.watermark o) (c.unwrap_or.ensures ∙ ap (λ (o : Option ℕ). unwrap_or o 0) least)) in
-    let P : Member → Partition → Type 0 =
+    let P : NumberedNode → Partition → Type 0 =
     λ x p. Does x (record { number = m.number; limits = p.limits; state = record m.state { log = p.log; watermark = mark } }) Raise (MarkAt mark) in
-    subst (λ (x : Member). P x c.settle.new.log) c.self.view_is
+    subst (λ (x : NumberedNode). P x c.settle.new.log) c.self.view_is
     (subst (λ (p : Partition). P m p) (sym c.settle.ensures.same_log)
     (λ r. (raises r m.number m.state l mark (ap mode_of c.in-Leads.is) is, (refl, refl))))

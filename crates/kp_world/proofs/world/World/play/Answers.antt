@@ -8,7 +8,7 @@ use Rattle.kp_model.specs.Event.{Event}
 use Rattle.kp_world.specs.Events.{AreEvents, IsAmong, HasMarker}
 use Rattle.kp_world.specs.Plays.{LeadOn}
 use Rattle.kp_world.specs.Shown.{Stage}
-use Rattle.kp_world.specs.declared.event.Answer.{Answer}
+use Rattle.kp_world.specs.declared.event.EventAnswer.{EventAnswer}
 use Rattle.kp_world.specs.declared.event.Event.{Event as CodeEvent}
 use Rattle.kp_world.proofs.Playing.{AreEvents-none, AreEvents-push, AreEvents-take, lead_more, lead_none}
 use Rattle.kp_world.proofs.world.World.play.Goals as goal
@@ -40,7 +40,7 @@ of_next P events before rest behind event split next all =
 pub step-requires-clause-node : goal.step-requires-clause-node
 step-requires-clause-node c =
     subst (λ (n : ℕ). IsAmong n c.in-Some.event) (sym c.loop-event.invariant.count)
-    (of_next (IsAmong (length c.args.self.now.members)) c.args.events.items c.loop-event.yielded _ _ c.in-Some.event c.loop-event.invariant.split c.in-Some.ensures.steps.0 c.requires.nodes)
+    (of_next (IsAmong (length c.args.self.now.nodes)) c.args.events.items c.loop-event.yielded _ _ c.in-Some.event c.loop-event.invariant.split c.in-Some.ensures.steps.0 c.requires.nodes)
 
 pub step-requires-clause-marker : goal.step-requires-clause-marker
 step-requires-clause-marker c =
@@ -79,7 +79,7 @@ loop-event-preserved c =
           let outcome = c.in_ok-outcome.outcome in
           let old = c.args.self.now in
           let new = c.step.new.self in
-          subst (λ (os : List (Result Answer Refusal)). LeadOn limits old es os new) (sym c.in-Ok.ensures.items)
+          subst (λ (os : List (Result EventAnswer Refusal)). LeadOn limits old es os new) (sym c.in-Ok.ensures.items)
           (subst (λ (xs : List Event). LeadOn limits old xs (answers ++ outcome ∷ []) new) (sym m.is)
           (lead_more limits old c.loop-event.self new m.front (m.e ∷ []) answers (outcome ∷ []) (c.loop-event.invariant.lead limits m.front m.fronts)
           (c.in_ok-outcome.ensures.step limits m.e m.one)));

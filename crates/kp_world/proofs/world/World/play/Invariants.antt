@@ -8,7 +8,7 @@ use Rattle.kp_world.proofs.world.World.play.Given as goal
 
 abbrev pub invariant-loop-event : goal.invariant-loop-event
 invariant-loop-event l = record {
-  count : length l.self.members ≡ length l.fn.self.members;
+  count : length l.self.nodes ≡ length l.fn.self.nodes;
   split : l.fn.events.items ≡ l.yielded ++ into_iter_items l.event-iterator;
   sized : into_iter_len l.event-iterator ≡ length (into_iter_items l.event-iterator);
   answered : length l.outcomes.items ≡ length l.yielded;

@@ -1,0 +1,193 @@
+-- What comes of what a node did.
+use Rattle.std.proofs.Common.{◌≡◌, ◌≤◌, ℕ, [], ◌∷◌, Option, None, Result, Ok, Err, MatchResult, refl, sym, ap, ◌∙◌, subst}
+use Rattle.std.specs.Prelude.{IsOkAnd, IfOk, IfErr, is_some}
+use Rattle.std.proofs.lemmas.Bool.{false≢true}
+use Rattle.kp_types.specs.declared.refusal.Refusal.{Refusal}
+use Rattle.kp_model.specs.Laws.{place_of}
+use Rattle.kp_model.specs.Log.{IsLog, IsKin}
+use Rattle.kp_model.specs.World.{LeaderAndIsr, Answer as ModelAnswer, Message, Asks, Answers as AnswersOf}
+use Rattle.kp_model.specs.declared.message.EpochAnswer.{EpochAnswer}
+use Rattle.kp_model.proofs.Letters.{asks_for}
+use Rattle.kp_model.specs.Calls.{sent_reply}
+use Rattle.kp_model.specs.Event.{Act, Receive, Reply, Refused}
+use Rattle.kp_model.specs.Letter.{Letter, epoch_end_answer, letter, letter_of}
+use Rattle.kp_model.specs.Local.{becomes, sends, cut_cause}
+use Rattle.kp_model.specs.declared.message.MessageBody.{MessageBody}
+use Rattle.kp_control.specs.declared.record.LeaderAndIsr.{LeaderAndIsr as Record}
+use Rattle.kp_model.specs.Event as model
+use Rattle.kp_replica.specs.Acts.{Comes, Fits, FitsPlain, NamesIn, IsOfRun, Looks, answer_reply, answered_reply, plain_act}
+use Rattle.kp_replica.specs.Adopting.{IsWithin}
+use Rattle.kp_replica.specs.Altering.{Alters, altering_effect, change_act}
+use Rattle.kp_replica.specs.declared.act.Act.{Act as CodeAct}
+use Rattle.kp_replica.specs.declared.act.Act.TheVariants.{Produce, Plain}
+use Rattle.kp_replica.specs.declared.act.PlainAct.{PlainAct}
+use Rattle.kp_replica.specs.declared.act.PlainAct.TheVariants as acts
+use Rattle.kp_replica.specs.declared.altering.IsrChange.{IsrChange}
+use Rattle.kp_replica.specs.declared.altering.IsrChange.TheVariants as changes
+use Rattle.kp_replica.proofs.Downs.{NeedsUp}
+use Rattle.kp_replica.specs.NumberedNode.{NumberedNode, Does, DoesUnder}
+use Rattle.kp_replica.specs.Sending.{DoesSending}
+use Rattle.kp_replica.specs.declared.act.Answer.{Answer}
+use Rattle.kp_replica.specs.declared.act.Effect.{Effect}
+use Rattle.kp_replica.specs.declared.act.Effect.TheVariants.{Answers, Sends, Changes}
+
+-- what a result is made of another one by
+abbrev pub IsMadeOf : (A B : Type 0) → (A → B) → Result A Refusal → Result B Refusal → Type 0
+IsMadeOf A B K r m = MatchResult r (λ x. IsOkAnd m (λ y. y ≡ K x)) (λ f. m ≡ Err f)
+
+-- it answered, or refused
+pub answering : (c : LeaderAndIsr) (old new : NumberedNode) (act : Act) (answer : Answer) → DoesUnder c old new act (answer_reply answer) → Comes c old new act (Ok (Answers answer))
+answering c old new act answer does =
+    record {
+      effect = becomes c new.state (answer_reply answer);
+      local = does.0;
+      node_is = refl;
+      record_is = refl;
+      letters_are = refl;
+      reply_is = refl;
+      same = does.1;
+    }
+
+pub refusing : (c : LeaderAndIsr) (old new : NumberedNode) (act : Act) (refusal : Refusal) → DoesUnder c old new act (Refused refusal) → Comes c old new act (Err refusal)
+refusing c old new act refusal does =
+    record {
+      effect = becomes c new.state (Refused refusal);
+      local = does.0;
+      node_is = refl;
+      record_is = refl;
+      letters_are = refl;
+      reply_is = refl;
+      same = does.1;
+    }
+
+pub answered : (c : LeaderAndIsr) (old new : NumberedNode) (act : Act) (r : Result Answer Refusal) (m : Result Effect Refusal) → DoesUnder c old new act (answered_reply r)
+    → IsMadeOf Answer Effect Answers r m → Comes c old new act m
+answered c old new act (Ok x) (Ok e) does is = subst (λ (y : Effect). Comes c old new act (Ok y)) (sym is) (answering c old new act x does)
+answered c old new act (Ok x) (Err f) does is = absurd is
+answered c old new act (Err f) m does is = subst (Comes c old new act) (sym is) (refusing c old new act f does)
+
+-- it sent a message, or refused
+pub sending : (c : LeaderAndIsr) (old new : NumberedNode) (act : Act) (body : MessageBody) → DoesSending old new act (letter body) → Comes c old new act (Ok (Sends body))
+sending c old new act body does =
+    let sent = does.0 in
+    let l = letter body in
+    record {
+      effect = sends c new.state sent.message (sent_reply l.asking l.answering);
+      local = sent.local c;
+      node_is = refl;
+      record_is = refl;
+      letters_are = ap (λ (k : Letter). k ∷ []) sent.letter_is;
+      reply_is = refl;
+      same = does.1;
+    }
+
+pub sent : (c : LeaderAndIsr) (old new : NumberedNode) (act : Act) (r : Result MessageBody Refusal) (m : Result Effect Refusal) → IfOk r (λ body. DoesSending old new act (letter body))
+    → IfErr r (λ refusal. Does old new act (Refused refusal)) → IsMadeOf MessageBody Effect Sends r m → Comes c old new act m
+sent c old new act (Ok x) (Ok e) does refused is = subst (λ (y : Effect). Comes c old new act (Ok y)) (sym is) (sending c old new act x does)
+sent c old new act (Ok x) (Err f) does refused is = absurd is
+sent c old new act (Err f) m does refused is = subst (Comes c old new act) (sym is) (refusing c old new act f (refused c))
+
+-- it changed the in-sync replicas, or was refused
+altering : (c : LeaderAndIsr) (old new : NumberedNode) (act : Act) (made : Record) → Alters c old new act (Ok made) → Comes c old new act (Ok (Changes made))
+altering c old new act made did =
+    record {
+      effect = altering_effect c new.state (Ok made);
+      local = did.0;
+      node_is = refl;
+      record_is = refl;
+      letters_are = refl;
+      reply_is = refl;
+      same = did.1;
+    }
+
+pub altered : (c : LeaderAndIsr) (old new : NumberedNode) (act : Act) (r : Result Record Refusal) (m : Result Effect Refusal) → Alters c old new act r → IsMadeOf Record Effect Changes r m
+    → Comes c old new act m
+altered c old new act (Ok x) (Ok e) did is = subst (λ (y : Effect). Comes c old new act (Ok y)) (sym is) (altering c old new act x did)
+altered c old new act (Ok x) (Err f) did is = absurd is
+altered c old new act (Err f) m did is = subst (Comes c old new act) (sym is) (refusing c old new act f did)
+
+-- ---- what looks at the record
+
+pub adopts : (k shown : LeaderAndIsr) (old new : NumberedNode) (reply : Reply) → (Looks model.Adopt → k ≡ shown) → IsOfRun k old model.Adopt
+    → (IsWithin shown old.state.log → DoesUnder shown old new model.Adopt reply) → DoesUnder k old new model.Adopt reply
+adopts k shown old new reply under of event =
+    let same : k ≡ shown = under tt in
+    subst (λ (r : LeaderAndIsr). DoesUnder r old new model.Adopt reply) (sym same) (event (subst (λ (r : LeaderAndIsr). IsOfRun r old model.Adopt) same of))
+
+changes_look : (change : IsrChange) → Looks (change_act change)
+changes_look (changes.Join m) = tt
+changes_look (changes.Leave m) = tt
+
+pub alters : (k shown : LeaderAndIsr) (old new : NumberedNode) (change : IsrChange) (r : Result Record Refusal) (m : Result Effect Refusal) → (Looks (change_act change) → k ≡ shown)
+    → Alters shown old new (change_act change) r → IsMadeOf Record Effect Changes r m → Comes k old new (change_act change) m
+alters k shown old new change r m under did of =
+    subst (λ (c : LeaderAndIsr). Comes c old new (change_act change) m) (sym (under (changes_look change))) (altered shown old new (change_act change) r m did of)
+
+-- ---- a node that is down
+
+-- all but a restart is refused
+pub needs_up : (act : PlainAct) → (act ≡ acts.Restart → ⊥) → NeedsUp (plain_act act)
+needs_up acts.Restart other = absurd (other refl)
+needs_up (acts.Alter (changes.Join m)) other = tt
+needs_up (acts.Alter (changes.Leave m)) other = tt
+needs_up _ other = tt
+
+-- ---- what `map` makes of a result
+
+-- the reply of what is made of it
+pub mapped : (A : Type 0) (K : A → Answer) (reply : Result A Refusal → Reply) (Q : A → Answer → Type 0) (r : Result A Refusal) (m : Result Answer Refusal)
+    → ((x : A) (a : Answer) → Q x a → a ≡ K x) → ((x : A) → answer_reply (K x) ≡ reply (Ok x)) → ((f : Refusal) → Refused f ≡ reply (Err f))
+    → MatchResult r (λ x. IsOkAnd m (Q x)) (λ f. m ≡ Err f) → answered_reply m ≡ reply r
+mapped A K reply Q (Ok x) (Ok a) same ok err h = ap answer_reply (same x a h) ∙ ok x
+mapped A K reply Q (Ok x) (Err f) same ok err h = absurd h
+mapped A K reply Q (Err f) m same ok err h = ap answered_reply h ∙ err f
+
+-- what is known of its value is known of what is made of it
+pub made : (A B : Type 0) (K : A → B) (P : A → Type 0) (r : Result A Refusal) (m : Result B Refusal) → IsMadeOf A B K r m → IfOk r P → IfOk m (λ y. (x : A) × (y ≡ K x) × P x)
+made A B K P (Ok x) (Ok y) is holds = (x, is, holds)
+made A B K P (Ok x) (Err f) is holds = absurd is
+made A B K P (Err f) (Ok y) is holds = absurd cc
+made A B K P (Err f) (Err g) is holds = tt
+
+-- and of what is made of that
+pub made_twice : (A B C : Type 0) (K : A → B) (L : B → C) (P : A → Type 0) (r : Result A Refusal) (m : Result B Refusal) (n : Result C Refusal) → IsMadeOf A B K r m → IsMadeOf B C L m n
+    → IfOk r P → IfOk n (λ z. (x : A) × (z ≡ L (K x)) × P x)
+made_twice A B C K L P (Ok x) (Ok y) (Ok z) is then holds = (x, then ∙ ap L is, holds)
+made_twice A B C K L P (Ok x) (Ok y) (Err f) is then holds = absurd then
+made_twice A B C K L P (Ok x) (Err f) n is then holds = absurd is
+made_twice A B C K L P (Err f) (Ok y) n is then holds = absurd cc
+made_twice A B C K L P (Err f) (Err g) (Ok z) is then holds = absurd cc
+made_twice A B C K L P (Err f) (Err g) (Err h) is then holds = tt
+
+-- ---- messages
+
+-- what an epoch answer does, for each message with its letter
+pub epoch_came : (c shown : LeaderAndIsr) (old new : NumberedNode) (answer : EpochAnswer) (m : Message) (reply : Reply) → letter_of m ≡ epoch_end_answer answer → (Looks (Receive m) → c ≡ shown)
+    → IsOfRun c old (Receive m)
+    → ((a : ModelAnswer) → letter_of (AnswersOf a) ≡ epoch_end_answer answer → IsLog a.log → IsKin old.state.log a.log
+    → (cut_cause shown old.number old.state a ≡ None → old.state.watermark ≤ (place_of old.state a).0) → DoesUnder shown old new (Receive (AnswersOf a)) reply)
+    → DoesUnder c old new (Receive m) reply
+epoch_came c shown old new answer (Asks q) reply is under of event = absurd (false≢true (ap (λ (l : Letter). is_some l.answering) is))
+epoch_came c shown old new answer (AnswersOf a) reply is under of event =
+    let asks = (asks_for a.request answer.request.last_epoch (ap (λ (l : Letter). l.asking) is)).fetching in
+    let same : c ≡ shown = under asks in
+    let all = subst (λ (k : LeaderAndIsr). IsOfRun k old (Receive (AnswersOf a))) same of in
+    subst (λ (k : LeaderAndIsr). DoesUnder k old new (Receive (AnswersOf a)) reply) (sym same) (event a is all.0 all.1 (λ free. all.2 asks free))
+
+-- ---- receipts
+
+-- what an act answers names a batch of the log that is left
+plain_stands : (act : PlainAct) (new : NumberedNode) (e : Effect) → FitsPlain act new e → NamesIn new.state.log (Ok e)
+plain_stands (acts.Mark marker) new e fits =
+    let r = fits.2 in
+    subst (λ (x : Effect). NamesIn new.state.log (Ok x)) (sym fits.1) (r.batch, r.stands, r.named)
+plain_stands acts.Stop new e fits = subst (λ (x : Effect). NamesIn new.state.log (Ok x)) (sym fits) tt
+plain_stands acts.Restart new e fits = subst (λ (x : Effect). NamesIn new.state.log (Ok x)) (sym (fits.1 ∙ ap Answers fits.2.3)) tt
+plain_stands _ new e fits = subst (λ (x : Effect). NamesIn new.state.log (Ok x)) (sym fits.1) tt
+
+pub receipt_stands : (act : CodeAct) (old new : NumberedNode) (outcome : Result Effect Refusal) → IfOk outcome (Fits act old new) → NamesIn new.state.log outcome
+receipt_stands act old new (Err f) fits = tt
+receipt_stands (Produce bytes) old new (Ok e) fits =
+    let r = fits.2 in
+    subst (λ (x : Effect). NamesIn new.state.log (Ok x)) (sym fits.1) (r.batch, r.stands, r.named)
+receipt_stands (Plain act) old new (Ok e) fits = plain_stands act new e fits

@@ -1,0 +1,84 @@
+//! What a node may be asked to do, and what comes of it.
+
+use crate::adopting::Role;
+use crate::altering::IsrChange;
+use crate::cutting::CutBack;
+use crate::producing::Receipt;
+use crate::reading::Shown;
+use crate::taking::Taken;
+use kp_batch::Handed;
+use kp_control::LeaderAndIsr;
+use kp_marker::Marker;
+use kp_model::MessageBody;
+use kp_types::Offset;
+use kp_visible::ReadRecords;
+
+/// What a node does that is handed no bytes. (Kafka replication design.)
+#[derive(Clone, Copy, Debug, PartialEq, Eq)]
+pub enum PlainAct {
+    /// It takes up the controller's record.
+    Adopt,
+    /// A transaction coordinator hands it this marker, to be appended. Its fields lie in their ranges: `producer_id`
+    /// below 2^63, `producer_epoch` below 2^15, `coordinator_epoch` below 2^31, `timestamp` below 2^62. (KIP-98.)
+    Mark { marker: Marker },
+    /// It asks the leader that it follows.
+    Ask,
+    /// It raises its high watermark, as far as it may.
+    Raise,
+    /// It changes the in-sync replicas, which it leads.
+    Alter { change: IsrChange },
+    /// It notes its high watermark, to start from there when it is restarted.
+    Checkpoint,
+    /// It stops, and keeps its log.
+    Stop,
+    /// It starts again, in its next life.
+    Restart,
+    /// It tells its state.
+    Show,
+    /// It reads the records from this offset on that lie below its high watermark.
+    Read { from: Offset },
+    /// It reads, of the records from this offset on that lie below its last stable offset, those that no aborted
+    /// transaction has. (KIP-98, `read_committed`.)
+    Committed { from: Offset },
+}
+
+/// What a node does, but for what a message asks of it.
+#[derive(Drop)]
+pub enum Act {
+    /// A client hands it these bytes, to be appended as a batch.
+    Produce { bytes: Handed },
+    Plain(PlainAct),
+}
+
+/// What a node answers that isn't refused, and neither sends a message nor changes the controller's record.
+#[derive(Drop)]
+pub enum Answer {
+    Adopted(Role),
+    Appended(Receipt),
+    /// It took batches of a fetch answer.
+    Took(Taken),
+    /// It took back its log's tail.
+    Cut(CutBack),
+    /// The high watermark.
+    Watermark(Offset),
+    /// The high watermark that was noted.
+    Checkpoint(Offset),
+    Stopped,
+    Restarted {
+        life: u64,
+        end: Offset,
+        watermark: Offset,
+    },
+    Shown(Shown),
+    Lines(ReadRecords),
+}
+
+/// What an act, or a message that comes, leaves besides the node itself, where it isn't refused.
+#[derive(Drop)]
+pub enum Effect {
+    Answers(Answer),
+    /// The node sends this message.
+    Sends(MessageBody),
+    /// The controller's record is changed to this one.
+    Changes(LeaderAndIsr),
+}
