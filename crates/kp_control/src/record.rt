@@ -2,25 +2,27 @@
 
 ghost use Rattle.std.specs.Prelude.{◌≡◌, ◌+◌, ◌<◌, ◌≤◌, ◌^◌, IfOk};
 ghost use Rattle.std.specs.Option.{ForSome};
+ghost use Rattle.kp_model.specs.World.{most_nodes};
 
-use kp_types::{Epoch, GREATEST_EPOCH, GREATEST_VERSION, NodeId, Refusal};
+use kp_types::{Epoch, GREATEST_EPOCH, GREATEST_VERSION, NODE_PLACES, NodeId, Refusal};
 
 /// A set of nodes.
 #[derive(Clone, Copy, Debug, PartialEq, Eq)]
 pub struct NodeSet {
     /// Whether each node is in it, by its number.
-    pub members: [bool; 7],
+    pub members: [bool; NODE_PLACES],
 }
 
 impl NodeSet {
     ghost use Rattle.std.specs.Prelude.{◌≡◌, ◌<◌, ◌≤◌, IsTrue};
     ghost use Rattle.std.specs.List.{range_with_len};
+    ghost use Rattle.kp_model.specs.World.{most_nodes};
     ghost use Rattle.kp_model.specs.Local.{is_member, with_member, without_member};
     ghost use Rattle.kp_control.specs.Set.{members_of};
 
     /// The nodes 0 to `count` - 1.
     pub fn first(count: NodeId) -> NodeSet
-        requires { count ≤ 7 }
+        requires { count ≤ most_nodes }
         ensures { members_of result ≡ range_with_len 0 count }
     {
         NodeSet {
@@ -39,7 +41,7 @@ impl NodeSet {
     /// Whether the node is in it.
     pub fn contains(&self, node: NodeId) -> bool
         ensures value { result ≡ is_member node (members_of self.now) }
-        ensures within { IsTrue result → node < 7 }
+        ensures within { IsTrue result → node < most_nodes }
     {
         self.members
             .get(usize::from(node))
@@ -49,7 +51,7 @@ impl NodeSet {
 
     /// The set with this node in it, whether or not it was. O(1), and no memory.
     pub fn with(&self, node: NodeId) -> NodeSet
-        requires { node < 7 }
+        requires { node < most_nodes }
         ensures { members_of result ≡ with_member node (members_of self.now) }
     {
         let mut members = self.members;
@@ -86,14 +88,14 @@ pub struct LeaderAndIsr {
     pub isr: NodeSet,
     pub version: u32,
     ghost lawful: { ForSome leader (λ l. l.epoch + 1 < 2 ^ 24) },
-    ghost numbered: { ForSome leader (λ l. l.node < 7) },
+    ghost numbered: { ForSome leader (λ l. l.node < most_nodes) },
     ghost counted: { version < 2 ^ 28 },
 }
 
 impl LeaderAndIsr {
     ghost use Rattle.std.specs.Prelude.{◌≡◌, ◌≤◌, IfOk};
     ghost use Rattle.kp_types.specs.Causes.{IsRefusedOnlyBy};
-    ghost use Rattle.kp_model.specs.World.{initial};
+    ghost use Rattle.kp_model.specs.World.{initial, most_nodes};
     ghost use Rattle.kp_model.specs.Local.{altered, elected, has_epoch, same_record};
     ghost use Rattle.kp_model.specs.Step.{elect_cause};
     ghost use Rattle.kp_control.specs.Set.{members_of, record_of};
@@ -101,7 +103,7 @@ impl LeaderAndIsr {
 
     /// The record before the first election: no leader, all nodes in sync, version 0.
     pub fn initial(count: NodeId) -> LeaderAndIsr
-        requires { count ≤ 7 }
+        requires { count ≤ most_nodes }
         ensures { record_of result ≡ initial count }
     {
         LeaderAndIsr {

@@ -7,7 +7,7 @@ ghost use Rattle.kp_control.specs.Set.{members_of, record_of};
 ghost use Rattle.kp_control.specs.Word.{packed, set_field, WordsAreOne};
 
 use crate::record::{Leader, LeaderAndIsr, NodeSet};
-use kp_types::{Epoch, NodeId};
+use kp_types::{Epoch, MOST_NODES, NODE_PLACES, NodeId};
 
 const NO_LEADER: u64 = 15;
 
@@ -16,9 +16,9 @@ pub fn words_are_one()
     ensures { WordsAreOne }
 {}
 
-/// Seven places. It costs nothing.
-fn seven(members: [bool; 7])
-    ensures { length members ≡ 7 }
+/// A place for each node. It costs nothing.
+fn places(members: [bool; NODE_PLACES])
+    ensures { length members ≡ most_nodes }
 {
     let _first = members[0];
 }
@@ -43,7 +43,7 @@ impl NodeSet {
     fn of_bits(bits: u64) -> NodeSet
         requires { bits < 128 }
         ensures value { set_field (members_of result) ≡ bits }
-        ensures seven { length result.members ≡ 7 }
+        ensures places { length result.members ≡ most_nodes }
     {
         NodeSet {
             members: [
@@ -64,7 +64,7 @@ impl LeaderAndIsr {
     pub fn is_in_range(&self)
         ensures { IsInRange most_nodes (record_of self.now) }
     {
-        seven(self.isr.members);
+        places(self.isr.members);
     }
 
     /// The record as one word: bits 63 to 60 have the leader, 15 for none; bits 59 to 52 the in-sync replicas, bit 52 + n
@@ -101,7 +101,7 @@ impl LeaderAndIsr {
                 version,
             });
         }
-        if node >= 7 || after == 0 {
+        if node >= MOST_NODES as u64 || after == 0 {
             return None;
         }
         let leader = Some(Leader {

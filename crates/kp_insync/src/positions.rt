@@ -1,14 +1,14 @@
 //! The log ends that nodes reported.
 
 use kp_control::NodeSet;
-use kp_types::{NodeId, Offset, Refusal};
+use kp_types::{NODE_PLACES, NodeId, Offset, Refusal};
 use std::marker::Model;
 
-/// The log end that each other node reported in one leadership, by the node's number: 7 optional numbers, and no memory of
-/// the heap.
+/// The log end that each other node reported in one leadership, by the node's number: an optional number for each node that
+/// there may be, and no memory of the heap.
 #[derive(Clone, Copy)]
 pub struct Positions {
-    ends: [Option<Offset>; 7],
+    ends: [Option<Offset>; NODE_PLACES],
 }
 
 impl Model for Positions {
@@ -28,7 +28,7 @@ impl Positions {
     ghost use Rattle.std.specs.Prelude.{◌≡◌, ◌⊎◌, ◌<◌, ℕ, Some, IfSome, OnOk};
     ghost use Rattle.kp_types.specs.Causes.{IsRefusedOnlyBy};
     ghost use Rattle.kp_control.specs.Set.{members_of};
-    ghost use Rattle.kp_model.specs.World.{no_reports};
+    ghost use Rattle.kp_model.specs.World.{most_nodes, no_reports};
     ghost use Rattle.kp_model.specs.Local.{least_end};
     ghost use Rattle.kp_insync.specs.Reports.{with_report, ends_over, IsReported};
     ghost use Rattle.kp_insync.specs.Joining.{behind_cause};
@@ -37,11 +37,13 @@ impl Positions {
     pub fn new() -> Positions
         ensures { result ≡ no_reports }
     {
-        Positions { ends: [None; 7] }
+        Positions {
+            ends: [None; NODE_PLACES],
+        }
     }
 
     /// The node reports that its log ends at this offset: the greatest that it reported is kept. A number that no node has,
-    /// from 7 on, changes nothing.
+    /// from [`kp_types::MOST_NODES`] on, changes nothing.
     pub fn report(&mut self, node: NodeId, end: Offset)
         ensures { self.new ≡ with_report self.old node end }
     {
@@ -53,7 +55,7 @@ impl Positions {
     }
 
     /// The least log end over the set, where the own log ends at `end`: none where another member has not reported. It is
-    /// the own end or one that was reported. The own end counts also where the set has not the own node. One pass over 7.
+    /// the own end or one that was reported. The own end counts also where the set has not the own node. One pass over the places.
     pub fn least_end(&self, set: &NodeSet, own: NodeId, end: Offset) -> Option<Offset>
         ensures least { result ≡ least_end (ends_over (members_of set.now) own end self.now) }
         ensures known { IfSome result (λ least. (least ≡ end) ⊎ IsReported self.now least) }
@@ -71,10 +73,11 @@ impl Positions {
 
     /// Whether the node may join the in-sync replicas of a leader with this high watermark, which began to lead at the offset
     /// `start` of its log: it has reported an end that is below neither. F23 where it hasn't. A node that no leader could
-    /// have heard of, from 7 on, never may. O(1), and no memory (own rule; Kafka's leader asks for both bounds too).
+    /// have heard of, from [`kp_types::MOST_NODES`] on, never may. O(1), and no memory (own rule; Kafka's leader asks for both
+    /// bounds too).
     pub fn may_join(&self, node: NodeId, watermark: Offset, start: Offset) -> Result<(), Refusal>
         ensures refused { IsRefusedOnlyBy (behind_cause self.now node watermark start) result }
-        ensures numbered { OnOk result (node < 7) }
+        ensures numbered { OnOk result (node < most_nodes) }
     {
         let reported = self.ends.get(usize::from(node)).copied().flatten();
         match reported {

@@ -45,7 +45,9 @@ pub struct Sender {
 #[derive(Clone, Copy, Debug, PartialEq, Eq)]
 pub enum Call<'a> {
     /// The controller elects the node leader, of a new leader epoch.
-    Elect { node: NodeId },
+    Elect {
+        node: NodeId,
+    },
     /// A client hands the node a batch with a record for each of these values, which stand with a comma between
     /// each two. Each record has this time in milliseconds.
     Append {
@@ -58,11 +60,19 @@ pub enum Call<'a> {
         values: &'a [u8],
     },
     /// A client hands the node the bytes that these hexadecimal digits spell.
-    Raw { node: NodeId, digits: &'a [u8] },
+    Raw {
+        node: NodeId,
+        digits: &'a [u8],
+    },
     /// The node does this.
-    Acts { node: NodeId, act: PlainAct },
+    Acts {
+        node: NodeId,
+        act: PlainAct,
+    },
     /// The message of this number, below 2^31, comes to the node to which it goes. Messages have the numbers from 0 on.
-    Deliver { number: u64 },
+    Deliver {
+        number: u64,
+    },
 }
 
 impl Call<'_> {

@@ -12,9 +12,9 @@ use bytes::Bytes;
 use kp_batch::Handed;
 use kp_control::LeaderAndIsr;
 use kp_marker::{Kind, Marker};
-use kp_replica::{Receipt, Replica};
+use kp_replica::{Act, Answer, PlainAct, Receipt, Replica};
 use kp_types::{Limits, MAX_BATCH, NodeId, Refusal};
-use kp_world::{Act, Answer, Event, Stopped, Trace, run};
+use kp_world::{Event, EventAnswer, Stopped, Trace, run};
 use std::alloc::{AllocError, Global};
 
 // The bytes of the batch of a word.
@@ -29,10 +29,10 @@ fn elections(alloc: Global) -> Result<String, Refusal> {
     let initial = LeaderAndIsr::initial(1);
     let first = initial.elected(0)?;
     let outcomes = [
-        Ok(Answer::Changed(initial)),
-        Ok(Answer::Changed(first)),
-        first.elected(0).map(Answer::Changed),
-        initial.elected(1).map(Answer::Changed),
+        Ok(EventAnswer::Changed(initial)),
+        Ok(EventAnswer::Changed(first)),
+        first.elected(0).map(EventAnswer::Changed),
+        initial.elected(1).map(EventAnswer::Changed),
     ];
     trace_of(alloc, &outcomes)
 }
@@ -130,7 +130,7 @@ fn played(alloc: Global, count: NodeId, events: Vec<Event>) -> Result<String, Re
 fn told_run(alloc: Global, trace: &Trace) -> Result<String, Refusal> {
     let mut text = trace_of(alloc, &trace.outcomes)?;
     for outcome in trace.outcomes.iter() {
-        if let Ok(Answer::Appended(receipt)) = outcome {
+        if let Ok(EventAnswer::Answered(Answer::Appended(receipt))) = outcome {
             push_receipt(&mut text, receipt)?;
         }
     }
@@ -157,18 +157,18 @@ fn seven(alloc: Global) -> Result<String, Refusal> {
     let bytes = bytes_of(alloc, "p10")?;
     let again = bytes.share()?;
     let events = vec![in alloc;
-        acts(6, Act::Show),
+        acts(6, Act::Plain(PlainAct::Show)),
         Event::Elect { node: 6 },
-        acts(6, Act::Adopt),
-        acts(0, Act::Adopt),
+        acts(6, Act::Plain(PlainAct::Adopt)),
+        acts(0, Act::Plain(PlainAct::Adopt)),
         acts(0, Act::Produce { bytes: again }),
         acts(6, Act::Produce { bytes }),
-        acts(6, Act::Raise),
-        acts(0, Act::Raise),
-        acts(6, Act::Show),
+        acts(6, Act::Plain(PlainAct::Raise)),
+        acts(0, Act::Plain(PlainAct::Raise)),
+        acts(6, Act::Plain(PlainAct::Show)),
         Event::Elect { node: 0 },
-        acts(0, Act::Adopt),
-        acts(6, Act::Adopt),
+        acts(0, Act::Plain(PlainAct::Adopt)),
+        acts(6, Act::Plain(PlainAct::Adopt)),
     ]?;
     played(alloc, 7, events)
 }
@@ -202,16 +202,16 @@ fn three_twice(alloc: Global) -> Result<String, Refusal> {
     let marker = MARKER;
     let events = vec![in alloc;
         Event::Elect { node: 0 },
-        acts(0, Act::Adopt),
-        acts(0, Act::Mark { marker }),
+        acts(0, Act::Plain(PlainAct::Adopt)),
+        acts(0, Act::Plain(PlainAct::Mark { marker })),
         acts(0, Act::Produce { bytes }),
         Event::Elect { node: 0 },
-        acts(0, Act::Adopt),
+        acts(0, Act::Plain(PlainAct::Adopt)),
         acts(0, Act::Produce { bytes: again }),
-        acts(0, Act::Mark { marker }),
-        acts(0, Act::Raise),
-        acts(0, Act::Committed { from: 2 }),
-        acts(0, Act::Read { from: 3 }),
+        acts(0, Act::Plain(PlainAct::Mark { marker })),
+        acts(0, Act::Plain(PlainAct::Raise)),
+        acts(0, Act::Plain(PlainAct::Committed { from: 2 })),
+        acts(0, Act::Plain(PlainAct::Read { from: 3 })),
     ]?;
     played(alloc, 1, events)
 }

@@ -5,8 +5,8 @@ use crate::node_tests::bytes_of;
 use kp_batch::Batch;
 use kp_control::LeaderAndIsr;
 use kp_log::PartitionLog;
-use kp_model::{EpochAnswer, EpochRequest, FetchAnswer, FetchRequest, MessageBody};
-use kp_replica::{IsrChange, KeptNode, Replica, Role};
+use kp_model::{EpochRequest, FetchAnswer, FetchRequest, MessageBody};
+use kp_replica::{Act, Answer, Broker, Effect, IsrChange, PlainAct, Role};
 use kp_types::{Epoch, NodeId, Offset, Refusal};
 use std::alloc::{AllocError, Global};
 
@@ -41,32 +41,21 @@ pub(crate) enum Call {
     Show(NodeId),
 }
 
-// A node that is up or down.
-type Node = Result<Replica, KeptNode>;
-
 /// The controller's record, that before the last election, the nodes, each in its place, and all messages that were sent.
 #[derive(Drop)]
 struct Play {
     record: LeaderAndIsr,
     before: LeaderAndIsr,
-    nodes: Vec<Option<Node>>,
+    nodes: Vec<Broker>,
     mail: Vec<MessageBody>,
 }
 
-fn place(nodes: &mut Vec<Option<Node>>, node: NodeId) -> Result<&mut Option<Node>, Refusal> {
+fn broker(nodes: &mut Vec<Broker>, node: NodeId) -> Result<&mut Broker, Refusal> {
     let index = usize::from(node);
     if index < nodes.len() {
         return Ok(&mut nodes[index]);
     }
     Err(Refusal::BadCount)
-}
-
-// The node, which is up.
-fn up(nodes: &mut Vec<Option<Node>>, node: NodeId) -> Result<&mut Replica, Refusal> {
-    match place(nodes, node)? {
-        Some(Ok(replica)) => Ok(replica),
-        _ => Err(Refusal::Down),
-    }
 }
 
 fn push_record(text: &mut String, record: &LeaderAndIsr) -> Result<(), AllocError> {
@@ -94,8 +83,8 @@ fn push_role(text: &mut String, role: Role) -> Result<(), AllocError> {
     }
 }
 
-fn push_letter(text: &mut String, letter: &MessageBody) -> Result<(), AllocError> {
-    match letter {
+fn push_body(text: &mut String, body: &MessageBody) -> Result<(), AllocError> {
+    match body {
         MessageBody::FetchRequest(request) => write!(text, "asks from {}", request.offset),
         MessageBody::EpochRequest(request) => match request.last_epoch {
             Some(epoch) => write!(text, "asks epoch {epoch}"),
@@ -139,74 +128,28 @@ fn push_log(
     Ok(())
 }
 
-fn push_node(text: &mut String, node: &Option<Node>) -> Result<(), AllocError> {
-    match node {
-        Some(Ok(up)) => push_log(text, up.log(), up.watermark(), up.life()),
-        Some(Err(kept)) => {
-            text.push_str("down, ")?;
-            push_log(text, kept.log(), kept.watermark(), kept.life())
-        }
-        None => Ok(()),
+fn push_node(text: &mut String, node: &Broker) -> Result<(), AllocError> {
+    if let Broker::Down(_) = node {
+        text.push_str("down, ")?;
     }
+    push_log(text, node.log(), node.watermark(), node.life())
 }
 
-// Of an answer that its asker takes. It is down where its memory is refused.
-fn take_fetch(
-    text: &mut String,
-    nodes: &mut Vec<Option<Node>>,
-    answer: &FetchAnswer,
-) -> Result<(), Refusal> {
-    let place = place(nodes, answer.request.from)?;
-    let Some(Ok(node)) = place.take() else {
-        return Err(Refusal::Down);
-    };
-    let (node, taken) = match node.take_fetch(answer) {
-        Ok(given) => given,
-        Err(kept) => {
-            *place = Some(Err(kept));
-            return Err(Refusal::Memory);
+// What a node answers; of one that starts again, its log.
+fn push_answer(text: &mut String, node: &Broker, answer: &Answer) -> Result<(), AllocError> {
+    match answer {
+        Answer::Adopted(role) => push_role(text, *role),
+        Answer::Appended(receipt) => write!(text, "at {}", receipt.base),
+        Answer::Took(taken) => write!(text, "end {} mark {}", taken.end, taken.watermark),
+        Answer::Cut(cut) => {
+            let next = if cut.done { "done" } else { "again" };
+            write!(text, "cut {} {next}", cut.end)
         }
-    };
-    *place = Some(Ok(node));
-    let taken = taken?;
-    Ok(write!(text, "end {} mark {}", taken.end, taken.watermark)?)
-}
-
-fn take_epoch(
-    text: &mut String,
-    node: &mut Replica,
-    answer: &EpochAnswer,
-    record: &LeaderAndIsr,
-) -> Result<(), Refusal> {
-    let cut = node.take_epoch(answer, record)?;
-    let next = if cut.done { "done" } else { "again" };
-    Ok(write!(text, "cut {} {next}", cut.end)?)
-}
-
-fn stop(text: &mut String, place: &mut Option<Node>) -> Result<(), Refusal> {
-    match place.take() {
-        Some(Ok(node)) => {
-            *place = Some(Err(node.stop()));
-            Ok(text.push_str("stopped")?)
-        }
-        other => {
-            *place = other;
-            Err(Refusal::Down)
-        }
+        Answer::Watermark(watermark) => write!(text, "mark {watermark}"),
+        Answer::Checkpoint(checkpoint) => write!(text, "checkpoint {checkpoint}"),
+        Answer::Stopped => text.push_str("stopped"),
+        Answer::Restarted { .. } | Answer::Shown(_) | Answer::Lines(_) => push_node(text, node),
     }
-}
-
-fn restart(alloc: Global, text: &mut String, place: &mut Option<Node>) -> Result<(), Refusal> {
-    let (node, said) = match place.take() {
-        Some(Err(kept)) => match Replica::restart(alloc, kept) {
-            Ok(node) => (Some(Ok(node)), Ok(())),
-            Err((kept, refusal)) => (Some(Err(kept)), Err(refusal)),
-        },
-        other => (other, Err(Refusal::Down)),
-    };
-    *place = node;
-    said?;
-    Ok(push_node(text, place)?)
 }
 
 fn fetch_request(epoch: Epoch, offset: Offset) -> FetchRequest {
@@ -219,6 +162,16 @@ fn fetch_request(epoch: Epoch, offset: Offset) -> FetchRequest {
     }
 }
 
+fn epoch_request(epoch: Epoch, last_epoch: Option<Epoch>) -> EpochRequest {
+    EpochRequest {
+        from: 1,
+        to: 0,
+        life: 0,
+        epoch,
+        last_epoch,
+    }
+}
+
 fn forge(alloc: Global, batches: Batches) -> Result<Vec<Batch>, Refusal> {
     let mut forged = Vec::new(alloc);
     for (base, epoch, word) in batches {
@@ -228,12 +181,14 @@ fn forge(alloc: Global, batches: Batches) -> Result<Vec<Batch>, Refusal> {
 }
 
 impl Play {
+    ghost use Rattle.kp_replica.specs.Acts.{HandsMarker};
+
     // So many idle nodes with empty logs. There is room for 32 messages.
     fn new(alloc: Global, count: NodeId) -> Result<Play, Refusal> {
         let count = count.min(7);
         let mut nodes = Vec::new(alloc);
         for number in 0..count {
-            nodes.push(Some(Ok(Replica::new(alloc, number, &LIMITS))))?;
+            nodes.push(Broker::new(alloc, number, &LIMITS))?;
         }
         Ok(Play {
             record: LeaderAndIsr::initial(count),
@@ -249,71 +204,74 @@ impl Play {
         Ok(push_record(text, &record)?)
     }
 
-    fn send(&mut self, text: &mut String, letter: MessageBody) -> Result<(), Refusal> {
+    fn send(&mut self, text: &mut String, body: MessageBody) -> Result<(), Refusal> {
         write!(text, "sent {} ", self.mail.len())?;
-        push_letter(text, &letter)?;
-        Ok(self.mail.push(letter)?)
+        push_body(text, &body)?;
+        Ok(self.mail.push(body)?)
     }
 
-    fn serve_fetch(
+    // What came of it is carried out, and told.
+    fn tell(&mut self, text: &mut String, node: NodeId, effect: Effect) -> Result<(), Refusal> {
+        match effect {
+            Effect::Answers(answer) => {
+                let broker = broker(&mut self.nodes, node)?;
+                Ok(push_answer(text, broker, &answer)?)
+            }
+            Effect::Sends(body) => self.send(text, body),
+            Effect::Changes(record) => self.change(text, record),
+        }
+    }
+
+    fn act(
         &mut self,
         alloc: Global,
         text: &mut String,
-        request: &FetchRequest,
-    ) -> Result<(), Refusal> {
-        let answer = up(&mut self.nodes, request.to)?.serve_fetch(alloc, request)?;
-        self.send(text, MessageBody::FetchAnswer(answer))
+        node: NodeId,
+        act: Act,
+    ) -> Result<(), Refusal>
+        requires { HandsMarker act }
+    {
+        let effect = broker(&mut self.nodes, node)?.act(alloc, &self.record, act)?;
+        self.tell(text, node, effect)
     }
 
-    fn serve_epoch(&mut self, text: &mut String, request: &EpochRequest) -> Result<(), Refusal> {
-        let answer = up(&mut self.nodes, request.to)?.serve_epoch(request)?;
-        self.send(text, MessageBody::EpochAnswer(answer))
+    fn receive(
+        &mut self,
+        alloc: Global,
+        text: &mut String,
+        body: &MessageBody,
+    ) -> Result<(), Refusal> {
+        let node = body.addressee();
+        let effect = broker(&mut self.nodes, node)?.receive(alloc, &self.record, body)?;
+        self.tell(text, node, effect)
     }
 
     fn deliver(&mut self, alloc: Global, text: &mut String, number: usize) -> Result<(), Refusal> {
-        match self.mail.get(number) {
-            Some(MessageBody::FetchRequest(request)) => {
-                let request = *request;
-                self.serve_fetch(alloc, text, &request)
-            }
-            Some(MessageBody::EpochRequest(request)) => {
-                let request = *request;
-                self.serve_epoch(text, &request)
-            }
-            Some(MessageBody::FetchAnswer(answer)) => take_fetch(text, &mut self.nodes, answer),
-            Some(MessageBody::EpochAnswer(answer)) => {
-                let node = up(&mut self.nodes, answer.request.from)?;
-                take_epoch(text, node, answer, &self.record)
-            }
-            None => Err(Refusal::BadCount),
-        }
+        let Some(body) = self.mail.get(number) else {
+            return Err(Refusal::BadCount);
+        };
+        let node = body.addressee();
+        let effect = broker(&mut self.nodes, node)?.receive(alloc, &self.record, body)?;
+        self.tell(text, node, effect)
     }
 
     // What the leader makes of the record that it knows is what it said before that it would make.
-    fn alter(&mut self, text: &mut String, node: NodeId, change: IsrChange) -> Result<(), Refusal> {
-        let leader = up(&mut self.nodes, node)?;
-        let foreseen = leader.would_alter(change);
-        let made = leader.alter(change, &self.record)?;
-        if foreseen? != made {
+    fn alter(
+        &mut self,
+        alloc: Global,
+        text: &mut String,
+        node: NodeId,
+        change: IsrChange,
+    ) -> Result<(), Refusal> {
+        let foreseen = match broker(&mut self.nodes, node)? {
+            Broker::Up(replica) => replica.would_alter(change),
+            Broker::Down(kept) => Err(kept.refusal()),
+        };
+        self.act(alloc, text, node, Act::Plain(PlainAct::Alter { change }))?;
+        if foreseen? != self.record {
             return Err(Refusal::BadCount);
         }
-        self.change(text, made)
-    }
-
-    fn find_end(
-        &mut self,
-        text: &mut String,
-        epoch: Epoch,
-        last_epoch: Option<Epoch>,
-    ) -> Result<(), Refusal> {
-        let request = EpochRequest {
-            from: 1,
-            to: 0,
-            life: 0,
-            epoch,
-            last_epoch,
-        };
-        self.serve_epoch(text, &request)
+        Ok(())
     }
 
     // Makes the call, and appends what it answers.
@@ -327,40 +285,34 @@ impl Play {
                 let before = self.before;
                 self.change(text, before)
             }
-            Call::Adopt(node) => {
-                let role = up(&mut self.nodes, *node)?.adopt(&self.record)?;
-                Ok(push_role(text, role)?)
-            }
+            Call::Adopt(node) => self.act(alloc, text, *node, Act::Plain(PlainAct::Adopt)),
             Call::Append(node, word) => {
-                let receipt = up(&mut self.nodes, *node)?.produce(bytes_of(alloc, word)?)?;
-                Ok(write!(text, "at {}", receipt.base)?)
+                let bytes = bytes_of(alloc, word)?;
+                self.act(alloc, text, *node, Act::Produce { bytes })
             }
-            Call::Ask(node) => {
-                let letter = up(&mut self.nodes, *node)?.ask()?;
-                self.send(text, letter)
-            }
+            Call::Ask(node) => self.act(alloc, text, *node, Act::Plain(PlainAct::Ask)),
             Call::Deliver(number) => self.deliver(alloc, text, *number),
             Call::Fetch(epoch, offset) => {
-                self.serve_fetch(alloc, text, &fetch_request(*epoch, *offset))
+                let request = fetch_request(*epoch, *offset);
+                self.receive(alloc, text, &MessageBody::FetchRequest(request))
             }
-            Call::FindEnd(epoch, last) => self.find_end(text, *epoch, *last),
+            Call::FindEnd(epoch, last) => {
+                let request = epoch_request(*epoch, *last);
+                self.receive(alloc, text, &MessageBody::EpochRequest(request))
+            }
             Call::Take((epoch, offset), batches, watermark) => {
                 let request = fetch_request(*epoch, *offset);
                 let answer = FetchAnswer::new(request, forge(alloc, batches)?, *watermark)?;
-                take_fetch(text, &mut self.nodes, &answer)
+                self.receive(alloc, text, &MessageBody::FetchAnswer(answer))
             }
-            Call::Raise(node) => {
-                let watermark = up(&mut self.nodes, *node)?.raise()?;
-                Ok(write!(text, "mark {watermark}")?)
-            }
-            Call::Alter(node, change) => self.alter(text, *node, *change),
+            Call::Raise(node) => self.act(alloc, text, *node, Act::Plain(PlainAct::Raise)),
+            Call::Alter(node, change) => self.alter(alloc, text, *node, *change),
             Call::Checkpoint(node) => {
-                let checkpoint = up(&mut self.nodes, *node)?.checkpoint();
-                Ok(write!(text, "checkpoint {checkpoint}")?)
+                self.act(alloc, text, *node, Act::Plain(PlainAct::Checkpoint))
             }
-            Call::Stop(node) => stop(text, place(&mut self.nodes, *node)?),
-            Call::Restart(node) => restart(alloc, text, place(&mut self.nodes, *node)?),
-            Call::Show(node) => Ok(push_node(text, place(&mut self.nodes, *node)?)?),
+            Call::Stop(node) => self.act(alloc, text, *node, Act::Plain(PlainAct::Stop)),
+            Call::Restart(node) => self.act(alloc, text, *node, Act::Plain(PlainAct::Restart)),
+            Call::Show(node) => Ok(push_node(text, broker(&mut self.nodes, *node)?)?),
         }
     }
 

@@ -2,22 +2,26 @@
 
 use crate::shown::{is, unhex};
 use kp_control::{Leader, LeaderAndIsr, NodeSet};
-use kp_replica::{Receipt, Role};
+use kp_replica::{Answer, PlainAct, Receipt, Role, Shown};
 use kp_script::{Call, Line, push_trace};
 use kp_types::Refusal;
-use kp_world::{Answer, ReadRecords};
+use kp_visible::ReadRecords;
+use kp_world::EventAnswer;
 use std::alloc::{AllocError, Global};
 
 // The text of a trace of events that show node 5, the first in line 2.
 pub(crate) fn trace_of(
     alloc: Global,
-    outcomes: &[Result<Answer, Refusal>],
+    outcomes: &[Result<EventAnswer, Refusal>],
 ) -> Result<String, Refusal> {
     let mut lines = Vec::new(alloc);
     for number in 0..outcomes.len() {
         lines.push(Line {
             number: number as u64 + 2,
-            call: Call::Show { node: 5 },
+            call: Call::Acts {
+                node: 5,
+                act: PlainAct::Show,
+            },
         })?;
     }
     if lines.len() != outcomes.len() {
@@ -32,11 +36,11 @@ pub(crate) fn trace_of(
 }
 
 // The controller's record with or without a leader.
-fn changed(leader: Option<Leader>, members: [bool; 7]) -> Result<Answer, Refusal> {
+fn changed(leader: Option<Leader>, members: [bool; 7]) -> Result<EventAnswer, Refusal> {
     if leader.is_some_and(|leader| leader.node > 6 || leader.epoch > 16_777_214) {
         return Err(Refusal::RecordFull);
     }
-    Ok(Answer::Changed(LeaderAndIsr {
+    Ok(EventAnswer::Changed(LeaderAndIsr {
         leader,
         isr: NodeSet { members },
         version: 12,
@@ -60,12 +64,12 @@ fn a_trace_tells_records_of_seven_nodes(rt: HostRuntime) {
     is(&rt, trace_of(rt.alloc(), &[]), "");
 }
 
-fn follows(leader: u8, epoch: u32, fetching: bool) -> Result<Answer, Refusal> {
-    Ok(Answer::Adopted(Role::Follows {
+fn follows(leader: u8, epoch: u32, fetching: bool) -> Result<EventAnswer, Refusal> {
+    Ok(EventAnswer::Answered(Answer::Adopted(Role::Follows {
         leader,
         epoch,
         fetching,
-    }))
+    })))
 }
 
 // Records from offset 9 on: null, empty, and these bytes.
@@ -75,6 +79,10 @@ fn lines_read(alloc: Global) -> Result<ReadRecords, AllocError> {
     lines.push(10, Some(b""))?;
     lines.push(11, Some(unhex(alloc, "000f10abff")?.as_slice()))?;
     Ok(lines)
+}
+
+fn answered(answer: Answer) -> Result<EventAnswer, Refusal> {
+    Ok(EventAnswer::Answered(answer))
 }
 
 fn answers(alloc: Global) -> Result<String, Refusal> {
@@ -87,15 +95,15 @@ fn answers(alloc: Global) -> Result<String, Refusal> {
     let outcomes = [
         follows(0, 0, true),
         follows(2, 7, false),
-        Ok(Answer::Adopted(Role::Leads { epoch: 9, start: 4 })),
-        Ok(Answer::Appended(receipt)),
-        Ok(Answer::Shown {
+        answered(Answer::Adopted(Role::Leads { epoch: 9, start: 4 })),
+        answered(Answer::Appended(receipt)),
+        answered(Answer::Shown(Shown {
             life: 1,
             end: 20,
             watermark: 18,
             stable: 15,
-        }),
-        Ok(Answer::Lines(lines_read(alloc)?)),
+        })),
+        answered(Answer::Lines(lines_read(alloc)?)),
         Err(Refusal::StaleRecord),
     ];
     trace_of(alloc, &outcomes)

@@ -13,7 +13,8 @@ pub use counted::Counted;
 pub use faulty::{Faulty, FaultyFolder};
 pub use folder::Folder;
 pub use limits::{
-    Epoch, GREATEST_EPOCH, GREATEST_OFFSET, GREATEST_SEGMENT_BYTES, GREATEST_VERSION,
-    LEAST_SEGMENT_BYTES, Limits, MAX_BATCH, MAX_INDEX_INTERVAL, MOST_NODES, NodeId, Offset,
+    Epoch, GREATEST_EPOCH, GREATEST_INT32, GREATEST_OFFSET, GREATEST_SEGMENT_BYTES,
+    GREATEST_VERSION, LEAST_SEGMENT_BYTES, Limits, MAX_BATCH, MAX_INDEX_INTERVAL, MOST_NODES,
+    NODE_PLACES, NodeId, Offset, SEQUENCES,
 };
 pub use refusal::Refusal;

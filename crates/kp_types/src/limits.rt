@@ -22,6 +22,16 @@ pub const GREATEST_VERSION: u32 = 268_435_455;
 /// The most nodes of one partition (own rule).
 pub const MOST_NODES: NodeId = 7;
 
+/// The length of a list with a place for each node.
+pub const NODE_PLACES: usize = MOST_NODES as usize;
+
+/// The greatest number of a signed field of four bytes, as a length, a count or a coordinator's epoch has it, 2^31 - 1.
+/// (Kafka protocol guide.)
+pub const GREATEST_INT32: u32 = 2_147_483_647;
+
+/// How many sequence numbers a producer has, 2^31: they go from 2147483647 to 0. (KIP-98.)
+pub const SEQUENCES: u32 = 2_147_483_648;
+
 /// The most bytes of a batch that scripts and the program allow.
 pub const MAX_BATCH: u32 = 1_048_576;
 

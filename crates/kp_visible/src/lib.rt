@@ -22,9 +22,9 @@ ghost use Rattle.kp_visible.specs.Laws.{AbortedRecordsAreHidden, AbortedRecordsW
 
 use crate::near::Nearby;
 pub use committed::CommittedRecords;
-pub use lines::{ReadRecord, ReadRecords, push_committed, push_lines};
 use kp_batch::Batch;
 use kp_txns::AbortedTransaction;
+pub use lines::{ReadRecord, ReadRecords, push_committed, push_lines};
 
 /// What a read-committed consumer sees of these batches, by a list of aborted transactions (KIP-98). Control batches are
 /// passed over. Data that isn't transactional is shown. For a transactional batch, of the transactions that end above its

@@ -120,7 +120,11 @@ impl World {
 
     /// The message of this number comes to the node to which it goes; F29 where no message has it. An `Err` says that there
     /// was no room for a message more, and nothing has happened.
-    fn deliver(&mut self, alloc: Global, number: u64) -> Result<Result<EventAnswer, Refusal>, AllocError>
+    fn deliver(
+        &mut self,
+        alloc: Global,
+        number: u64,
+    ) -> Result<Result<EventAnswer, Refusal>, AllocError>
         ensures step { IfOk result (λ outcome. (limits : LogLimits)
             → LeadOn limits self.old (ModelDeliver number ∷ []) (outcome ∷ []) self.new) }
         ensures err { OnErr result (self.new ≡ self.old) }
@@ -166,7 +170,11 @@ impl World {
     }
 
     /// Makes the event happen. An `Err` says that there was no room for a message, and nothing has happened.
-    fn step(&mut self, alloc: Global, event: Event) -> Result<Result<EventAnswer, Refusal>, AllocError>
+    fn step(
+        &mut self,
+        alloc: Global,
+        event: Event,
+    ) -> Result<Result<EventAnswer, Refusal>, AllocError>
         requires node { IsAmong (length self.old.nodes) event }
         requires marker { HasMarker event }
         ensures step { IfOk result (λ outcome. (limits : LogLimits) (e : ModelEvent)

@@ -11,15 +11,15 @@ pub returns-then-after-eq0-clause-read : goal.returns-then-after-eq0-clause-read
 returns-then-after-eq0-clause-read c = λ r range is.
     let f = fields r c.args.word range is in
     told r _ (sym (without_leader r c.args.word range f c.if-node-eq-NO_LEADER.true))
-    (set_one c.of_bits-isr.result.members r.isr c.of_bits-isr.ensures.seven range.isr (c.of_bits-isr.ensures.value ∙ f.set)) f.version
+    (set_one c.of_bits-isr.result.members r.isr c.of_bits-isr.ensures.places range.isr (c.of_bits-isr.ensures.value ∙ f.set)) f.version
 
-pub returns-then-node-ge7-clause-read : goal.returns-then-node-ge7-clause-read
-returns-then-node-ge7-clause-read c = λ r range is.
+pub returns-then-node-clause-read : goal.returns-then-node-clause-read
+returns-then-node-clause-read c = λ r range is.
     let f = fields r c.args.word range is in
-    no_other r c.args.word range f c.else-node-eq-NO_LEADER.either c.then-node-ge7.either
+    no_other r c.args.word range f c.else-node-eq-NO_LEADER.either c.then-node.either
 
 pub returns-clause-read : goal.returns-clause-read
 returns-clause-read c = λ r range is.
     let f = fields r c.args.word range is in
-    told r _ (sym (with_leader r c.args.word f (omega (arith, c.if-node-ge7.false))))
-    (set_one c.of_bits-isr.result.members r.isr c.of_bits-isr.ensures.seven range.isr (c.of_bits-isr.ensures.value ∙ f.set)) f.version
+    told r _ (sym (with_leader r c.args.word f (omega (arith, c.if-node.false))))
+    (set_one c.of_bits-isr.result.members r.isr c.of_bits-isr.ensures.places range.isr (c.of_bits-isr.ensures.value ∙ f.set)) f.version
