@@ -1,21 +1,22 @@
 -- What comes of what a node did.
-use Rattle.std.proofs.Common.{◌≡◌, ◌≤◌, ℕ, [], ◌∷◌, Option, None, Result, Ok, Err, MatchResult, refl, sym, ap, ◌∙◌, subst}
+use Rattle.std.proofs.Common.{◌≡◌, ◌≤◌, ℕ, true, [], ◌∷◌, Option, None, Result, Ok, Err, MatchResult, refl, sym, ap, ◌∙◌, subst}
 use Rattle.std.specs.Prelude.{IsOkAnd, IfOk, IfErr, is_some}
 use Rattle.std.proofs.lemmas.Bool.{false≢true}
 use Rattle.kp_types.specs.declared.refusal.Refusal.{Refusal}
 use Rattle.kp_model.specs.Laws.{place_of}
 use Rattle.kp_model.specs.Log.{IsLog, IsKin}
-use Rattle.kp_model.specs.World.{LeaderAndIsr, Answer as ModelAnswer, Message, Asks, Answers as AnswersOf}
+use Rattle.kp_model.specs.World.{LeaderAndIsr, Node, Answer as ModelAnswer, Message, Asks, Answers as AnswersOf}
 use Rattle.kp_model.specs.declared.message.EpochAnswer.{EpochAnswer}
-use Rattle.kp_model.proofs.Letters.{asks_for}
+use Rattle.kp_model.specs.declared.message.FetchRequest.{FetchRequest}
+use Rattle.kp_model.proofs.Letters.{asks_for, asks_from}
 use Rattle.kp_model.specs.Calls.{sent_reply}
 use Rattle.kp_model.specs.Event.{Act, Receive, Reply, Refused}
-use Rattle.kp_model.specs.Letter.{Letter, epoch_end_answer, letter, letter_of}
+use Rattle.kp_model.specs.Letter.{Letter, epoch_end_answer, fetch_request, letter, letter_of}
 use Rattle.kp_model.specs.Local.{becomes, sends, cut_cause}
 use Rattle.kp_model.specs.declared.message.MessageBody.{MessageBody}
 use Rattle.kp_control.specs.declared.record.LeaderAndIsr.{LeaderAndIsr as Record}
 use Rattle.kp_model.specs.Event as model
-use Rattle.kp_replica.specs.Acts.{Comes, Fits, FitsPlain, NamesIn, IsOfRun, Looks, answer_reply, answered_reply, plain_act}
+use Rattle.kp_replica.specs.Acts.{Comes, Fits, FitsPlain, NamesIn, IsOfRun, Looks, TakesNoMemory, answer_reply, answered_reply, plain_act}
 use Rattle.kp_replica.specs.Adopting.{IsWithin}
 use Rattle.kp_replica.specs.Altering.{Alters, altering_effect, change_act}
 use Rattle.kp_replica.specs.declared.act.Act.{Act as CodeAct}
@@ -178,7 +179,7 @@ epoch_came c shown old new answer (AnswersOf a) reply is under of event =
 
 -- what an act answers names a batch of the log that is left
 plain_stands : (act : PlainAct) (new : NumberedNode) (e : Effect) → FitsPlain act new e → NamesIn new.state.log (Ok e)
-plain_stands (acts.Mark marker) new e fits =
+plain_stands (acts.Mark handed) new e fits =
     let r = fits.2 in
     subst (λ (x : Effect). NamesIn new.state.log (Ok x)) (sym fits.1) (r.batch, r.stands, r.named)
 plain_stands acts.Stop new e fits = subst (λ (x : Effect). NamesIn new.state.log (Ok x)) (sym fits) tt
@@ -191,3 +192,34 @@ receipt_stands (Produce bytes) old new (Ok e) fits =
     let r = fits.2 in
     subst (λ (x : Effect). NamesIn new.state.log (Ok x)) (sym fits.1) (r.batch, r.stands, r.named)
 receipt_stands (Plain act) old new (Ok e) fits = plain_stands act new e fits
+
+-- ---- what takes no memory
+
+pub same_err : {A : Type 0} (r s : Refusal) → (let x : Result A Refusal = Err r in x) ≡ Err s → r ≡ s
+same_err r s e = cc
+
+-- no answer does
+pub takes_answering : (x : Node) (m : Message) (l : Letter) → letter_of m ≡ l → is_some l.answering ≡ true → TakesNoMemory x (Receive m) → ⊥
+takes_answering x (Asks q) l is answers takes = false≢true (ap (λ (k : Letter). is_some k.answering) is ∙ answers)
+takes_answering x (AnswersOf a) l is answers takes = takes
+
+-- nor does a fetch request
+pub takes_fetching : (x : Node) (m : Message) (request : FetchRequest) → letter_of m ≡ fetch_request request → TakesNoMemory x (Receive m) → ⊥
+takes_fetching x (Asks q) request is takes =
+    false≢true (sym takes ∙ (asks_from q request.offset (ap (λ (l : Letter). l.asking) is)).fetching)
+takes_fetching x (AnswersOf a) request is takes = takes
+
+-- of what a node is asked for without bytes an ask alone does
+pub plain_takes : (x : Node) (act : PlainAct) → TakesNoMemory x (plain_act act) → act ≡ acts.Ask
+plain_takes x acts.Ask takes = refl
+plain_takes x acts.Adopt takes = absurd takes
+plain_takes x (acts.Mark handed) takes = absurd takes
+plain_takes x acts.Raise takes = absurd takes
+plain_takes x (acts.Alter (changes.Join m)) takes = absurd takes
+plain_takes x (acts.Alter (changes.Leave m)) takes = absurd takes
+plain_takes x acts.Checkpoint takes = absurd takes
+plain_takes x acts.Stop takes = absurd takes
+plain_takes x acts.Restart takes = absurd takes
+plain_takes x acts.Show takes = absurd takes
+plain_takes x (acts.Read from) takes = absurd takes
+plain_takes x (acts.Committed from) takes = absurd takes

@@ -1,13 +1,13 @@
 -- What a node does and what comes of it, as the definitions' acts, effects and replies.
-use Rattle.std.specs.Prelude.{◌≡◌, ℕ, ◌<◌, ◌≤◌, ◌^◌, IsFalse, List, [], ◌∷◌, map, None, Result, Ok, Err, Contains}
+use Rattle.std.specs.Prelude.{◌≡◌, ℕ, ◌≤◌, IsFalse, List, [], ◌∷◌, map, None, Result, Ok, Err, Contains}
 use Rattle.kp_types.specs.declared.refusal.Refusal.{Refusal}
 use Rattle.kp_record.specs.Record.{AreBytes}
-use Rattle.kp_batch.specs.Batch.{Body}
-use Rattle.kp_marker.specs.declared.parts.Marker.{Marker}
+use Rattle.kp_batch.specs.Batch.{Body, IsBody}
 use Rattle.kp_model.specs.Event as model
 use Rattle.kp_model.specs.Event.{Act as ModelAct, Line, Receive, Reply, Refused}
 use Rattle.kp_model.specs.Log.{Batch, IsLog, IsKin}
-use Rattle.kp_model.specs.World.{LeaderAndIsr, Answers as AnswersOf}
+use Rattle.kp_model.specs.Admission.{admit, Duplicate}
+use Rattle.kp_model.specs.World.{LeaderAndIsr, Node, Asks, Answers as AnswersOf}
 use Rattle.kp_model.specs.Letter.{Letter, letter, letter_of}
 use Rattle.kp_model.specs.Calls.{sent_reply}
 use Rattle.kp_model.specs.Local.{Effect as ModelEffect, Local, cut_cause}
@@ -36,7 +36,7 @@ use Rattle.kp_replica.specs.declared.reading.Shown.{Shown}
 -- an act that is handed no bytes
 abbrev pub plain_act : PlainAct → ModelAct
 plain_act Adopt = model.Adopt
-plain_act (Mark marker) = mark_of marker
+plain_act (Mark handed) = mark_of handed.marker
 plain_act Ask = model.Ask
 plain_act Raise = model.Raise
 plain_act (Alter change) = change_act change
@@ -63,21 +63,13 @@ abbrev pub HandsBytes : Act → Type 0
 HandsBytes (Produce bytes) = AreBytes bytes
 HandsBytes _ = Unit {0}
 
--- the fields of a marker lie in their ranges (Kafka protocol guide, 'Record Batch' and 'Control Batch')
-pub record IsInRange (m : Marker) : Type 0 where
-  pub producer : m.producer_id < 2 ^ 63
-  pub epoch : m.producer_epoch < 2 ^ 15
-  pub coordinator : m.coordinator_epoch < 2 ^ 31
-  pub time : m.timestamp < 2 ^ 62
-
--- where a marker is handed in, its fields do
-abbrev pub HasLawfulMarker : PlainAct → Type 0
-HasLawfulMarker (Mark marker) = IsInRange marker
-HasLawfulMarker _ = Unit {0}
-
-abbrev pub HandsMarker : Act → Type 0
-HandsMarker (Plain act) = HasLawfulMarker act
-HandsMarker _ = Unit {0}
+-- What takes no memory, so that it is never refused for want of it: an ask, a batch that comes twice, and a request for the
+-- end of a leader epoch (own rule).
+abbrev pub TakesNoMemory : Node → ModelAct → Type 0
+TakesNoMemory x model.Ask = Unit {0}
+TakesNoMemory x (model.Produce (Ok body)) = IsBody body × (base : ℕ) × (admit x.log body.content ≡ Duplicate base)
+TakesNoMemory x (Receive (Asks request)) = IsFalse request.fetching
+TakesNoMemory x _ = ⊥
 
 -- ---- what comes of them
 
@@ -163,8 +155,8 @@ IsAppended old new bytes e =
 -- What comes of another act that isn't refused.
 abbrev pub FitsPlain : PlainAct → NumberedNode → Effect → Type 0
 FitsPlain Adopt new e = (role : Role) × (e ≡ Answers (answers.Adopted role))
-FitsPlain (Mark marker) new e =
-    (receipt : Receipt) × (e ≡ Answers (answers.Appended receipt)) × IsReceiptOfBody (body_of marker) new.state.log receipt
+FitsPlain (Mark handed) new e =
+    (receipt : Receipt) × (e ≡ Answers (answers.Appended receipt)) × IsReceiptOfBody (body_of handed.marker) new.state.log receipt
 FitsPlain Ask new e = (body : MessageBody) × (e ≡ Sends body)
 FitsPlain Raise new e = (watermark : ℕ) × (e ≡ Answers (answers.Watermark watermark))
 FitsPlain (Alter change) new e = (made : Record) × (e ≡ Changes made)

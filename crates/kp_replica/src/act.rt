@@ -8,7 +8,7 @@ use crate::reading::Shown;
 use crate::taking::Taken;
 use kp_batch::Handed;
 use kp_control::LeaderAndIsr;
-use kp_marker::Marker;
+use kp_marker::HandedMarker;
 use kp_model::MessageBody;
 use kp_types::Offset;
 use kp_visible::ReadRecords;
@@ -18,9 +18,8 @@ use kp_visible::ReadRecords;
 pub enum PlainAct {
     /// It takes up the controller's record.
     Adopt,
-    /// A transaction coordinator hands it this marker, to be appended. Its fields lie in their ranges: `producer_id`
-    /// below 2^63, `producer_epoch` below 2^15, `coordinator_epoch` below 2^31, `timestamp` below 2^62. (KIP-98.)
-    Mark { marker: Marker },
+    /// A transaction coordinator hands it this marker, to be appended. (KIP-98.)
+    Mark { marker: HandedMarker },
     /// It asks the leader that it follows.
     Ask,
     /// It raises its high watermark, as far as it may.

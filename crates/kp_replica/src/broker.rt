@@ -86,8 +86,10 @@ fn restarted(broker: Broker, alloc: Global) -> (Broker, Result<Answer, Refusal>)
 }
 
 impl Broker {
-    ghost use Rattle.std.specs.Prelude.{◌≡◌, IfOk, Result};
+    ghost use Rattle.std.specs.Prelude.{◌≡◌, ◌≢◌, IfOk, Result};
     ghost use Rattle.kp_types.specs.declared.refusal.Refusal.{Refusal};
+    ghost use Rattle.kp_types.specs.declared.refusal.Refusal.TheVariants.{Memory};
+    ghost use Rattle.kp_replica.specs.declared.act.PlainAct.TheVariants.{Ask};
     ghost use Rattle.kp_batch.specs.Batch.{Body};
     ghost use Rattle.kp_model.specs.Event.{Act as ModelAct, Produce, Receive, Restart, Stop};
     ghost use Rattle.kp_model.specs.Letter.{fetch_answer, letter, letter_of};
@@ -95,7 +97,7 @@ impl Broker {
     ghost use Rattle.kp_model.specs.Calls.{ForLetter};
     ghost use Rattle.kp_model.specs.World.{LeaderAndIsr as ModelRecord, Message, fresh};
     ghost use Rattle.kp_control.specs.Set.{record_of};
-    ghost use Rattle.kp_replica.specs.Acts.{Acts, Fits, FitsPlain, HandsMarker, HasLawfulMarker, IsAct, IsAppended, IsRestarted, answered_reply, plain_act};
+    ghost use Rattle.kp_replica.specs.Acts.{Acts, Fits, FitsPlain, IsAct, IsAppended, IsRestarted, TakesNoMemory, answered_reply, plain_act};
     ghost use Rattle.kp_replica.specs.declared.act.Answer.TheVariants.{Stopped as IsStopped};
     ghost use Rattle.kp_replica.specs.Broker.{node_at};
     ghost use Rattle.kp_replica.specs.NumberedNode.{Does};
@@ -173,6 +175,9 @@ impl Broker {
         ensures acts { (shown : ModelRecord) (offer : Result Body Refusal)
             → IsOffer (node_at self.old).limits.max_batch bytes offer
             → Acts shown (node_at self.old) (node_at self.new) (Produce offer) result }
+        ensures spared { (offer : Result Body Refusal)
+            → IsOffer (node_at self.old).limits.max_batch bytes offer
+            → TakesNoMemory (node_at self.old).state (Produce offer) → result ≢ Err Memory }
         ensures fits { IfOk result (IsAppended (node_at self.old) (node_at self.new) bytes) }
     {
         match self {
@@ -191,9 +196,9 @@ impl Broker {
         controller: &LeaderAndIsr,
         act: PlainAct,
     ) -> Result<Effect, Refusal>
-        requires { HasLawfulMarker act }
         ensures acts { Acts (record_of controller.now) (node_at self.old) (node_at self.new)
             (plain_act act) result }
+        ensures spared { act ≡ Ask → result ≢ Err Memory }
         ensures fits { IfOk result (FitsPlain act (node_at self.new)) }
     {
         let replica = match self {
@@ -233,9 +238,10 @@ impl Broker {
         controller: &LeaderAndIsr,
         act: Act,
     ) -> Result<Effect, Refusal>
-        requires { HandsMarker act }
         ensures acts { (a : ModelAct) → IsAct (node_at self.old).limits.max_batch act a
             → Acts (record_of controller.now) (node_at self.old) (node_at self.new) a result }
+        ensures spared { (a : ModelAct) → IsAct (node_at self.old).limits.max_batch act a
+            → TakesNoMemory (node_at self.old).state a → result ≢ Err Memory }
         ensures fits { IfOk result (Fits act (node_at self.old) (node_at self.new)) }
     {
         match act {
@@ -253,8 +259,10 @@ impl Broker {
         controller: &LeaderAndIsr,
         body: &MessageBody,
     ) -> Result<Effect, Refusal>
-        ensures { (m : Message) → letter_of m ≡ letter body.now
+        ensures acts { (m : Message) → letter_of m ≡ letter body.now
             → Acts (record_of controller.now) (node_at self.old) (node_at self.new) (Receive m) result }
+        ensures spared { (m : Message) → letter_of m ≡ letter body.now
+            → TakesNoMemory (node_at self.old).state (Receive m) → result ≢ Err Memory }
     {
         let replica = match self {
             Broker::Up(replica) => replica,
