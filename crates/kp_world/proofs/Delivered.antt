@@ -1,5 +1,5 @@
 -- What a message that comes leads on to.
-use Rattle.std.proofs.Common.{◌≡◌, ℕ, ◌<◌, ◌≤◌, List, [], ◌∷◌, length, map, set, get_or, None, Some, Option, Result, Err, refl, sym, ap, ◌∙◌, subst, arith, inl, inr}
+use Rattle.std.proofs.Common.{◌≡◌, ◌≢◌, ℕ, ◌<◌, ◌≤◌, List, [], ◌∷◌, length, map, set, get_or, None, Some, Option, Result, Err, refl, sym, ap, ◌∙◌, subst, arith, inl, inr}
 use Rattle.std.specs.Prelude.{slice_get, is_some}
 use Rattle.std.specs.Option.{option_map}
 use Rattle.std.proofs.lemmas.List.{get_or-map, length-map, map-set}
@@ -18,12 +18,12 @@ use Rattle.kp_model.specs.Step.{Delivers, NodeStep, told}
 use Rattle.kp_model.proofs.RunLaws.{last_is_of}
 use Rattle.kp_replica.specs.NumberedNode.{NumberedNode, DoesUnder}
 use Rattle.kp_world.specs.declared.event.EventAnswer.{EventAnswer}
-use Rattle.kp_replica.specs.Acts.{Acts, IsOfRun}
+use Rattle.kp_replica.specs.Acts.{Acts, IsOfRun, TakesNoMemory}
 use Rattle.kp_replica.specs.declared.act.Effect.{Effect}
 use Rattle.kp_world.specs.Answers.{IsTold, outcome_of}
 use Rattle.kp_world.specs.Plays.{LeadOn}
 use Rattle.kp_world.specs.Shown.{IsNode, Stage, next}
-use Rattle.kp_world.proofs.Moved.{stepped}
+use Rattle.kp_world.proofs.Moved.{never_lacks, stepped}
 use Rattle.kp_world.proofs.Playing.{reached_more}
 
 -- the message of this number, where its letter stands in the pool
@@ -68,11 +68,18 @@ of_run keep_logs keep_kin no_cut count r number (Answers a) c x there record_is 
           (subst (λ (y : Node). cut_cause c x.number y a ≡ None) (sym state) free))),
     )
 
+same_message : (m n : Message) → Some m ≡ Some n → m ≡ n
+same_message m n e = cc
+
+never_both : (m : Message) {P : Type 0} → Some m ≡ None → P
+never_both m e = absurd cc
+
 -- the message came to the node to which it goes
 pub delivered : RunsKeepLogs → RunsKeepKin → NoCutBelowTheWatermark → (limits : Limits) (number : ℕ) (l : Letter) (i : ℕ) (stage : Stage) (x m : NumberedNode) (outcome : Result Effect Refusal)
     (telling : Result EventAnswer Refusal) → slice_get stage.letters number ≡ Some l → i ≡ goes_to l → i < length stage.nodes → x ≡ get_or stage.nodes i x → IsTold (length stage.letters) outcome telling
+    → ((message : Message) → letter_of message ≡ l → TakesNoMemory x.state (Receive message) → outcome ≢ Err refusals.Memory)
     → ((message : Message) → letter_of message ≡ l → Acts stage.controller x m (Receive message) outcome) → LeadOn limits stage (Deliver number ∷ []) (telling ∷ []) (next stage i m outcome)
-delivered keep_logs keep_kin no_cut limits number l i stage x m outcome telling is goes_there inside there tells did count before earlier p =
+delivered keep_logs keep_kin no_cut limits number l i stage x m outcome telling is goes_there inside there tells spared did count before earlier p =
     let w = last p.run in
     let c = stage.controller in
     let sent = sent_there w.messages stage.letters number l p.shown.letters_are is in
@@ -83,7 +90,13 @@ delivered keep_logs keep_kin no_cut limits number l i stage x m outcome telling 
     let s = stepped limits i stage x m (Receive message) outcome telling w inside there p.shown (number, sent.there) tells
     (λ number_is. did message sent.letter_is c (λ looks. refl) (of_run keep_logs keep_kin no_cut count p.run number message c x sent.there p.shown.controller_is state)) in
     reached_more count limits before earlier stage _ (Deliver number) telling p s.after
-    (subst (λ (o : Option Message). Delivers w o (outcome_of telling) s.after) (sym sent.there) (subst (λ (k : ℕ). NodeStep w k (Receive message) (outcome_of telling) s.after) here s.step)) tt s.shown
+    (subst (λ (o : Option Message). Delivers w o (outcome_of telling) s.after) (sym sent.there) (subst (λ (k : ℕ). NodeStep w k (Receive message) (outcome_of telling) s.after) here s.step)) tt
+    (λ (k, is_there, takes).
+    let same : k ≡ message = same_message k message (sym is_there ∙ sent.there) in
+    let at : addressee k ≡ i = ap addressee same ∙ sym here in
+    never_lacks (length stage.letters) outcome telling tells (spared message sent.letter_is
+    (subst (λ (y : Message). TakesNoMemory x.state (Receive y)) same
+    (subst (λ (y : Node). TakesNoMemory y (Receive k)) (ap w.nodes at ∙ old.state) takes)))) s.shown
 
 -- no message has this number
 pub undelivered : (limits : Limits) (number : ℕ) (stage : Stage) → slice_get stage.letters number ≡ None
@@ -91,7 +104,8 @@ pub undelivered : (limits : Limits) (number : ℕ) (stage : Stage) → slice_get
 undelivered limits number stage none count before earlier p =
     let w = last p.run in
     reached_more count limits before earlier stage stage (Deliver number) (Err refusals.StaleAnswer) p w
-    (subst (λ (o : Option Message). Delivers w o (told (Refused refusals.StaleAnswer)) w) (sym (none_there w.messages stage.letters number p.shown.letters_are none)) (refl, refl)) tt p.shown
+    (subst (λ (o : Option Message). Delivers w o (told (Refused refusals.StaleAnswer)) w) (sym (none_there w.messages stage.letters number p.shown.letters_are none)) (refl, refl)) tt
+    (λ (m, there, takes). never_both m (sym there ∙ none_there w.messages stage.letters number p.shown.letters_are none)) p.shown
 
 -- no message of a run goes nowhere
 pub goes_nowhere : MessagesGoToNodes → RunsKeepCount → (limits : Limits) (number : ℕ) (l : Letter) (stage new : Stage) (outcome : Result EventAnswer Refusal) → slice_get stage.letters number ≡ Some l

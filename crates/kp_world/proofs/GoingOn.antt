@@ -1,29 +1,32 @@
 -- Each run goes on: whatever comes next has an answer.
-use Rattle.std.proofs.Common.{◌≡◌, ℕ, Bool, true, false, List, [], ◌∷◌, ◌++◌, Option, Some, None, refl, sym, ap, ◌∙◌, subst, inl, inr, append_assoc, append-nil, arith}
-use Rattle.std.specs.Prelude.{map, not, slice_get, IsFalse}
+use Rattle.std.proofs.Common.{◌≡◌, ◌≢◌, ℕ, Bool, true, false, cond, List, [], ◌∷◌, ◌++◌, Option, Some, None, refl, sym, ap, ◌∙◌, subst, inl, inr, append_assoc, append-nil, arith}
+use Rattle.std.specs.Prelude.{map, length, not, slice_get, unwrap_or, IsFalse, Ok, Err}
+use Rattle.std.proofs.lemmas.Bool.{false≢true}
 use Rattle.std.specs.List.{AllByRecursion}
 use Rattle.std.specs.Option.{option_map_or}
 use Rattle.std.proofs.lemmas.List.{reverse-append}
 use Rattle.kp_types.specs.Causes.{first_of}
 use Rattle.kp_types.specs.declared.refusal.Refusal.{Refusal}
 use Rattle.kp_types.specs.declared.refusal.Refusal.TheVariants as refusals
-use Rattle.kp_model.specs.Log.{end_of}
+use Rattle.kp_batch.specs.Batch.{Body, IsBody}
+use Rattle.kp_model.specs.Admission.{Admission, Append, Duplicate, Refused as NotAdmitted, admit}
+use Rattle.kp_model.specs.Log.{Batch, end_of}
 use Rattle.kp_model.specs.Transactions.{stable}
-use Rattle.kp_model.specs.World.{Leader, LeaderAndIsr, Leading, Mode, Down, Idle, Leads, Follows, Answer, Message, Asks, Answers, Node, World, addressee, with_record}
+use Rattle.kp_model.specs.World.{Leader, LeaderAndIsr, Leading, Mode, Down, Idle, Leads, Follows, Answer, Request, Message, Asks, Answers, Node, World, addressee, with_record}
 use Rattle.kp_model.specs.Event.{Act, Receive, Event, Outcome, Refused, Changed, Shown}
 use Rattle.kp_model.specs.Event as model
 use Rattle.kp_model.specs.Calls.{cut}
 use Rattle.kp_model.specs.Letter.{letter_of}
 use Rattle.kp_model.specs.Laws.{CutIsTheStep, StandsIn, MessagesGoToNodes, NoDeliveryIsRefusedOddly, RunsAreSafe, RunsKeepCount, RunsKeepKin, RunsKeepLogs}
-use Rattle.kp_model.specs.Local.{Adopts, Alters, Effect, Local, LocalBy, Raises, WhereLeads, altered, becomes, cause, elected, is_down, piece, raised, unless_leads, under, with_member, without_member}
+use Rattle.kp_model.specs.Local.{Adopts, Alters, Appends, Effect, Local, LocalBy, Produces, Raises, Serves, WhereFollows, WhereLeads, admission_cause, altered, answer, ask_cause, ask_reply, asked, becomes, cause, elected, epoch_answer, is_down, last_epoch, piece, raised, reported_after, sends, serve_cause, serve_reply, unless_leads, under, with_member, without_member}
 use Rattle.kp_model.specs.Run.{Moment, Run, extend, last}
 use Rattle.kp_model.proofs.Beginnings.{Begins-nil}
 use Rattle.kp_model.proofs.RunLaws.{last_is_of}
-use Rattle.kp_model.proofs.Steps.{lacked_memory, was_refused}
+use Rattle.kp_model.proofs.Steps.{happened, lacked_memory, was_refused}
 use Rattle.kp_model.specs.Step.{Delivers, ElectsBy, IsGiven, NodeStep, Step, answered, elect_cause, moved, told}
-use Rattle.kp_replica.specs.Acts.{IsAsked}
-use Rattle.kp_world.specs.Laws.{MayCome, PlaysGoOn}
-use Rattle.kp_world.specs.Plays.{events_of, outcomes_of}
+use Rattle.kp_replica.specs.Acts.{IsAsked, TakesNoMemory}
+use Rattle.kp_world.specs.Laws.{IsLawful, MayCome, PlaysGoOn}
+use Rattle.kp_world.specs.Plays.{NoneLacks, SparesMemory, events_of, outcomes_of}
 use Rattle.kp_world.proofs.Moved.{given}
 use Rattle.kp_world.proofs.Playing.{all_fit}
 
@@ -33,6 +36,7 @@ record Answering (w : World) (e : Event) : Type 0 where
   after : World
   step : Step w e outcome after
   counted : after.count ≡ w.count
+  spared : SparesMemory w e → outcome.reply ≢ Refused refusals.Memory
 
 record Elects (o : Option Refusal) (w : World) (n : ℕ) : Type 0 where
   outcome : Outcome
@@ -74,49 +78,195 @@ adopts c n x d f (Some l) none =
     let role = under c l n x.log in
     (becomes c (record x { mode = role.0 }) role.1, refl)
 
+-- ---- what is done for what takes no memory
+
+same_refusal : (r s : Refusal) → Refused r ≡ Refused s → r ≡ s
+same_refusal r s e = cc
+
+ask_spared : (mode : Mode) → ask_cause mode ≢ Some refusals.Memory
+ask_spared Down e = cc
+ask_spared Idle e = cc
+ask_spared (Leads l) e = cc
+ask_spared (Follows f) e = cc
+
+leads_spared : (mode : Mode) → unless_leads mode (λ l. None) ≢ Some refusals.Memory
+leads_spared Down e = cc
+leads_spared Idle e = cc
+leads_spared (Leads l) e = cc
+leads_spared (Follows f) e = cc
+
+tests_spared : (low high odd : Bool)
+    → first_of ((low, refusals.FencedLeaderEpoch) ∷ (high, refusals.UnknownLeaderEpoch) ∷ (odd, refusals.OffsetOutOfRange) ∷ []) ≢ Some refusals.Memory
+tests_spared true high odd e = cc
+tests_spared false true odd e = cc
+tests_spared false false true e = cc
+tests_spared false false false e = cc
+
+serve_spared : (mode : Mode) (log : List Batch) (r : Request) → unless_leads mode (serve_cause log r) ≢ Some refusals.Memory
+serve_spared Down log r e = cc
+serve_spared Idle log r e = cc
+serve_spared (Leads l) log r e = tests_spared _ _ _ e
+serve_spared (Follows f) log r e = cc
+
+-- no cause of it is want of memory
+cause_spared : (c : LeaderAndIsr) (n : ℕ) (x : Node) (act : Act) → TakesNoMemory x act → cause c n x act ≢ Some refusals.Memory
+cause_spared c n x model.Ask takes e = ask_spared x.mode e
+cause_spared c n x (model.Produce (Ok body)) (lawful, base, is) e =
+    leads_spared x.mode (subst (λ (a : Admission). unless_leads x.mode (λ l. admission_cause x.log body a) ≡ Some refusals.Memory) is e)
+cause_spared c n x (model.Produce (Err fault)) takes e = takes
+cause_spared c n x (model.Receive (Asks r)) takes e = serve_spared x.mode x.log r e
+cause_spared c n x (model.Receive (Answers a)) takes e = takes
+cause_spared c n x model.Adopt takes e = takes
+cause_spared c n x (model.Mark time producer epoch coordinator commit) takes e = takes
+cause_spared c n x model.Raise takes e = takes
+cause_spared c n x (model.Join member) takes e = takes
+cause_spared c n x (model.Leave member) takes e = takes
+cause_spared c n x model.Checkpoint takes e = takes
+cause_spared c n x model.Stop takes e = takes
+cause_spared c n x model.Restart takes e = takes
+cause_spared c n x model.Show takes e = takes
+cause_spared c n x (model.Read from) takes e = takes
+cause_spared c n x (model.Committed from) takes e = takes
+
+-- an effect of an act, which isn't want of memory where the act takes none
+record Doing (o : Option Refusal) (c : LeaderAndIsr) (n : ℕ) (x : Node) (act : Act) : Type 0 where
+  effect : Effect
+  local : LocalBy o c n x act effect
+  spared : TakesNoMemory x act → effect.reply ≢ Refused refusals.Memory
+
+refuses : (c : LeaderAndIsr) (n : ℕ) (x : Node) (act : Act) (refusal : Refusal) → Some refusal ≡ cause c n x act → Doing (Some refusal) c n x act
+refuses c n x act refusal is = record {
+  effect = becomes c x (Refused refusal);
+  local = refl;
+  spared = λ takes lacks. cause_spared c n x act takes (sym is ∙ ap Some (same_refusal refusal refusals.Memory lacks));
+}
+
+-- who follows asks
+asks : (c : LeaderAndIsr) (n : ℕ) (x : Node) (mode : Mode) → ask_cause mode ≡ None
+    → (e : Effect) × WhereFollows mode (λ f. e ≡ sends c x (Asks (asked n x f)) (ask_reply (asked n x f))) × (e.reply ≢ Refused refusals.Memory)
+asks c n x Down none = absurd cc
+asks c n x Idle none = absurd cc
+asks c n x (Leads l) none = absurd cc
+asks c n x (Follows f) none = (sends c x (Asks (asked n x f)) (ask_reply (asked n x f)), refl, by f.fetching)
+  where
+    by : (b : Bool) → cond b (model.AsksFrom (end_of x.log)) (model.AsksEpoch (unwrap_or (last_epoch x.log) 0)) ≢ Refused refusals.Memory
+    by true e = cc
+    by false e = cc
+
+-- a batch that stands already is answered with its offset
+stands : (c : LeaderAndIsr) (x : Node) (body : Body) (base : ℕ) (mode : Mode) (why : Leading → Option Refusal) → IsBody body → admit x.log body.content ≡ Duplicate base
+    → unless_leads mode why ≡ None → WhereLeads mode (λ l. Produces c x l (Ok body) (becomes c x (model.DuplicateOf base)))
+stands c x body base Down why lawful is none = absurd cc
+stands c x body base Idle why lawful is none = absurd cc
+stands c x body base (Leads l) why lawful is none =
+    (lawful, subst (λ (a : Admission). Appends c x l body a (becomes c x (model.DuplicateOf base))) (sym is) refl)
+stands c x body base (Follows f) why lawful is none = absurd cc
+
+produces : (c : LeaderAndIsr) (n : ℕ) (x : Node) (body : Body) → IsBody body → None ≡ cause c n x (model.Produce (Ok body)) → (a : Admission) → admit x.log body.content ≡ a
+    → Doing None c n x (model.Produce (Ok body))
+produces c n x body lawful is (Duplicate base) a =
+    record { effect = becomes c x (model.DuplicateOf base); local = inl (stands c x body base x.mode _ lawful a (sym is)); spared = λ takes lacks. cc }
+produces c n x body lawful is Append a =
+    record { effect = becomes c x (Refused refusals.Memory); local = inr refl; spared = λ takes lacks. let both : Append ≡ Duplicate takes.1 = sym a ∙ takes.2 in cc }
+produces c n x body lawful is (NotAdmitted refusal) a =
+    record { effect = becomes c x (Refused refusals.Memory); local = inr refl; spared = λ takes lacks. let both : NotAdmitted refusal ≡ Duplicate takes.1 = sym a ∙ takes.2 in cc }
+
 -- what isn't refused happens, or memory is refused
-does : (c : LeaderAndIsr) (n : ℕ) (x : Node) (act : Act) (o : Option Refusal) → o ≡ cause c n x act → IsAsked act → (e : Effect) × LocalBy o c n x act e
-does c n x act (Some refusal) is asked = (becomes c x (Refused refusal), refl)
-does c n x model.Adopt None is asked =
+does : (c : LeaderAndIsr) (n : ℕ) (x : Node) (act : Act) (o : Option Refusal) → o ≡ cause c n x act → IsAsked act → IsLawful act → Doing o c n x act
+does c n x act (Some refusal) is asked lawful = refuses c n x act refusal is
+does c n x model.Adopt None is asked lawful =
     let done = adopts c n x (is_down x.mode) _ c.leader (sym is) in
-    (done.0, inl done.1)
-does c n x (model.Produce offer) None is asked = (becomes c x (Refused refusals.Memory), inr refl)
-does c n x (model.Mark time producer epoch coordinator commit) None is asked = (becomes c x (Refused refusals.Memory), inr refl)
-does c n x model.Ask None is asked = (becomes c x (Refused refusals.Memory), inr refl)
-does c n x (model.Receive m) None is asked = absurd asked
-does c n x model.Raise None is asked =
+    record { effect = done.0; local = inl done.1; spared = λ never. absurd never }
+does c n x (model.Produce (Ok body)) None is asked lawful = produces c n x body lawful is (admit x.log body.content) refl
+does c n x (model.Produce (Err fault)) None is asked lawful =
+    record { effect = becomes c x (Refused refusals.Memory); local = inr refl; spared = λ never. absurd never }
+does c n x (model.Mark time producer epoch coordinator commit) None is asked lawful =
+    record { effect = becomes c x (Refused refusals.Memory); local = inr refl; spared = λ never. absurd never }
+does c n x model.Ask None is asked lawful =
+    let done = asks c n x x.mode (sym is) in
+    record { effect = done.0; local = inl done.1; spared = λ takes. done.2 }
+does c n x (model.Receive m) None is asked lawful = absurd asked
+does c n x model.Raise None is asked lawful =
     let done = raises c n x x.mode (sym is) in
-    (done.0, inl done.1)
-does c n x (model.Join member) None is asked =
+    record { effect = done.0; local = inl done.1; spared = λ never. absurd never }
+does c n x (model.Join member) None is asked lawful =
     let done = alters c x (with_member member) x.mode _ (sym is) in
-    (done.0, inl done.1)
-does c n x (model.Leave member) None is asked =
+    record { effect = done.0; local = inl done.1; spared = λ never. absurd never }
+does c n x (model.Leave member) None is asked lawful =
     let done = alters c x (without_member member) x.mode _ (sym is) in
-    (done.0, inl done.1)
-does c n x model.Checkpoint None is asked = (becomes c (record x { checkpoint = x.watermark }) (model.CheckpointAt x.watermark), inl refl)
-does c n x model.Stop None is asked = (becomes c (record x { mode = Down }) model.Stopped, inl refl)
-does c n x model.Restart None is asked = (becomes c x (Refused refusals.Memory), inr refl)
-does c n x model.Show None is asked = (becomes c x (Shown x.life (end_of x.log) x.watermark (stable x.log x.watermark)), inl refl)
-does c n x (model.Read from) None is asked = (becomes c x (Refused refusals.Memory), inr refl)
-does c n x (model.Committed from) None is asked = (becomes c x (Refused refusals.Memory), inr refl)
+    record { effect = done.0; local = inl done.1; spared = λ never. absurd never }
+does c n x model.Checkpoint None is asked lawful =
+    record { effect = becomes c (record x { checkpoint = x.watermark }) (model.CheckpointAt x.watermark); local = inl refl; spared = λ never. absurd never }
+does c n x model.Stop None is asked lawful =
+    record { effect = becomes c (record x { mode = Down }) model.Stopped; local = inl refl; spared = λ never. absurd never }
+does c n x model.Restart None is asked lawful =
+    record { effect = becomes c x (Refused refusals.Memory); local = inr refl; spared = λ never. absurd never }
+does c n x model.Show None is asked lawful =
+    record { effect = becomes c x (Shown x.life (end_of x.log) x.watermark (stable x.log x.watermark)); local = inl refl; spared = λ never. absurd never }
+does c n x (model.Read from) None is asked lawful =
+    record { effect = becomes c x (Refused refusals.Memory); local = inr refl; spared = λ never. absurd never }
+does c n x (model.Committed from) None is asked lawful =
+    record { effect = becomes c x (Refused refusals.Memory); local = inr refl; spared = λ never. absurd never }
 
-acts_locally : (c : LeaderAndIsr) (n : ℕ) (x : Node) (act : Act) → IsAsked act → (e : Effect) × Local c n x act e
+-- the same, of what a node may do
+record Acting (c : LeaderAndIsr) (n : ℕ) (x : Node) (act : Act) : Type 0 where
+  effect : Effect
+  local : Local c n x act effect
+  spared : TakesNoMemory x act → effect.reply ≢ Refused refusals.Memory
+
+acting : (c : LeaderAndIsr) (n : ℕ) (x : Node) (act : Act) → Doing (cause c n x act) c n x act → Acting c n x act
 unfolding Local
-acts_locally c n x act asked = does c n x act (cause c n x act) refl asked
+acting c n x act done = record { effect = done.effect; local = done.local; spared = done.spared }
 
--- a message that comes: a request meets want of memory, and so does a fetch answer, which leaves the node down
+acts_locally : (c : LeaderAndIsr) (n : ℕ) (x : Node) (act : Act) → IsAsked act → IsLawful act → Acting c n x act
+acts_locally c n x act asked lawful = acting c n x act (does c n x act (cause c n x act) refl asked lawful)
+
+-- who leads answers a request for the end of a leader epoch
+serves : (c : LeaderAndIsr) (n : ℕ) (x : Node) (r : Request) (mode : Mode) (why : Leading → Option Refusal) → IsFalse r.fetching → unless_leads mode why ≡ None
+    → (e : Effect) × WhereLeads mode (λ l. Serves c x r l e) × (e.reply ≢ Refused refusals.Memory)
+serves c n x r Down why asks none = absurd cc
+serves c n x r Idle why asks none = absurd cc
+serves c n x r (Leads l) why asks none =
+    let e = sends c (record x { mode = Leads (record l { reported = reported_after l r }) }) (Answers (answer x r)) (serve_reply x r) in
+    (e, refl, by r.fetching)
+  where
+    by : (b : Bool) → cond b (model.SentBatches (length (piece x.log r)) x.watermark) (model.SentEpoch (epoch_answer x.log r)) ≢ Refused refusals.Memory
+    by true e = cc
+    by false e = cc
+serves c n x r (Follows f) why asks none = absurd cc
+
+-- a message that comes: a fetch request meets want of memory, and so does a fetch answer, which leaves the node down
 receives : (c : LeaderAndIsr) (n : ℕ) (x : Node) (m : Message) (o : Option Refusal) → o ≡ cause c n x (Receive m)
-    → ((a : Answer) → m ≡ Answers a → IsFalse a.request.fetching → (e : Effect) × Local c n x (Receive m) e) → (e : Effect) × Local c n x (Receive m) e
-receives c n x m (Some refusal) is cuts = (becomes c x (Refused refusal), was_refused c n x (Receive m) refusal (sym is))
-receives c n x (Asks r) None is cuts =
-    (becomes c x (Refused refusals.Memory), lacked_memory c n x (Receive (Asks r)) (becomes c x (Refused refusals.Memory)) (sym is) refl)
+    → ((a : Answer) → m ≡ Answers a → IsFalse a.request.fetching → (e : Effect) × Local c n x (Receive m) e) → Acting c n x (Receive m)
+receives c n x m (Some refusal) is cuts = record {
+  effect = becomes c x (Refused refusal);
+  local = was_refused c n x (Receive m) refusal (sym is);
+  spared = λ takes lacks. cause_spared c n x (Receive m) takes (sym is ∙ ap Some (same_refusal refusal refusals.Memory lacks));
+}
+receives c n x (Asks r) None is cuts = by r.fetching refl
+  where
+    by : (b : Bool) → r.fetching ≡ b → Acting c n x (Receive (Asks r))
+    by true fetching = record {
+      effect = becomes c x (Refused refusals.Memory);
+      local = lacked_memory c n x (Receive (Asks r)) (becomes c x (Refused refusals.Memory)) (sym is) refl;
+      spared = λ takes lacks. absurd (false≢true (sym takes ∙ fetching));
+    }
+    by false asks =
+        let done = serves c n x r x.mode _ asks (sym is) in
+        record { effect = done.0; local = happened c n x (Receive (Asks r)) done.0 (sym is) done.1; spared = λ takes. done.2 }
 receives c n x (Answers a) None is cuts = by a.request.fetching refl
   where
-    by : (b : Bool) → a.request.fetching ≡ b → (e : Effect) × Local c n x (Receive (Answers a)) e
+    by : (b : Bool) → a.request.fetching ≡ b → Acting c n x (Receive (Answers a))
     by true fetching =
         let e = becomes c (record x { log = x.log ++ []; mode = Down }) (Refused refusals.Memory) in
-        (e, lacked_memory c n x (Receive (Answers a)) e (sym is) (fetching, record { some = []; begins = Begins-nil (piece a.log a.request); effect_is = refl }))
-    by false asks = cuts a refl asks
+        record {
+          effect = e;
+          local = lacked_memory c n x (Receive (Answers a)) e (sym is) (fetching, record { some = []; begins = Begins-nil (piece a.log a.request); effect_is = refl });
+          spared = λ never. absurd never;
+        }
+    by false asks =
+        let done = cuts a refl asks in
+        record { effect = done.0; local = done.1; spared = λ never. absurd never }
 
 -- the laws of runs by which messages come
 record Laws : Type 0 where
@@ -133,6 +283,7 @@ comes laws count r number None is =
       after = w;
       step = subst (λ (o : Option Message). Delivers w o (told (Refused refusals.StaleAnswer)) w) (sym is) (refl, refl);
       counted = refl;
+      spared = λ takes lacks. cc;
     }
 comes laws count r number (Some m) is =
     let w = last r in
@@ -147,34 +298,38 @@ comes laws count r number (Some m) is =
           (laws.kin count r w w is_of is_of x.log a.log (inl (n, refl)) stands)).0,
     )) in
     let two = laws.go count r w is_of m (number, is) in
-    let step : NodeStep w n (Receive m) (answered w.messages done.0) (moved w n done.0) = record {
+    let step : NodeStep w n (Receive m) (answered w.messages done.effect) (moved w n done.effect) = record {
       counted = omega (arith, two.1, laws.keep count r w is_of);
       given = (number, is);
-      effect = done.0;
-      local = done.1;
+      effect = done.effect;
+      local = done.local;
       outcome_is = refl;
       new_is = refl;
     } in
     record {
-      outcome = answered w.messages done.0;
-      after = moved w n done.0;
-      step = subst (λ (o : Option Message). Delivers w o (answered w.messages done.0) (moved w n done.0)) (sym is) step;
+      outcome = answered w.messages done.effect;
+      after = moved w n done.effect;
+      step = subst (λ (o : Option Message). Delivers w o (answered w.messages done.effect) (moved w n done.effect)) (sym is) step;
       counted = refl;
+      spared = λ (k, there, takes).
+          let same : k ≡ m = (let both : Some k ≡ Some m = sym there ∙ is in cc) in
+          done.spared (subst (λ (y : Message). TakesNoMemory (w.nodes (addressee y)) (Receive y)) same takes);
     }
 
 answers : Laws → (count : ℕ) (r : Run count) (e : Event) → MayCome (last r).count e → Answering (last r) e
 answers laws count r (model.Elect n) come =
     let w = last r in
     let done = elects (elect_cause w.controller n) w n in
-    record { outcome = done.outcome; after = done.after; step = done.step; counted = done.counted }
+    record { outcome = done.outcome; after = done.after; step = done.step; counted = done.counted; spared = λ never. absurd never }
 answers laws count r (model.Acts n act) come =
     let w = last r in
-    let done = acts_locally w.controller n (w.nodes n) act come.1 in
+    let done = acts_locally w.controller n (w.nodes n) act come.1 come.2 in
     record {
-      outcome = answered w.messages done.0;
-      after = moved w n done.0;
-      step = record { counted = come.0; given = given w.messages act come.1; effect = done.0; local = done.1; outcome_is = refl; new_is = refl };
+      outcome = answered w.messages done.effect;
+      after = moved w n done.effect;
+      step = record { counted = come.0; given = given w.messages act come.1; effect = done.effect; local = done.local; outcome_is = refl; new_is = refl };
       counted = refl;
+      spared = done.spared;
     }
 answers laws count r (model.Deliver number) come = comes laws count r number (slice_get (last r).messages number) refl
 
@@ -182,25 +337,27 @@ answers laws count r (model.Deliver number) come = comes laws count r number (sl
 record GoesOn (count : ℕ) (events more : List Event) (outcomes : List Outcome) : Type 0 where
   run : Run count
   counted : (last run).count ≡ count
+  spared : NoneLacks count run.moments
   added : List Outcome
   events_are : events_of run ≡ events ++ more
   outcomes_are : outcomes_of run ≡ outcomes ++ added
 
-goes_on : Laws → (count : ℕ) (events more : List Event) (outcomes : List Outcome) (r : Run count) → (last r).count ≡ count → events_of r ≡ events → outcomes_of r ≡ outcomes
-    → AllByRecursion (MayCome count) more → GoesOn count events more outcomes
-goes_on laws count events [] outcomes r counted es os come =
-    record { run = r; counted = counted; added = []; events_are = es ∙ sym (append-nil events); outcomes_are = os ∙ sym (append-nil outcomes) }
-goes_on laws count events (e ∷ more) outcomes r counted es os come =
+goes_on : Laws → (count : ℕ) (events more : List Event) (outcomes : List Outcome) (r : Run count) → (last r).count ≡ count → NoneLacks count r.moments → events_of r ≡ events
+    → outcomes_of r ≡ outcomes → AllByRecursion (MayCome count) more → GoesOn count events more outcomes
+goes_on laws count events [] outcomes r counted spared es os come =
+    record { run = r; counted = counted; spared = spared; added = []; events_are = es ∙ sym (append-nil events); outcomes_are = os ∙ sym (append-nil outcomes) }
+goes_on laws count events (e ∷ more) outcomes r counted spared es os come =
     let next = answers laws count r e (subst (λ (k : ℕ). MayCome k e) (sym counted) come.0) in
     let then : Run count = extend r e next.outcome next.after next.step in
     let es_then : events_of then ≡ events ++ e ∷ [] =
     reverse-append (e ∷ []) (map (λ (m : Moment). m.event) r.moments) ∙ ap (λ (xs : List Event). xs ++ e ∷ []) es in
     let os_then : outcomes_of then ≡ outcomes ++ next.outcome ∷ [] =
     reverse-append (next.outcome ∷ []) (map (λ (m : Moment). m.outcome) r.moments) ∙ ap (λ (xs : List Outcome). xs ++ next.outcome ∷ []) os in
-    let rest = goes_on laws count (events ++ e ∷ []) more (outcomes ++ next.outcome ∷ []) then (next.counted ∙ counted) es_then os_then come.1 in
+    let rest = goes_on laws count (events ++ e ∷ []) more (outcomes ++ next.outcome ∷ []) then (next.counted ∙ counted) (next.spared, spared) es_then os_then come.1 in
     record {
       run = rest.run;
       counted = rest.counted;
+      spared = rest.spared;
       added = next.outcome ∷ rest.added;
       events_are = rest.events_are ∙ append_assoc events (e ∷ []) more;
       outcomes_are = rest.outcomes_are ∙ append_assoc outcomes (next.outcome ∷ []) rest.added;
@@ -209,5 +366,5 @@ goes_on laws count events (e ∷ more) outcomes r counted es os come =
 pub plays_go_on : RunsAreSafe → NoDeliveryIsRefusedOddly → RunsKeepCount → MessagesGoToNodes → RunsKeepLogs → RunsKeepKin → CutIsTheStep → PlaysGoOn
 plays_go_on safe odd keeps go logs kin cut_is count events more outcomes played come =
     let laws : Laws = record { go = go; keep = keeps; logs = logs; kin = kin; cut_is = cut_is } in
-    let rest = goes_on laws count events more outcomes played.run (keeps count played.run (last played.run) (last_is_of count played.run)) played.events_are played.outcomes_are come in
-    (rest.added, record { run = rest.run; events_are = rest.events_are; outcomes_are = rest.outcomes_are; safe = safe count rest.run; fits = all_fit odd count rest.run })
+    let rest = goes_on laws count events more outcomes played.run (keeps count played.run (last played.run) (last_is_of count played.run)) played.spared played.events_are played.outcomes_are come in
+    (rest.added, record { run = rest.run; events_are = rest.events_are; outcomes_are = rest.outcomes_are; safe = safe count rest.run; fits = all_fit odd count rest.run; spared = rest.spared })

@@ -1,10 +1,17 @@
 -- What a node or the controller does leads on from each run that was reached.
-use Rattle.std.proofs.Common.{◌≡◌, ℕ, ◌<◌, ◌≤◌, true, false, cond, eqb, List, [], ◌∷◌, ◌++◌, length, map, set, get_or, None, Some, Option, Result, Ok, Err, refl, sym, ap, ◌∙◌, subst, arith, inl, inr, length-set}
+use Rattle.std.proofs.Common.{◌≡◌, ◌≢◌, ℕ, ◌<◌, ◌≤◌, Bool, true, false, cond, eqb, List, [], ◌∷◌, ◌++◌, length, map, set, get_or, None, Some, Option, Result, Ok, Err, refl, sym, ap, ◌∙◌, subst, arith, inl, inr, length-set}
 use Rattle.std.specs.Prelude.{unwrap_or}
 use Rattle.std.proofs.lemmas.List.{get_or-map, get_or-set_same, get_or-set_other, length-map, map-append, map-set}
 use Rattle.std.proofs.lemmas.Bool.{eq-eqb, ne_eqb, cases_eq}
 use Rattle.kp_types.specs.declared.limits.Limits.{Limits}
 use Rattle.kp_types.specs.declared.refusal.Refusal.{Refusal}
+use Rattle.kp_types.specs.declared.refusal.Refusal.TheVariants as refusals
+use Rattle.kp_model.specs.Calls.{said_reply}
+use Rattle.kp_model.specs.declared.message.Said.{Said}
+use Rattle.kp_model.specs.declared.message.Said.TheVariants as says
+use Rattle.kp_replica.specs.declared.act.Answer.{Answer}
+use Rattle.kp_replica.specs.declared.act.Answer.TheVariants as replies
+use Rattle.kp_replica.specs.declared.adopting.Role.TheVariants as roles
 use Rattle.kp_model.specs.Log.{Batch}
 use Rattle.kp_model.specs.World.{Leader, LeaderAndIsr, Message, Node, World, with_record}
 use Rattle.kp_model.specs.Event as model
@@ -16,7 +23,7 @@ use Rattle.kp_model.specs.Letter.{Letter, letter_of}
 use Rattle.kp_model.specs.Step.{ElectsBy, NodeStep, answered, moved, number_after, told, IsGiven, elect_cause}
 use Rattle.kp_control.specs.Set.{record_of}
 use Rattle.kp_control.specs.declared.record.LeaderAndIsr.{LeaderAndIsr as CodeRecord}
-use Rattle.kp_replica.specs.Acts.{Comes, IsAsked, IsOfRun, NamesIn, letters_in, record_after, reply_of, Acts as ActsSo}
+use Rattle.kp_replica.specs.Acts.{Comes, IsAsked, IsOfRun, NamesIn, TakesNoMemory, answer_reply, letters_in, record_after, reply_of, Acts as ActsSo}
 use Rattle.kp_replica.specs.Broker.{node_at}
 use Rattle.kp_replica.specs.declared.broker.Broker.{Broker}
 use Rattle.kp_replica.specs.Adopting.{IsWithin}
@@ -70,6 +77,53 @@ told_receipt log count (Ok (Answers answer)) telling is named = subst (KeepsRece
 told_receipt log count (Ok (Sends body)) telling is named = subst (KeepsReceipt log) (sym is.1) tt
 told_receipt log count (Ok (Changes made)) telling is named = subst (KeepsReceipt log) (sym is) tt
 told_receipt log count (Err refusal) telling is named = subst (KeepsReceipt log) (sym is) tt
+
+-- ---- what is refused for want of memory
+
+-- no answer is a refusal
+answers_never : (answer : Answer) (refusal : Refusal) → answer_reply answer ≡ Refused refusal → ⊥
+answers_never (replies.Adopted (roles.Leads epoch start)) refusal e = cc
+answers_never (replies.Adopted (roles.Follows leader epoch fetching)) refusal e = cc
+answers_never (replies.Appended receipt) refusal e = by receipt.duplicate e
+  where
+    by : (b : Bool) → cond b (model.DuplicateOf receipt.base) (model.At receipt.base) ≡ Refused refusal → ⊥
+    by true e = cc
+    by false e = cc
+answers_never (replies.Took taken) refusal e = cc
+answers_never (replies.Cut cut) refusal e = cc
+answers_never (replies.Watermark watermark) refusal e = cc
+answers_never (replies.Checkpoint watermark) refusal e = cc
+answers_never replies.Stopped refusal e = cc
+answers_never (replies.Restarted life end watermark) refusal e = cc
+answers_never (replies.Shown shown) refusal e = cc
+answers_never (replies.Lines lines) refusal e = cc
+
+-- nor is what is told of a message that was sent
+messages_never : (said : Said) (refusal : Refusal) → said_reply said ≡ Refused refusal → ⊥
+messages_never (says.AsksFrom offset) refusal e = cc
+messages_never (says.AsksEpoch epoch) refusal e = cc
+messages_never (says.Batches count watermark) refusal e = cc
+messages_never (says.EpochEnd end) refusal e = cc
+
+same_refusal : (r s : Refusal) → Refused r ≡ Refused s → r ≡ s
+same_refusal r s e = cc
+
+-- what is told to be refused was refused
+refused_so : (count : ℕ) (outcome : Result Effect Refusal) (telling : Result EventAnswer Refusal) (refusal : Refusal) → IsTold count outcome telling
+    → (outcome_of telling).reply ≡ Refused refusal → outcome ≡ Err refusal
+refused_so count (Ok (Answers answer)) telling refusal is e =
+    absurd (answers_never answer refusal (sym (ap (λ (r : Result EventAnswer Refusal). (outcome_of r).reply) is) ∙ e))
+refused_so count (Ok (Sends body)) telling refusal (said, is, says) e =
+    absurd (messages_never said refusal (sym (ap (λ (r : Result EventAnswer Refusal). (outcome_of r).reply) is) ∙ e))
+refused_so count (Ok (Changes made)) telling refusal is e =
+    let told : Changed (record_of made) ≡ Refused refusal = sym (ap (λ (r : Result EventAnswer Refusal). (outcome_of r).reply) is) ∙ e in absurd cc
+refused_so count (Err r) telling refusal is e =
+    ap Err (same_refusal r refusal (sym (ap (λ (r : Result EventAnswer Refusal). (outcome_of r).reply) is) ∙ e))
+
+-- what doesn't lack memory isn't told to
+pub never_lacks : (count : ℕ) (outcome : Result Effect Refusal) (telling : Result EventAnswer Refusal) → IsTold count outcome telling → outcome ≢ Err refusals.Memory
+    → (outcome_of telling).reply ≢ Refused refusals.Memory
+never_lacks count outcome telling is never lacks = never (refused_so count outcome telling refusals.Memory is lacks)
 
 -- ---- a node's step
 
@@ -159,8 +213,9 @@ stepped limits n stage x m act outcome telling w inside there shown given is did
 -- the node x at place i, which is its number, did this and became m
 pub acted : EpochsAreElected → (limits : Limits) (n i : ℕ) (stage : Stage) (x m : NumberedNode) (act : Act) (outcome : Result Effect Refusal) (telling : Result EventAnswer Refusal) → i ≡ n
     → n < length stage.nodes → x ≡ get_or stage.nodes i x → IsAsked act → IsTold (length stage.letters) outcome telling → NamesIn m.state.log outcome
+    → (x.limits ≡ limits → TakesNoMemory x.state act → outcome ≢ Err refusals.Memory)
     → (x.limits ≡ limits → ActsSo stage.controller x m act outcome) → LeadOn limits stage (Acts n act ∷ []) (telling ∷ []) (next stage i m outcome)
-acted elected_all limits n i stage x m act outcome telling same inside there asked is named did count before earlier p =
+acted elected_all limits n i stage x m act outcome telling same inside there asked is named spared did count before earlier p =
     let w = last p.run in
     let c = stage.controller in
     let there_n : x ≡ get_or stage.nodes n x = there ∙ ap (λ (k : ℕ). get_or stage.nodes k x) same in
@@ -172,6 +227,7 @@ acted elected_all limits n i stage x m act outcome telling same inside there ask
     (λ number_is. did old.limits_are c (λ looks. refl) (asked_of_run c x act asked epochs)) in
     reached_more count limits before earlier stage _ (Acts n act) telling p s.after s.step
     (subst (λ (y : Node). KeepsReceipt y.log telling) (sym s.node_is) (told_receipt m.state.log (length stage.letters) outcome telling is named))
+    (λ takes. never_lacks (length stage.letters) outcome telling is (spared old.limits_are (subst (λ (y : Node). TakesNoMemory y act) old.state takes)))
     (subst (λ (k : ℕ). IsShown limits (next stage k m outcome) s.after) (sym same) s.shown)
 
 -- ---- the controller's step
@@ -189,7 +245,7 @@ elected_on limits n old new members letters free is count before earlier p =
     let same : r ≡ changed = ap (λ (k : LeaderAndIsr). elected k n) shown.controller_is ∙ sym is in
     let unrefused : elect_cause w.controller n ≡ None = ap (λ (k : LeaderAndIsr). elect_cause k n) shown.controller_is ∙ free in
     reached_more count limits before earlier _ _ (Elect n) (Ok (answers.Changed new)) p (with_record w r)
-    (subst (λ (o : Option Refusal). ElectsBy o w n (told (Changed changed)) (with_record w r)) (sym unrefused) (ap (λ (k : LeaderAndIsr). told (Changed k)) (sym same), refl)) tt
+    (subst (λ (o : Option Refusal). ElectsBy o w n (told (Changed changed)) (with_record w r)) (sym unrefused) (ap (λ (k : LeaderAndIsr). told (Changed k)) (sym same), refl)) tt (λ never. absurd never)
     (record { controller_is = same; count = shown.count; nodes_are = shown.nodes_are; letters_are = shown.letters_are })
 
 -- or the election was refused
@@ -199,7 +255,7 @@ not_elected limits n stage refusal is count before earlier p =
     let w = last p.run in
     let refused : elect_cause w.controller n ≡ Some refusal = ap (λ (k : LeaderAndIsr). elect_cause k n) p.shown.controller_is ∙ is in
     reached_more count limits before earlier stage stage (Elect n) (Err refusal) p w
-    (subst (λ (o : Option Refusal). ElectsBy o w n (told (Refused refusal)) w) (sym refused) (refl, refl)) tt p.shown
+    (subst (λ (o : Option Refusal). ElectsBy o w n (told (Refused refusal)) w) (sym refused) (refl, refl)) tt (λ never. absurd never) p.shown
 
 -- ---- beside the code's nodes and letters
 

@@ -1,5 +1,5 @@
 -- A run goes on, event by event.
-use Rattle.std.proofs.Common.{◌≡◌, ℕ, zero, suc, List, [], ◌∷◌, ◌++◌, Result, take, refl, sym, ap, ◌∙◌, subst}
+use Rattle.std.proofs.Common.{◌≡◌, ◌≢◌, ℕ, length, List, [], ◌∷◌, ◌++◌, Result, refl, sym, ap, ◌∙◌, subst}
 use Rattle.std.specs.Prelude.{map, reverse, slice_get, Option, Some, None}
 use Rattle.std.specs.List.{AllByRecursion}
 use Rattle.std.proofs.lemmas.List.{append_assoc, append-nil, map-append, reverse-append}
@@ -16,13 +16,13 @@ use Rattle.kp_world.specs.Answers.{outcome_of}
 use Rattle.kp_world.specs.Events.{IsEvent, AreEvents}
 use Rattle.kp_world.specs.declared.event.EventAnswer.{EventAnswer}
 use Rattle.kp_world.specs.declared.event.Event.{Event as CodeEvent}
-use Rattle.kp_world.specs.Plays.{AllFit, Fits, HaveReceipts, IsAnswered, IsReached, LeadOn}
+use Rattle.kp_world.specs.Plays.{AllFit, Fits, HaveReceipts, IsAnswered, IsReached, LeadOn, PlaysFirst, SparesMemory}
 use Rattle.kp_world.specs.Shown.{HasReceipt, IsShown, Stage}
 
 -- nothing has happened yet
 pub reached_none : (count : ℕ) (limits : Limits) (stage : Stage) → IsShown limits stage (start count) → IsReached count limits [] [] stage
 reached_none count limits stage shown =
-    record { run = record { moments = []; is_run = tt }; events_are = refl; outcomes_are = refl; receipts = tt; shown = shown }
+    record { run = record { moments = []; is_run = tt }; events_are = refl; outcomes_are = refl; receipts = tt; spared = tt; shown = shown }
 
 receipts-push : (moments : List Moment) (outcomes : List (Result EventAnswer Refusal)) (m : Moment) (outcome : Result EventAnswer Refusal) → HaveReceipts moments outcomes
     → HasReceipt m.event m.after outcome → HaveReceipts (moments ++ m ∷ []) (outcomes ++ outcome ∷ [])
@@ -33,9 +33,10 @@ receipts-push (x ∷ xs) (o ∷ os) m outcome h one = (h.0, receipts-push xs os 
 
 -- one event more
 pub reached_more : (count : ℕ) (limits : Limits) (es : List Event) (os : List (Result EventAnswer Refusal)) (old new : Stage) (e : Event) (o : Result EventAnswer Refusal)
-    (p : IsReached count limits es os old) (after : World) → Step (last p.run) e (outcome_of o) after → HasReceipt e after o → IsShown limits new after
+    (p : IsReached count limits es os old) (after : World) → Step (last p.run) e (outcome_of o) after → HasReceipt e after o
+    → (SparesMemory (last p.run) e → (outcome_of o).reply ≢ Refused refusals.Memory) → IsShown limits new after
     → IsReached count limits (es ++ e ∷ []) (os ++ o ∷ []) new
-reached_more count limits es os old new e o p after step receipt shown =
+reached_more count limits es os old new e o p after step receipt spared shown =
     let m : Moment = record { event = e; outcome = outcome_of o; after = after } in
     record {
       run = extend p.run e (outcome_of o) after step;
@@ -46,6 +47,7 @@ reached_more count limits es os old new e o p after step receipt shown =
           ∙ sym (map-append outcome_of os (o ∷ []));
       receipts = subst (λ (ms : List Moment). HaveReceipts ms (os ++ o ∷ [])) (sym (reverse-append (m ∷ []) p.run.moments))
           (receipts-push (reverse p.run.moments) os m o p.receipts receipt);
+      spared = (spared, p.spared);
       shown = shown;
     }
 
@@ -87,23 +89,16 @@ all_fit odd count r = by r.moments r.is_run
 pub answered : (count : ℕ) (limits : Limits) (es : List Event) (os : List (Result EventAnswer Refusal)) (stage : Stage) → ((r : Run count) → IsSafe r) → NoDeliveryIsRefusedOddly
     → IsReached count limits es os stage → IsAnswered count es os
 answered count limits es os stage safe odd p = record {
-  played = record { run = p.run; events_are = p.events_are; outcomes_are = p.outcomes_are; safe = safe p.run; fits = all_fit odd count p.run };
+  played = record { run = p.run; events_are = p.events_are; outcomes_are = p.outcomes_are; safe = safe p.run; fits = all_fit odd count p.run; spared = p.spared };
   receipts = p.receipts;
 }
 
 pub nothing_answered : (count : ℕ) → ((r : Run count) → IsSafe r) → IsAnswered count [] []
 nothing_answered count safe =
     let none : Run count = record { moments = []; is_run = tt } in
-    record { played = record { run = none; events_are = refl; outcomes_are = refl; safe = safe none; fits = tt }; receipts = tt }
+    record { played = record { run = none; events_are = refl; outcomes_are = refl; safe = safe none; fits = tt; spared = tt }; receipts = tt }
 
 -- ---- the events of the definitions beside those of the code
-
-pub AreEvents-take : (max k : ℕ) (events : List CodeEvent) (es : List Event) → AreEvents max events es → AreEvents max (take k events) (take k es)
-AreEvents-take max zero events es h = tt
-AreEvents-take max (suc k) [] [] h = tt
-AreEvents-take max (suc k) [] (e ∷ es) h = absurd h
-AreEvents-take max (suc k) (event ∷ events) [] h = absurd h
-AreEvents-take max (suc k) (event ∷ events) (e ∷ es) h = (h.0, AreEvents-take max k events es h.1)
 
 -- one event more
 pub record IsOneMore (max : ℕ) (events : List CodeEvent) (event : CodeEvent) (es : List Event) : Type 0 where
@@ -125,3 +120,15 @@ AreEvents-push max (x ∷ events) event (e ∷ es) h =
 pub AreEvents-none : (max : ℕ) (es : List Event) → AreEvents max [] es → es ≡ []
 AreEvents-none max [] h = refl
 AreEvents-none max (e ∷ es) h = absurd h
+
+-- ---- events that all have happened
+
+pub record AllPlayed (old new : Stage) (events : List CodeEvent) (outcomes : List (Result EventAnswer Refusal)) : Type 0 where
+  pub answered : length outcomes ≡ length events
+  pub lead : (limits : Limits) (es : List Event) → AreEvents limits.max_batch events es → LeadOn limits old es outcomes new
+
+pub all_played : (old new : Stage) (events left : List CodeEvent) (outcomes : List (Result EventAnswer Refusal)) → PlaysFirst old new events left outcomes → left ≡ []
+    → AllPlayed old new events outcomes
+all_played old new events left outcomes p none =
+    let same : events ≡ p.first = p.events_are ∙ ap (λ (xs : List CodeEvent). p.first ++ xs) none ∙ append-nil p.first in
+    subst (λ (xs : List CodeEvent). AllPlayed old new xs outcomes) (sym same) (record { answered = p.answered; lead = p.lead })

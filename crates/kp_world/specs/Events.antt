@@ -1,7 +1,7 @@
 -- The code's events as the definitions' events.
 use Rattle.std.specs.Prelude.{◌≡◌, ℕ, ◌<◌, List, [], ◌∷◌}
 use Rattle.kp_model.specs.Event as model
-use Rattle.kp_replica.specs.Acts.{HandsBytes, HandsMarker, IsAct}
+use Rattle.kp_replica.specs.Acts.{HandsBytes, IsAct}
 use Rattle.kp_world.specs.declared.event.Event.{Event}
 use Rattle.kp_world.specs.declared.event.Event.TheVariants.{Elect, Acts, Deliver}
 
@@ -28,9 +28,3 @@ abbrev pub HasBytes : Event → Type 0
 HasBytes (Elect node) = Unit {0}
 HasBytes (Acts node act) = HandsBytes act
 HasBytes (Deliver number) = Unit {0}
-
--- the fields of a marker that is handed in lie in their ranges
-abbrev pub HasMarker : Event → Type 0
-HasMarker (Elect node) = Unit {0}
-HasMarker (Acts node act) = HandsMarker act
-HasMarker (Deliver number) = Unit {0}

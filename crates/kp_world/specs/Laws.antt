@@ -1,6 +1,7 @@
 -- Laws of events.
-use Rattle.std.specs.Prelude.{◌≡◌, ℕ, ◌<◌, List, ◌++◌}
+use Rattle.std.specs.Prelude.{◌≡◌, ℕ, ◌<◌, List, ◌++◌, Ok}
 use Rattle.std.specs.List.{AllByRecursion}
+use Rattle.kp_batch.specs.Batch.{IsBody}
 use Rattle.kp_model.specs.Event as model
 use Rattle.kp_model.specs.Event.{Event as ModelEvent, Outcome}
 use Rattle.kp_replica.specs.Acts.{IsAsked}
@@ -19,10 +20,15 @@ EventsAreToldOnce =
     (max : ℕ) (events : List Event) (es others : List ModelEvent) → AllByRecursion HasBytes events →
     AreEvents max events es → AreEvents max events others → es ≡ others
 
--- An election, an act that one of so many nodes is asked for, or a delivery.
+-- what is handed in is lawful, where it is a batch
+abbrev pub IsLawful : model.Act → Type 0
+IsLawful (model.Produce (Ok body)) = IsBody body
+IsLawful _ = Unit {0}
+
+-- An election, a lawful act that one of so many nodes is asked for, or a delivery.
 abbrev pub MayCome : (count : ℕ) → ModelEvent → Type 0
 MayCome count (model.Elect node) = Unit {0}
-MayCome count (model.Acts node act) = (node < count) × IsAsked act
+MayCome count (model.Acts node act) = (node < count) × IsAsked act × IsLawful act
 MayCome count (model.Deliver number) = Unit {0}
 
 -- Each run that is played goes on with any such events: there are answers to them.

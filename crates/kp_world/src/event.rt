@@ -4,6 +4,7 @@ use kp_control::LeaderAndIsr;
 use kp_model::Said;
 use kp_replica::{Act, Answer};
 use kp_types::{NodeId, Refusal};
+use std::collections::VecDeque;
 
 /// One atomic action of one actor: of the controller, or of a node. (Kafka replication design.)
 #[derive(Drop)]
@@ -34,8 +35,9 @@ pub struct Trace {
     pub outcomes: Vec<Result<EventAnswer, Refusal>>,
 }
 
-/// The run's own lists couldn't grow: the answers so far.
+/// The run's own lists couldn't grow: the answers so far, and the events that haven't happened.
 #[derive(Drop)]
 pub struct Stopped {
     pub trace: Trace,
+    pub rest: VecDeque<Event>,
 }

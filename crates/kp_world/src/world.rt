@@ -7,10 +7,10 @@ ghost use Rattle.kp_model.specs.World.{start};
 ghost use Rattle.kp_model.specs.Event.{Act as ModelAct, Acts as ModelActs, Event as ModelEvent, Elect as ModelElect, Deliver as ModelDeliver};
 ghost use Rattle.kp_model.specs.Letter.{letter};
 ghost use Rattle.kp_control.specs.Set.{record_of};
-ghost use Rattle.kp_replica.specs.Acts.{HandsMarker, IsAct, letters_in, record_after};
+ghost use Rattle.kp_replica.specs.Acts.{IsAct, letters_in, record_after};
 ghost use Rattle.kp_world.specs.Answers.{IsTold};
-ghost use Rattle.kp_world.specs.Events.{AreEvents, HasMarker, IsAmong, IsEvent};
-ghost use Rattle.kp_world.specs.Plays.{IsAnswered, LeadOn};
+ghost use Rattle.kp_world.specs.Events.{AreEvents, IsAmong, IsEvent};
+ghost use Rattle.kp_world.specs.Plays.{AnswersFirst, IsAnswered, LeadOn, PlaysFirst};
 ghost use Rattle.kp_replica.specs.NumberedNode.{NumberedNode};
 ghost use Rattle.kp_world.specs.Shown.{IsShown, log_of};
 
@@ -21,6 +21,7 @@ use kp_model::MessageBody;
 use kp_replica::{Act, Broker, Effect};
 use kp_types::{Limits, NodeId, Refusal};
 use std::alloc::{AllocError, Global};
+use std::collections::VecDeque;
 use std::marker::Model;
 
 /// All nodes of one partition, by their numbers, and the controller's record.
@@ -77,6 +78,21 @@ fn carry_out(
             Ok(EventAnswer::Changed(changed))
         }
         Err(refusal) => Err(refusal),
+    }
+}
+
+/// Puts an answer behind the others, for which there is room. O(1).
+fn push_within(
+    outcomes: &mut Vec<Result<EventAnswer, Refusal>>,
+    outcome: Result<EventAnswer, Refusal>,
+)
+    requires { length outcomes.old.items < vec_capacity outcomes.old }
+    ensures pushed { outcomes.new.items ≡ outcomes.old.items ++ outcome ∷ [] }
+    ensures room { vec_capacity outcomes.old ≤ vec_capacity outcomes.new }
+{
+    match outcomes.push(outcome) {
+        Ok(()) => {}
+        Err(_) => unreachable!(),
     }
 }
 
@@ -147,79 +163,80 @@ impl World {
         Ok(carry_out(&mut self.controller, &mut self.messages, outcome))
     }
 
-    /// The node does this. An `Err` says that there was no room for a message more, and nothing has happened.
+    /// The node does this. An `Err` gives the act back: there was no room for a message more, and nothing has happened.
     fn act(
         &mut self,
         alloc: Global,
         node: NodeId,
         act: Act,
-    ) -> Result<Result<EventAnswer, Refusal>, AllocError>
-        requires node { node < length self.old.nodes }
-        requires marker { HandsMarker act }
+    ) -> Result<Result<EventAnswer, Refusal>, Act>
+        requires { node < length self.old.nodes }
         ensures step { IfOk result (λ outcome. (limits : LogLimits) (a : ModelAct)
             → IsAct limits.max_batch act a
             → LeadOn limits self.old (ModelActs node a ∷ []) (outcome ∷ []) self.new) }
         ensures err { OnErr result (self.new ≡ self.old) }
+        ensures back { IfErr result (λ same. same ≡ act) }
         ensures count { length self.new.nodes ≡ length self.old.nodes }
     {
         kp_model::epochs_are_elected();
         kp_replica::acts_are_told();
-        self.messages.reserve(1)?;
+        if self.messages.reserve(1).is_err() {
+            return Err(act);
+        }
         let outcome = self.nodes[usize::from(node)].act(alloc, &self.controller, act);
         Ok(carry_out(&mut self.controller, &mut self.messages, outcome))
     }
 
-    /// Makes the event happen. An `Err` says that there was no room for a message, and nothing has happened.
-    fn step(
-        &mut self,
-        alloc: Global,
-        event: Event,
-    ) -> Result<Result<EventAnswer, Refusal>, AllocError>
-        requires node { IsAmong (length self.old.nodes) event }
-        requires marker { HasMarker event }
+    /// Makes the event happen. An `Err` gives it back: there was no room for a message, and nothing has happened.
+    fn step(&mut self, alloc: Global, event: Event) -> Result<Result<EventAnswer, Refusal>, Event>
+        requires { IsAmong (length self.old.nodes) event }
         ensures step { IfOk result (λ outcome. (limits : LogLimits) (e : ModelEvent)
             → IsEvent limits.max_batch event e
             → LeadOn limits self.old (e ∷ []) (outcome ∷ []) self.new) }
         ensures err { OnErr result (self.new ≡ self.old) }
+        ensures back { IfErr result (λ same. same ≡ event) }
         ensures count { length self.new.nodes ≡ length self.old.nodes }
     {
         match event {
             Event::Elect { node } => Ok(self.elect(node)),
-            Event::Acts { node, act } => self.act(alloc, node, act),
-            Event::Deliver { number } => self.deliver(alloc, number),
+            Event::Acts { node, act } => match self.act(alloc, node, act) {
+                Ok(outcome) => Ok(outcome),
+                Err(act) => Err(Event::Acts { node, act }),
+            },
+            Event::Deliver { number } => match self.deliver(alloc, number) {
+                Ok(outcome) => Ok(outcome),
+                Err(_) => Err(Event::Deliver { number }),
+            },
         }
     }
 
-    /// Makes the events happen, one after another, and puts what each of them answers into `outcomes`, in place of what
-    /// stood there; a refused event's refusal stands there, and the events go on. So the events of one run may come a
-    /// few at a time, with one list for the answers of each few. An `Err` says that the list of answers, or room for one
-    /// message more, couldn't be had: then the events so far have happened, and their answers are there. The cost of an event doesn't grow with the events before it, but for what the calls of `Replica` say of
-    /// their cost, and for a read, which costs what it reads. Every message stays: a request is some numbers, and an answer
-    /// holds shares of its batches.
+    /// Makes the events happen, one after another, takes them from the list, and puts what each of them answers into
+    /// `outcomes`, in place of what stood there; a refused event's refusal stands there, and the events go on. So the events
+    /// of one run may come a few at a time, with one list for the answers of each few. An `Err` says that the list of answers,
+    /// or room for one message more, couldn't be had: then the events that are left in the list haven't happened, and those
+    /// before them have, with their answers. The cost of an event doesn't grow with the events before it, but for what the
+    /// calls of `Replica` say of their cost, and for a read, which costs what it reads. Every message stays: a request is some
+    /// numbers, and an answer holds shares of its batches.
     pub fn play(
         &mut self,
         alloc: Global,
-        events: Vec<Event>,
+        events: &mut VecDeque<Event>,
         outcomes: &mut Vec<Result<EventAnswer, Refusal>>,
     ) -> Result<(), AllocError>
-        requires nodes { AllByRecursion (IsAmong (length self.old.nodes)) events.items }
-        requires markers { AllByRecursion HasMarker events.items }
-        ensures played { OnOk result ((limits : LogLimits) (es : List ModelEvent)
-            → AreEvents limits.max_batch events.items es
-            → LeadOn limits self.old es outcomes.new.items self.new) }
-        ensures stopped { OnErr result ((limits : LogLimits) (es : List ModelEvent)
-            → AreEvents limits.max_batch events.items es
-            → (k : ℕ) × LeadOn limits self.old (take k es) outcomes.new.items self.new) }
-        ensures answered { OnOk result (length outcomes.new.items ≡ length events.items) }
+        requires { AllByRecursion (IsAmong (length self.old.nodes)) events.old.items }
+        ensures played { PlaysFirst self.old self.new events.old.items events.new.items outcomes.new.items }
+        ensures all { OnOk result (events.new.items ≡ []) }
         ensures count { length self.new.nodes ≡ length self.old.nodes }
     {
         outcomes.clear();
         outcomes.reserve(events.len())?;
-        for event in events {
-            let outcome = self.step(alloc, event)?;
-            match outcomes.push(outcome) {
-                Ok(()) => {}
-                Err(_) => unreachable!(),
+        while let Some(event) = events.pop_front() {
+            match self.step(alloc, event) {
+                Ok(outcome) => push_within(outcomes, outcome),
+                Err(event) => {
+                    events.push_front_reserved(event);
+                    return Err(AllocError);
+                }
             }
         }
         Ok(())
@@ -228,8 +245,8 @@ impl World {
 
 /// Runs the events from the start of `count` nodes on, and answers each of them. A refused event stands in
 /// the trace, and the run goes on. [`Stopped`] comes only where the run's own lists, those of nodes, answers and messages,
-/// couldn't be had, and holds the answers so far. Nodes have the numbers from 0 on. The cost is that of
-/// [`World::play`].
+/// couldn't be had: it holds the answers so far, and gives back the events that haven't happened. Nodes have the numbers
+/// from 0 on. The cost is that of [`World::play`].
 pub fn run(
     alloc: Global,
     count: NodeId,
@@ -239,27 +256,25 @@ pub fn run(
     requires some { 0 < count }
     requires most { count ≤ 7 }
     requires nodes { AllByRecursion (IsAmong count) events.items }
-    requires markers { AllByRecursion HasMarker events.items }
     ensures played { IfOk result (λ trace. (es : List ModelEvent)
         → AreEvents limits.now.max_batch events.items es
         → IsAnswered count es trace.outcomes.items) }
     ensures answered { IfOk result (λ trace. length trace.outcomes.items ≡ length events.items) }
-    ensures stopped { IfErr result (λ stopped. (es : List ModelEvent)
-        → AreEvents limits.now.max_batch events.items es
-        → (k : ℕ) × IsAnswered count (take k es) stopped.trace.outcomes.items) }
+    ensures stopped { IfErr result (λ stopped. AnswersFirst count limits.now.max_batch
+        events.items stopped.rest.items stopped.trace.outcomes.items) }
 {
     kp_model::runs_are_safe();
     kp_model::no_delivery_is_refused_oddly();
+    let mut rest = VecDeque::from_vec(events);
     let mut outcomes = Vec::new(alloc);
     let Ok(mut world) = World::start(alloc, count, limits) else {
-        return Err(Stopped {
-            trace: Trace { outcomes },
-        });
+        let trace = Trace { outcomes };
+        return Err(Stopped { trace, rest });
     };
-    let played = world.play(alloc, events, &mut outcomes);
+    let played = world.play(alloc, &mut rest, &mut outcomes);
     let trace = Trace { outcomes };
     match played {
         Ok(()) => Ok(trace),
-        Err(_) => Err(Stopped { trace }),
+        Err(_) => Err(Stopped { trace, rest }),
     }
 }

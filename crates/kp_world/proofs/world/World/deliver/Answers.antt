@@ -79,4 +79,4 @@ returns-clause-step c = λ limits.
     (carried limits (Deliver c.args.number) i r (record_of c.carry_out.new.controller) brokers q letters after outcome telling c.carry_out.ensures.record grown
     (delivered c.runs_keep_logs.ensures c.runs_keep_kin.ensures c.no_cut_below_the_watermark.ensures limits c.args.number (letter c.in-Some.body.now) i old (node_at p) (node_at q) outcome telling
     (letter_there ((goal.at.returns-clause-step c).In-Some)) (c.from-node.ensures ∙ c.addressee.ensures) within (placed brokers i p c.index_mut.ensures.value inner)
-    (subst (λ (n : ℕ). IsTold n outcome telling) many c.carry_out.ensures.told) c.receive-outcome.ensures))
+    (subst (λ (n : ℕ). IsTold n outcome telling) many c.carry_out.ensures.told) c.receive-outcome.ensures.spared c.receive-outcome.ensures.acts))

@@ -1,35 +1,60 @@
-use Rattle.std.proofs.Common.{rules, ◌≡◌, ℕ, ◌+◌, ◌<◌, List, [], ◌∷◌, ◌++◌, Result, length, length-append, append_assoc, append-nil, take, refl, sym, ap, ◌∙◌, subst, arith}
-use Rattle.std.proofs.Math.Seq.{take-append_seam}
+use Rattle.std.proofs.Common.{rules, ◌≡◌, ℕ, ◌<◌, ◌≤◌, List, [], ◌∷◌, ◌++◌, Result, length, length-append, append_assoc, append-nil, refl, sym, ap, ◌∙◌, subst, arith}
 use Rattle.std.specs.List.{AllByRecursion}
-use Rattle.std.specs.Vec.Iter.{into_iter_items}
+use Rattle.kp_types.specs.declared.limits.Limits.{Limits}
 use Rattle.kp_types.specs.declared.refusal.Refusal.{Refusal}
 use Rattle.kp_types.proofs.Elements.{all_behind}
 use Rattle.kp_model.specs.Event.{Event}
-use Rattle.kp_world.specs.Events.{AreEvents, IsAmong, HasMarker}
-use Rattle.kp_world.specs.Plays.{LeadOn}
+use Rattle.kp_world.specs.Events.{AreEvents, IsAmong, IsEvent}
+use Rattle.kp_world.specs.Plays.{LeadOn, PlaysFirst}
 use Rattle.kp_world.specs.Shown.{Stage}
 use Rattle.kp_world.specs.declared.event.EventAnswer.{EventAnswer}
 use Rattle.kp_world.specs.declared.event.Event.{Event as CodeEvent}
-use Rattle.kp_world.proofs.Playing.{AreEvents-none, AreEvents-push, AreEvents-take, lead_more, lead_none}
+use Rattle.kp_world.proofs.Playing.{AreEvents-none, AreEvents-push, lead_more, lead_none}
 use Rattle.kp_world.proofs.world.World.play.Goals as goal
-use Rattle.kp_types.proofs.Causes.{always}
 
-pub returns-in_err-reserve-clause-stopped : goal.returns-in_err-reserve-clause-stopped
-returns-in_err-reserve-clause-stopped c =
-    always c.from_residual.result
-    (λ limits es are. (0, lead_none limits c.args.self.now [] c.reserve.new.self.items refl (c.reserve.ensures.items ∙ c.clear.ensures.items)))
+-- nothing has happened yet
+none_played : (stage : Stage) (events : List CodeEvent) (outcomes : List (Result EventAnswer Refusal)) → outcomes ≡ [] → PlaysFirst stage stage events events outcomes
+none_played stage events outcomes none = record {
+  first = [];
+  events_are = refl;
+  answered = ap length none;
+  lead = λ limits es are. lead_none limits stage es outcomes (AreEvents-none limits.max_batch es are) none;
+}
+
+-- one event more has happened
+one_played : (old mid new : Stage) (events left behind : List CodeEvent) (event : CodeEvent) (outcomes after : List (Result EventAnswer Refusal)) (outcome : Result EventAnswer Refusal)
+    → PlaysFirst old mid events left outcomes → left ≡ event ∷ behind → after ≡ outcomes ++ outcome ∷ []
+    → ((limits : Limits) (es : List Event) → AreEvents limits.max_batch (event ∷ []) es → LeadOn limits mid es (outcome ∷ []) new) → PlaysFirst old new events behind after
+one_played old mid new events left behind event outcomes after outcome p left_is after_is step = record {
+  first = p.first ++ event ∷ [];
+  events_are = p.events_are ∙ ap (λ (xs : List CodeEvent). p.first ++ xs) left_is ∙ sym (append_assoc p.first (event ∷ []) behind);
+  answered = omega (arith, p.answered, length-append p.first (event ∷ []), ap length after_is, length-append outcomes (outcome ∷ []));
+  lead = λ limits es are.
+      let m = AreEvents-push limits.max_batch p.first event es are in
+      subst (λ (os : List (Result EventAnswer Refusal)). LeadOn limits old es os new) (sym after_is)
+      (subst (λ (xs : List Event). LeadOn limits old xs (outcomes ++ outcome ∷ []) new) (sym m.is)
+      (lead_more limits old mid new m.front (m.e ∷ []) outcomes (outcome ∷ []) (p.lead limits m.front m.fronts)
+      (step limits (m.e ∷ []) (m.one, tt))));
+}
+
+-- what one event leads to, where it is the only one
+one_step : (old new : Stage) (event : CodeEvent) (outcome : Result EventAnswer Refusal)
+    → ((limits : Limits) (e : Event) → IsEvent limits.max_batch event e → LeadOn limits old (e ∷ []) (outcome ∷ []) new)
+    → (limits : Limits) (es : List Event) → AreEvents limits.max_batch (event ∷ []) es → LeadOn limits old es (outcome ∷ []) new
+one_step old new event outcome step limits [] are = absurd are
+one_step old new event outcome step limits (e ∷ []) are = step limits e are.0
+one_step old new event outcome step limits (e ∷ d ∷ es) are = absurd are.1
+
+pub returns-in_err-reserve-clause-played : goal.returns-in_err-reserve-clause-played
+returns-in_err-reserve-clause-played c =
+    none_played c.args.self.now c.args.events.now.items c.reserve.new.self.items (c.reserve.ensures.items ∙ c.clear.ensures.items)
 
 pub loop-event-init : goal.loop-event-init
-loop-event-init c =
-    let none : c.reserve.new.self.items ≡ [] = c.reserve.ensures.items ∙ c.clear.ensures.items in
-    record {
-      count = refl;
-      split = sym c.into_iter-event-iterator.ensures.into_iter_gives.0;
-      sized = omega (arith, c.into_iter-event-iterator.ensures.into_iter_gives.1, ap length c.into_iter-event-iterator.ensures.into_iter_gives.0, c.args.events.ok);
-      answered = ap length none;
-      room = omega (arith, c.in_ok-reserve.ensures.ok);
-      lead = λ limits es are. lead_none limits c.args.self.now es c.reserve.new.self.items (AreEvents-none limits.max_batch es are) none;
-    }
+loop-event-init c = record {
+  count = refl;
+  room = omega (arith, c.in_ok-reserve.ensures.ok);
+  played = none_played c.args.self.now c.args.events.now.items c.reserve.new.self.items (c.reserve.ensures.items ∙ c.clear.ensures.items);
+}
 
 -- what is true of all events is true of the one that comes next
 of_next : (P : CodeEvent → Type 0) (events before rest behind : List CodeEvent) (event : CodeEvent) → events ≡ before ++ rest → rest ≡ event ∷ behind
@@ -37,71 +62,17 @@ of_next : (P : CodeEvent → Type 0) (events before rest behind : List CodeEvent
 of_next P events before rest behind event split next all =
     (all_behind P before (event ∷ behind) (subst (AllByRecursion P) (split ∙ ap (λ (xs : List CodeEvent). before ++ xs) next) all)).0
 
-pub step-requires-clause-node : goal.step-requires-clause-node
-step-requires-clause-node c =
+pub step-requires : goal.step-requires
+step-requires c =
+    let p = c.loop-event.invariant.played in
     subst (λ (n : ℕ). IsAmong n c.in-Some.event) (sym c.loop-event.invariant.count)
-    (of_next (IsAmong (length c.args.self.now.nodes)) c.args.events.items c.loop-event.yielded _ _ c.in-Some.event c.loop-event.invariant.split c.in-Some.ensures.steps.0 c.requires.nodes)
-
-pub step-requires-clause-marker : goal.step-requires-clause-marker
-step-requires-clause-marker c =
-    of_next HasMarker c.args.events.items c.loop-event.yielded _ _ c.in-Some.event c.loop-event.invariant.split c.in-Some.ensures.steps.0 c.requires.markers
-
--- the events so far are a front of them all
-front : (events before rest : List CodeEvent) → events ≡ before ++ rest → take (length before) events ≡ before
-front events before rest split = ap (λ (xs : List CodeEvent). take (length before) xs) split ∙ take-append_seam before rest
-
-pub returns-in_err-outcome-clause-stopped : goal.returns-in_err-outcome-clause-stopped
-returns-in_err-outcome-clause-stopped c =
-    always c.from_residual-in_err-outcome.result (λ limits es are.
-    let before = c.loop-event.yielded in
-    let k = length before in
-    let first = front c.args.events.items before _ c.loop-event.invariant.split in (
-      k,
-      subst (λ (stage : Stage). LeadOn limits c.args.self.now (take k es) c.loop-event.outcomes.items stage) (sym c.in_err-outcome.ensures.err)
-          (c.loop-event.invariant.lead limits (take k es)
-          (subst (λ (xs : List CodeEvent). AreEvents limits.max_batch xs (take k es)) first (AreEvents-take limits.max_batch k c.args.events.items es are))),
-    ))
+    (of_next (IsAmong (length c.args.self.now.nodes)) c.args.events.now.items p.first c.loop-event.events.items c.pop_front.new.self.items c.in-Some.event p.events_are c.in-Some.ensures.items c.requires)
 
 pub loop-event-preserved : goal.loop-event-preserved
-loop-event-preserved c =
-    let before = c.loop-event.yielded in
-    let event = c.in-Some.event in
-    let behind = into_iter_items c.next.new.self in
-    record {
-      count = c.step.ensures.count ∙ c.loop-event.invariant.count;
-      split = c.loop-event.invariant.split ∙ ap (λ (xs : List CodeEvent). before ++ xs) c.in-Some.ensures.steps.0 ∙ sym (append_assoc before (event ∷ []) behind);
-      sized = omega (arith, c.loop-event.invariant.sized, ap length c.in-Some.ensures.steps.0, c.in-Some.ensures.steps.1);
-      answered = omega (arith, c.in-Ok.ensures.len, c.loop-event.invariant.answered, length-append before (event ∷ []));
-      room = omega (arith, c.in-Ok.ensures.capacity, c.loop-event.invariant.room);
-      lead = λ limits es are.
-          let m = AreEvents-push limits.max_batch before event es are in
-          let answers = c.loop-event.outcomes.items in
-          let outcome = c.in_ok-outcome.outcome in
-          let old = c.args.self.now in
-          let new = c.step.new.self in
-          subst (λ (os : List (Result EventAnswer Refusal)). LeadOn limits old es os new) (sym c.in-Ok.ensures.items)
-          (subst (λ (xs : List Event). LeadOn limits old xs (answers ++ outcome ∷ []) new) (sym m.is)
-          (lead_more limits old c.loop-event.self new m.front (m.e ∷ []) answers (outcome ∷ []) (c.loop-event.invariant.lead limits m.front m.fronts)
-          (c.in_ok-outcome.ensures.step limits m.e m.one)));
-    }
-
-pub unreachable-requires : goal.unreachable-requires
-unreachable-requires c =
-    let all = ap length (c.loop-event.invariant.split ∙ ap (λ (xs : List CodeEvent). c.loop-event.yielded ++ xs) c.in-Some.ensures.steps.0) in
-    let long = length-append c.loop-event.yielded (c.in-Some.event ∷ into_iter_items c.next.new.self) in
-    omega (arith, c.in-Err.ensures.full, c.loop-event.invariant.room, c.loop-event.invariant.answered, all, long)
-
--- all events have come where none is left
-all_came : (events before rest : List CodeEvent) → events ≡ before ++ rest → length rest ≡ 0 → events ≡ before
-all_came events before [] split none = split ∙ append-nil before
-all_came events before (x ∷ xs) split none = absurd (omega arith)
-
-pub returns-clause-played : goal.returns-clause-played
-returns-clause-played c = λ limits es are.
-    let all = all_came c.args.events.items c.loop-event.yielded _ c.loop-event.invariant.split (sym c.loop-event.invariant.sized ∙ c.in-None.ensures.steps.0) in
-    c.loop-event.invariant.lead limits es (subst (λ (xs : List CodeEvent). AreEvents limits.max_batch xs es) all are)
-
-pub returns-clause-answered : goal.returns-clause-answered
-returns-clause-answered c =
-    let all = all_came c.args.events.items c.loop-event.yielded _ c.loop-event.invariant.split (sym c.loop-event.invariant.sized ∙ c.in-None.ensures.steps.0) in
-    c.loop-event.invariant.answered ∙ ap length (sym all)
+loop-event-preserved c = record {
+  count = c.step.ensures.count ∙ c.loop-event.invariant.count;
+  room = omega (arith, c.push_within.ensures.room, c.loop-event.invariant.room);
+  played = one_played c.args.self.now c.loop-event.self c.step.new.self c.args.events.now.items c.loop-event.events.items c.pop_front.new.self.items c.in-Some.event
+      c.loop-event.outcomes.items c.push_within.new.outcomes.items c.in-Ok.outcome c.loop-event.invariant.played c.in-Some.ensures.items c.push_within.ensures.pushed
+      (λ limits es are. one_step c.loop-event.self c.step.new.self c.in-Some.event c.in-Ok.outcome c.in-Ok.ensures.step limits es are);
+}
