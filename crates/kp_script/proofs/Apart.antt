@@ -64,7 +64,7 @@ apart count fits (Raw m bs) p = λ n cs q e.
     let first = same_field [] (fields_text (Raw m bs)) m n (hex_text bs) (hex_text cs) (omega (arith, p.0)) (omega (arith, q.0)) refl e in
     same_raw m n bs cs first.0 (sym (bytes_back bs p.2) ∙ ap bytes_of first.1 ∙ bytes_back cs q.2)
 apart count fits (Deliver m) p = λ n q e. ap Deliver (decimal_injective m n (omega arith) (omega arith) e)
-apart count fits (Acts m (Mark marker)) p = λ n other q e. marks_apart count m n marker other fits p q e
+apart count fits (Acts m (Mark handed)) p = λ n other q e. marks_apart count m n handed other fits p q e
 apart count fits (Acts m (Alter (Join f))) p = λ n g q e.
     let same = same_place count count m n f g fits fits p q e in
     ap (λ (k : ℕ). Acts k (Alter (Join f))) same.0 ∙ ap (λ (k : ℕ). Acts n (Alter (Join k))) same.1

@@ -18,6 +18,7 @@ pub mod Offers
 pub mod Appending
 pub mod Apart
 pub mod Logs
+pub mod Lawful
 pub mod Played
 pub mod KeptLogs
 pub mod Counting

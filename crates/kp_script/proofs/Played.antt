@@ -37,6 +37,7 @@ use Rattle.kp_script.specs.Script.{Script, IsScript}
 use Rattle.kp_script.specs.Transcript.{IsTraceOf, is_refusal, largest_batch, numbered, refusals_in, WritesFirst, WritesFront}
 use Rattle.kp_script.specs.Seen.{seen_call, seen_line}
 use Rattle.kp_script.specs.declared.script.Line.{Line}
+use Rattle.kp_script.proofs.Lawful.{lawful_act, lawful_bytes, lawful_values}
 use Rattle.kp_script.proofs.Logs.{shown_logs}
 use Rattle.kp_script.proofs.Telling.{AreTold-length, one_for_each}
 use Rattle.kp_script.proofs.Tracing.{trace_append}
@@ -221,6 +222,7 @@ traced safe odd header done stage refused known now p =
         outcomes_are = reached.outcomes_are;
         safe = safe header.count reached.run;
         fits = all_fit odd header.count reached.run;
+        spared = reached.spared;
       };
       text_is = refl;
       refused_is = p.refused_is;
@@ -235,11 +237,11 @@ traced_none safe count =
 told_of : BytesAreAnOffer → (count : ℕ) (call : Call) → IsCallInRange count call → (e : Event) × (IsTold largest_batch call e × MayCome count e)
 told_of offers count (Elect node) h = (model.Elect node, (refl, tt))
 told_of offers count (Append node time sender transactional values) h =
-    (model.Acts node (Produce (offer_of largest_batch time sender transactional values)), (refl, (h.0, tt)))
+    (model.Acts node (Produce (offer_of largest_batch time sender transactional values)), (refl, (h.0, tt, lawful_values time sender transactional values h.2 h.1 h.3 h.4)))
 told_of offers count (Raw node bytes) h =
     let o = offers largest_batch bytes h.2 in
-    (model.Acts node (Produce o.0), ((o.0, o.1, refl), (h.0, tt)))
-told_of offers count (Acts node act) h = (model.Acts node (plain_act act), (refl, (h.0, plain_asked act)))
+    (model.Acts node (Produce o.0), ((o.0, o.1, refl), (h.0, tt, lawful_bytes largest_batch bytes o.0 o.1)))
+told_of offers count (Acts node act) h = (model.Acts node (plain_act act), (refl, (h.0, plain_asked act, lawful_act act)))
 told_of offers count (Deliver number) h = (model.Deliver number, (refl, tt))
 
 record Tellings (count : ℕ) (calls : List (ℕ × Call)) : Type 0 where

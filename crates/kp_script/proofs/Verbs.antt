@@ -4,7 +4,7 @@ use Rattle.std.specs.Prelude.{bytes_eq, IfNone, IfSome, None, Option, Some}
 use Rattle.std.specs.Fmt.{decimal}
 use Rattle.std.specs.List.{list_all}
 use Rattle.std.proofs.lemmas.Bool.{and_parts, eqb-false, not-true}
-use Rattle.kp_marker.specs.declared.parts.Marker.{Marker}
+use Rattle.kp_marker.specs.declared.parts.HandedMarker.{HandedMarker}
 use Rattle.kp_replica.specs.declared.act.PlainAct.{PlainAct}
 use Rattle.kp_replica.specs.declared.act.PlainAct.TheVariants.{Adopt, Mark, Ask, Raise, Alter, Checkpoint, Stop, Restart, Show, Read, Committed}
 use Rattle.kp_replica.specs.declared.altering.IsrChange.TheVariants.{Join, Leave}
@@ -26,7 +26,7 @@ Each P verb =
     when bytes_eq verb (codes "append") then ((node time : ℕ) (sender : Sender) (transactional : Bool) (values : List (List ℕ)) →
     P (Append node time sender transactional values)) else
     when bytes_eq verb (codes "raw") then ((node : ℕ) (bytes : List ℕ) → P (Raw node bytes)) else
-    when bytes_eq verb (codes "mark") then ((node : ℕ) (marker : Marker) → P (Acts node (Mark marker))) else
+    when bytes_eq verb (codes "mark") then ((node : ℕ) (handed : HandedMarker) → P (Acts node (Mark handed))) else
     when bytes_eq verb (codes "ask") then ((node : ℕ) → P (Acts node Ask)) else
     when bytes_eq verb (codes "deliver") then ((number : ℕ) → P (Deliver number)) else
     when bytes_eq verb (codes "raise") then ((node : ℕ) → P (Acts node Raise)) else
@@ -45,7 +45,7 @@ each P (Elect node) h = h node
 each P (Append node time sender transactional values) h = h node time sender transactional values
 each P (Raw node bytes) h = h node bytes
 each P (Deliver number) h = h number
-each P (Acts node (Mark marker)) h = h node marker
+each P (Acts node (Mark handed)) h = h node handed
 each P (Acts node (Alter (Join member))) h = h node member
 each P (Acts node (Alter (Leave member))) h = h node member
 each P (Acts node (Read from)) h = h node from
@@ -107,7 +107,7 @@ names_node count text none (Elect node) range v = record { node = node; within =
 names_node count text none (Append node time sender transactional values) range v = absurd (none.append v)
 names_node count text none (Raw node bytes) range v = absurd (none.raw v)
 names_node count text none (Deliver number) range v = absurd (none.deliver v)
-names_node count text none (Acts node (Mark marker)) range v = absurd (none.mark v)
+names_node count text none (Acts node (Mark handed)) range v = absurd (none.mark v)
 names_node count text none (Acts node (Alter (Join member))) range v = absurd (none.join v)
 names_node count text none (Acts node (Alter (Leave member))) range v = absurd (none.leave v)
 names_node count text none (Acts node (Read from)) range v = absurd (none.read v)
@@ -121,7 +121,7 @@ no_verb text none other (Append node time sender transactional values) = none.ap
 no_verb text none other (Raw node bytes) = none.raw
 no_verb text none other (Deliver number) = none.deliver
 no_verb text none other (Acts node Adopt) = other.adopt
-no_verb text none other (Acts node (Mark marker)) = none.mark
+no_verb text none other (Acts node (Mark handed)) = none.mark
 no_verb text none other (Acts node Ask) = other.ask
 no_verb text none other (Acts node Raise) = other.raise
 no_verb text none other (Acts node (Alter (Join member))) = none.join

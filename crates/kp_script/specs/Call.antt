@@ -4,7 +4,6 @@ use Rattle.std.specs.List.{join_with_byte, list_all, slice_split}
 use Rattle.std.specs.Fmt.{decimal}
 use Rattle.kp_record.specs.Record.{AreBytes}
 use Rattle.kp_marker.specs.Marker.{commits}
-use Rattle.kp_replica.specs.Acts.{IsInRange}
 use Rattle.kp_replica.specs.declared.act.PlainAct.{PlainAct}
 use Rattle.kp_replica.specs.declared.act.PlainAct.TheVariants.{Adopt, Mark, Ask, Raise, Alter, Checkpoint, Stop, Restart, Show, Read, Committed}
 use Rattle.kp_replica.specs.declared.altering.IsrChange.TheVariants.{Join, Leave}
@@ -73,9 +72,9 @@ header_text header =
 -- the verb of an act, and its fields behind the node
 abbrev pub act_words : PlainAct → List ℕ × List (List ℕ)
 act_words Adopt = (codes "adopt", [])
-act_words (Mark marker) = (
+act_words (Mark handed) = (
   codes "mark",
-  decimal marker.timestamp ∷ decimal marker.producer_id ∷ decimal marker.producer_epoch ∷ decimal marker.coordinator_epoch ∷ ending_text (commits marker.kind) ∷ [],
+  decimal handed.marker.timestamp ∷ decimal handed.marker.producer_id ∷ decimal handed.marker.producer_epoch ∷ decimal handed.marker.coordinator_epoch ∷ ending_text (commits handed.marker.kind) ∷ [],
 )
 act_words Ask = (codes "ask", [])
 act_words Raise = (codes "raise", [])
@@ -133,7 +132,6 @@ pub record IsSender (sender : Sender) : Type 0 where
 
 -- An act's numbers are in range where there are so many nodes. Offsets are below 2 ^ 62.
 abbrev pub IsActInRange : (count : ℕ) → PlainAct → Type 0
-IsActInRange count (Mark marker) = IsInRange marker
 IsActInRange count (Alter (Join member)) = member < count
 IsActInRange count (Alter (Leave member)) = member < count
 IsActInRange count (Read from) = from < 2 ^ 62

@@ -10,12 +10,14 @@ use crate::fields::{append_of, mark_of, node_and_offset_of, node_of, raw_of, two
 use crate::lines::LONGEST_LINE;
 use crate::words::{field_then, last_field, number_below, split_first_at};
 use kp_replica::{IsrChange, PlainAct};
-use kp_types::{GREATEST_SEGMENT_BYTES, LEAST_SEGMENT_BYTES, MAX_INDEX_INTERVAL, NodeId};
+use kp_types::{
+    GREATEST_SEGMENT_BYTES, LEAST_SEGMENT_BYTES, MAX_INDEX_INTERVAL, MOST_NODES, NodeId,
+};
 
 /// The greatest time of a record, 2^62 - 1.
 pub const GREATEST_TIME: u64 = 4_611_686_018_427_387_903;
 /// The greatest number of nodes.
-const NODES: u64 = 7;
+const NODES: u64 = MOST_NODES as u64;
 /// The greatest number of a message, 2^31 - 1.
 const GREATEST_MESSAGE: u64 = 2_147_483_647;
 

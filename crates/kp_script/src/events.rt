@@ -4,7 +4,7 @@ ghost use Rattle.std.specs.Prelude.{◌≡◌, ℕ, ◌<◌, ◌≤◌, ◌^◌,
 ghost use Rattle.std.specs.List.{AllByRecursion};
 ghost use Rattle.kp_types.specs.declared.refusal.Refusal.TheVariants.{Memory};
 ghost use Rattle.kp_record.specs.Made.{record_made};
-ghost use Rattle.kp_world.specs.Events.{HasMarker, IsAmong};
+ghost use Rattle.kp_world.specs.Events.{IsAmong};
 ghost use Rattle.kp_script.specs.Call.{Append, Raw, IsCall, IsSender, pieces};
 ghost use Rattle.kp_script.specs.Hex.{bytes_of};
 ghost use Rattle.kp_script.specs.Told.{plain_record, Tells, TellsAll};
@@ -69,7 +69,6 @@ fn append_event<'a>(
         → Tells max (Append node time (seen_sender sender) transactional (pieces values.now))
         event) }
     ensures node { IfOk result (λ event. (count : ℕ) → node < count → IsAmong count event) }
-    ensures marker { IfOk result HasMarker }
     ensures only { IfErr result (λ refusal. refusal ≡ Memory) }
 {
     let fields = Fields {
@@ -94,7 +93,6 @@ fn raw_event(alloc: Global, node: NodeId, digits: &[u8]) -> Result<Event, Refusa
     ensures told { IfOk result (λ event. (max : ℕ)
         → Tells max (Raw node (bytes_of digits.now)) event) }
     ensures node { IfOk result (λ event. (count : ℕ) → node < count → IsAmong count event) }
-    ensures marker { IfOk result HasMarker }
     ensures only { IfErr result (λ refusal. refusal ≡ Memory) }
 {
     kp_replica::bytes_are_an_offer();
@@ -118,7 +116,6 @@ fn event_of<'a>(
     requires { IsCall count (seen_call call.now) }
     ensures told { IfOk result (λ event. (max : ℕ) → Tells max (seen_call call.now) event) }
     ensures node { IfOk result (IsAmong count) }
-    ensures marker { IfOk result HasMarker }
     ensures only { IfErr result (λ refusal. refusal ≡ Memory) }
 {
     let _ = count;
@@ -151,7 +148,6 @@ pub(crate) fn events_of<'a>(
     ensures told { IfOk result (λ events. (max : ℕ)
         → TellsAll max (map (λ call. call.1) (map seen_line lines.now)) events.items) }
     ensures nodes { IfOk result (λ events. AllByRecursion (IsAmong count) events.items) }
-    ensures markers { IfOk result (λ events. AllByRecursion HasMarker events.items) }
     ensures only { IfErr result (λ refusal. refusal ≡ Memory) }
 {
     let mut parts = Vec::new(alloc);

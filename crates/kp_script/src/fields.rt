@@ -5,8 +5,7 @@ ghost use Rattle.std.specs.Prelude.{◌≡◌, ◌≢◌, ℕ, ◌<◌, ◌^◌,
 ghost use Rattle.std.specs.Fmt.{decimal};
 ghost use Rattle.std.specs.List.{list_all};
 ghost use Rattle.kp_marker.specs.Marker.{commits};
-ghost use Rattle.kp_marker.specs.declared.parts.Marker.{Marker as SpelledMarker};
-ghost use Rattle.kp_replica.specs.Acts.{IsInRange};
+ghost use Rattle.kp_marker.specs.declared.parts.HandedMarker.{HandedMarker as SpelledMarker};
 ghost use Rattle.kp_script.specs.Call.{Sender as SpelledSender, is_value, kind_text, ending_text, pieces, IsSender};
 ghost use Rattle.kp_script.specs.Read.{sender_front, marker_text, AreFields, AreNoFields};
 ghost use Rattle.kp_script.specs.Seen.{seen_sender, seen_call};
@@ -14,7 +13,7 @@ ghost use Rattle.kp_script.specs.Seen.{seen_sender, seen_call};
 use crate::call::{Call, GREATEST_TIME, Sender};
 use crate::digits::is_hex;
 use crate::words::{after, number_below, number_then, signed_then};
-use kp_marker::{Kind, Marker};
+use kp_marker::{HandedMarker, Kind, Marker};
 use kp_replica::PlainAct;
 use kp_types::{GREATEST_OFFSET, NodeId, Offset};
 
@@ -210,10 +209,9 @@ fn ending_of(bytes: &[u8]) -> Option<Kind>
 }
 
 /// The marker whose fields the whole of these bytes spell.
-fn marker_of(bytes: &[u8]) -> Option<Marker>
-    ensures found { IfSome result (λ marker. (bytes.now ≡ marker_text marker) × IsInRange marker) }
-    ensures none { IfNone result ((marker : SpelledMarker) → IsInRange marker
-        → bytes.now ≢ marker_text marker) }
+fn marker_of(bytes: &[u8]) -> Option<HandedMarker>
+    ensures found { IfSome result (λ handed. bytes.now ≡ marker_text handed.marker) }
+    ensures none { IfNone result ((handed : SpelledMarker) → bytes.now ≢ marker_text handed.marker) }
 {
     let Some((timestamp, rest)) = number_then(bytes, GREATEST_TIME + 1) else {
         return None;
@@ -230,13 +228,14 @@ fn marker_of(bytes: &[u8]) -> Option<Marker>
     let Some(kind) = ending_of(rest) else {
         return None;
     };
-    Some(Marker {
+    let marker = Marker {
         producer_id,
         producer_epoch: producer_epoch as u16,
         coordinator_epoch: coordinator_epoch as u32,
         kind,
         timestamp,
-    })
+    };
+    Some(HandedMarker { marker })
 }
 
 /// The call that the whole of these fields spell where it hands in a marker.

@@ -20,6 +20,7 @@ use kp_batch::Speller;
 use kp_types::{Counted, Limits, MAX_BATCH, NodeId, Refusal};
 use kp_world::{EventAnswer, World};
 use std::alloc::Global;
+use std::collections::VecDeque;
 use std::io::{Read, Write};
 
 /// How many events are made and played before their lines are written.
@@ -83,8 +84,8 @@ fn play_lines<W: Write>(
     ensures only { IfErr result IsDeviceFault }
     ensures counted { CountsFaults result (faults_of writer.old) (faults_of writer.new) }
 {
-    let events = events_of(alloc, &mut lists.speller, lines, count)?;
-    world.play(alloc, events, &mut lists.outcomes)?;
+    let mut events = VecDeque::from_vec(events_of(alloc, &mut lists.speller, lines, count)?);
+    world.play(alloc, &mut events, &mut lists.outcomes)?;
     lists.text.clear();
     push_trace(&mut lists.text, lines, &lists.outcomes)?;
     writer.write_all(&lists.text)?;

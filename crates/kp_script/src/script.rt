@@ -56,10 +56,11 @@ pub fn parse(alloc: Global, bytes: &[u8]) -> Result<Script<'_>, Refusal>
         let Some(call) = call_of(next.line, header.count) else {
             return Err(Refusal::BadScript(next.number));
         };
-        lines.push(Line {
+        lines.reserve(1)?;
+        lines.push_reserved(Line {
             number: next.number,
             call,
-        })?;
+        });
         rest = next.rest;
         number = next.number + 1;
     }

@@ -2,36 +2,34 @@ use Rattle.std.proofs.Common.{◌≡◌, ℕ, ◌+◌, List, [], ◌∷◌, ◌+
 use Rattle.std.specs.Prelude.{map}
 use Rattle.std.specs.List.{AllByRecursion}
 use Rattle.std.proofs.lemmas.List.{take_all, take_more, map-append}
-use Rattle.kp_script.specs.Call.{Call}
+use Rattle.kp_script.specs.Call.{Call, IsCall}
 use Rattle.kp_script.specs.Seen.{seen_call, seen_line}
 use Rattle.kp_script.specs.Told.{TellsAll}
 use Rattle.kp_script.specs.declared.script.Line.{Line}
-use Rattle.kp_script.specs.declared.call.Call.TheVariants as parsed
-use Rattle.kp_world.specs.Events.{HasMarker, IsAmong}
+use Rattle.kp_world.specs.Events.{IsAmong}
 use Rattle.kp_world.specs.declared.event.Event.{Event as CodeEvent}
 use Rattle.kp_script.proofs.Telling.{tells_more, each_at_line}
 use Rattle.kp_script.proofs.events.events_of.Goals as goal
 use Rattle.kp_types.proofs.Elements.{all_push}
-
--- what a line is read as past the end
-abbrev no_line : Line
-no_line = record { number = 0; call = parsed.Elect 0 }
 
 -- the calls of lines
 abbrev calls_of : List Line → List Call
 calls_of lines = map (λ call. call.1) (map seen_line lines)
 
 pub event_of-requires : goal.event_of-requires
-event_of-requires c = each_at_line c.args.count c.args.lines.now c.loop-line.line-index no_line c.requires (omega arith)
+event_of-requires c =
+    let line = c.line-item.result in
+    subst (λ (l : Line). IsCall c.args.count (seen_call l.call)) (sym c.line-item.is)
+    (each_at_line c.args.count c.args.lines.now c.loop-line.line-index line c.requires (omega arith))
 
 pub loop-line-preserved : goal.loop-line-preserved
 loop-line-preserved c =
     let k = c.loop-line.line-index in
     let lines = c.args.lines.now in
-    let line = get_or lines k no_line in
+    let line = c.line-item.result in
     let grown : c.push.new.self.items ≡ c.loop-line.events.items ++ c.in_ok-event_of.field-0 ∷ [] = c.in_ok-push.ensures.items in
     let more : calls_of (take (k + 1) lines) ≡ calls_of (take k lines) ++ seen_call line.call ∷ [] =
-    ap calls_of (take_more lines k no_line (omega arith))
+    ap calls_of (take_more lines k line (omega arith) ∙ ap (λ (l : Line). take k lines ++ l ∷ []) (sym c.line-item.is))
     ∙ ap (map (λ (call : ℕ × Call). call.1)) (map-append seen_line (take k lines) (line ∷ []))
     ∙ map-append (λ (call : ℕ × Call). call.1) (map seen_line (take k lines)) (seen_line line ∷ []) in
     record {
@@ -42,9 +40,6 @@ loop-line-preserved c =
       nodes =
           subst (AllByRecursion (IsAmong c.args.count)) (sym grown)
           (all_push (IsAmong c.args.count) c.loop-line.events.items c.in_ok-event_of.field-0 c.loop-line.invariant.nodes c.in_ok-event_of.ensures.node);
-      markers =
-          subst (AllByRecursion HasMarker) (sym grown)
-          (all_push HasMarker c.loop-line.events.items c.in_ok-event_of.field-0 c.loop-line.invariant.markers c.in_ok-event_of.ensures.marker);
     }
 
 pub returns-clause-told : goal.returns-clause-told

@@ -5,11 +5,11 @@ use Rattle.kp_script.proofs.Verbs.{no_fields}
 use Rattle.kp_script.proofs.fields.mark_of.Goals as goal
 
 pub returns-in_default-clause-none : goal.returns-in_default-clause-none
-returns-in_default-clause-none c = no_fields c.args.count (codes "mark") c.args.fields.now (λ node marker range e.
+returns-in_default-clause-none c = no_fields c.args.count (codes "mark") c.args.fields.now (λ node handed range e.
     c.in_default.ensures.none node _ range.0 e)
 
 pub returns-in-None-clause-none : goal.returns-in-None-clause-none
-returns-in-None-clause-none c = no_fields c.args.count (codes "mark") c.args.fields.now (λ node marker range e.
+returns-in-None-clause-none c = no_fields c.args.count (codes "mark") c.args.fields.now (λ node handed range e.
     let found = c.in-Some.ensures.found in
-    let first = same_field [] c.args.fields.now c.in-Some.node node c.in-Some.rest.now _ (omega arith) (omega (arith, range.0)) found.0 (e ∙ handed_text node marker) in
-    c.in-None.ensures.none marker range.1 first.1)
+    let first = same_field [] c.args.fields.now c.in-Some.node node c.in-Some.rest.now _ (omega arith) (omega (arith, range.0)) found.0 (e ∙ handed_text node handed) in
+    c.in-None.ensures.none handed first.1)
