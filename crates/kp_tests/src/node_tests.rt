@@ -3,7 +3,7 @@
 ghost use Rattle.std.specs.Prelude.{◌≡◌, ◌<◌, ◌≤◌};
 ghost use Rattle.std.specs.List.{AllByRecursion};
 ghost use Rattle.kp_world.specs.declared.event.Event.TheVariants.{Acts};
-ghost use Rattle.kp_world.specs.Events.{HasMarker, IsAmong};
+ghost use Rattle.kp_world.specs.Events.{IsAmong};
 
 use crate::logs::{batch_of, told};
 use crate::script_tests::trace_of;
@@ -11,7 +11,7 @@ use crate::shown::is;
 use bytes::Bytes;
 use kp_batch::Handed;
 use kp_control::LeaderAndIsr;
-use kp_marker::{Kind, Marker};
+use kp_marker::{HandedMarker, Kind, Marker};
 use kp_replica::{Act, Answer, PlainAct, Receipt, Replica};
 use kp_types::{Limits, MAX_BATCH, NodeId, Refusal};
 use kp_world::{Event, EventAnswer, Stopped, Trace, run};
@@ -119,11 +119,10 @@ fn played(alloc: Global, count: NodeId, events: Vec<Event>) -> Result<String, Re
     requires some { 0 < count }
     requires most { count ≤ 7 }
     requires nodes { AllByRecursion (IsAmong count) events.items }
-    requires markers { AllByRecursion HasMarker events.items }
 {
     match run(alloc, count, &LIMITS, events) {
         Ok(trace) => told_run(alloc, &trace),
-        Err(Stopped { trace }) => told_run(alloc, &trace),
+        Err(Stopped { trace, .. }) => told_run(alloc, &trace),
     }
 }
 
@@ -195,11 +194,19 @@ const MARKER: Marker = Marker {
     timestamp: 20,
 };
 
+// A marker with a field out of its range is none that can be handed in.
+#[test]
+fn markers_have_ranges(rt: HostRuntime) {
+    assert!(rt; HandedMarker::new(MARKER).is_some());
+    let late = Marker { timestamp: 1 << 62, ..MARKER };
+    assert!(rt; HandedMarker::new(late).is_none());
+}
+
 // Three records come twice, the second time in the leader's next epoch.
 fn three_twice(alloc: Global) -> Result<String, Refusal> {
     let bytes = bytes_of(alloc, "d9.0.0.3")?;
     let again = bytes.share()?;
-    let marker = MARKER;
+    let marker = HandedMarker::new(MARKER).ok_or(Refusal::BadCount)?;
     let events = vec![in alloc;
         Event::Elect { node: 0 },
         acts(0, Act::Plain(PlainAct::Adopt)),

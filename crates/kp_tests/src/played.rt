@@ -181,8 +181,6 @@ fn forge(alloc: Global, batches: Batches) -> Result<Vec<Batch>, Refusal> {
 }
 
 impl Play {
-    ghost use Rattle.kp_replica.specs.Acts.{HandsMarker};
-
     // So many idle nodes with empty logs. There is room for 32 messages.
     fn new(alloc: Global, count: NodeId) -> Result<Play, Refusal> {
         let count = count.min(7);
@@ -228,9 +226,7 @@ impl Play {
         text: &mut String,
         node: NodeId,
         act: Act,
-    ) -> Result<(), Refusal>
-        requires { HandsMarker act }
-    {
+    ) -> Result<(), Refusal> {
         let effect = broker(&mut self.nodes, node)?.act(alloc, &self.record, act)?;
         self.tell(text, node, effect)
     }
