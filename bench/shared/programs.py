@@ -16,10 +16,10 @@ SCRIPTS = f"{SHARED}/scripts.py"
 
 
 def kpart():
-    """The program that KPART names, else the repository's. The repository's wrapper builds that, and is then passed by."""
+    """The program that KPART names, else the repository's, built where it isn't as the sources are."""
     named = os.environ.get("KPART")
     if not named:
-        subprocess.run([f"{TOP}/kpart", "--help"], stdout=subprocess.DEVNULL, check=True)
+        subprocess.run([f"{TOP}/tools/build"], check=True)
         named = f"{TOP}/crates/kpart/out/kpart"
     return named
 

@@ -49,10 +49,10 @@ def called(program, *words):
 
 
 def program_called():
-    """The program that KPART names, or the repository's, which its wrapper builds where it isn't there; None for no program."""
+    """The program that KPART names, or the repository's, which is built where it isn't there; None for no program."""
     program = os.environ.get("KPART", f"{TOP}/crates/kpart/out/kpart")
     if "KPART" not in os.environ and not os.path.exists(program):
-        subprocess.run([f"{TOP}/kpart", "--help"], stdout=subprocess.DEVNULL, check=True)
+        subprocess.run([f"{TOP}/tools/build"], check=True)
     if shutil.which(program):
         return program
     print(f"tools/chance: {program} is no program", file=sys.stderr)
