@@ -1,10 +1,13 @@
 -- Beginnings of what a device was told.
-use Rattle.std.proofs.Common.{◌≡◌, ◌∙◌, ℕ, zero, suc, ◌+◌, ◌≤◌, List, [], ◌∷◌, ◌++◌, ap, sym, subst, arith, refl, take, length, Option, append-nil}
+use Rattle.std.proofs.Common.{◌≡◌, ◌∙◌, ℕ, zero, suc, ◌+◌, ◌≤◌, List, [], ◌∷◌, ◌++◌, ap, sym, subst, arith, refl, take, length, Option, Result, Ok, Err, append-nil}
+use Rattle.std.specs.Prelude.{OnOk, OnErr, IfErr}
 use Rattle.std.proofs.Math.Seq.{take-append-add}
 use Rattle.std.proofs.lemmas.List.{take-append-le, length-take}
 use Rattle.std.proofs.KnownBytes.{Appends-trans}
 use Rattle.std.specs.Io.KnownBytes.{Appends}
-use Rattle.kp_types.specs.Devices.{AppendsFront, IsBegun, IsOut}
+use Rattle.kp_types.specs.Devices.{AppendsFront, CountsFault, CountsFaults, IsBegun, IsOut, device_of, faults_of}
+use Rattle.kp_types.specs.declared.refusal.Refusal.{Refusal}
+use Rattle.kp_types.specs.declared.refusal.Refusal.TheVariants.{Device}
 use Rattle.kp_types.specs.declared.counted.Counted.{Counted}
 
 -- a beginning has the length of what it takes
@@ -41,3 +44,19 @@ module _ {T : Type 0} (contents : T → Option (List ℕ)) (a b c : Counted T) (
       let same : take n xs ≡ take (length (take n xs)) (xs ++ ys) =
       sym (take-append-le (length (take n xs)) xs ys short ∙ trimmed n xs) in
       ((length (take n xs), subst (Appends _ _) same first), one)
+
+-- a refusal that is a device's has been counted
+pub counted_once : (refusal : Refusal) (old new : ℕ) → refusal ≡ Device → CountsFault refusal old new → new ≡ old + 1
+counted_once refusal old new is counted = subst (λ r. CountsFault r old new) is counted
+
+-- what a counted call of a writer left
+module _ {A T : Type 0} (contents : T → Option (List ℕ)) (old new : Counted T) (text : List ℕ) where
+  pub all_out : (r : Result A Refusal) → OnOk r (Appends (contents (device_of old)) (contents (device_of new)) text)
+      → CountsFaults r (faults_of old) (faults_of new) → OnOk r (IsOut contents old new text)
+  all_out (Ok x) out counted = (out, counted)
+  all_out (Err refusal) out counted = tt
+
+  pub part_out : (r : Result A Refusal) → OnErr r (AppendsFront (contents (device_of old)) (contents (device_of new)) text)
+      → IfErr r (λ refusal. refusal ≡ Device) → CountsFaults r (faults_of old) (faults_of new) → OnErr r (IsBegun contents old new text)
+  part_out (Ok x) begun only counted = tt
+  part_out (Err refusal) begun only counted = (begun, counted_once refusal _ _ only counted)

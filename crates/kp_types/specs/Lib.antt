@@ -2,3 +2,4 @@ pub mod Texts
 pub mod Causes
 pub mod Devices
 pub mod Folders
+pub mod Windows

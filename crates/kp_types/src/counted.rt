@@ -1,12 +1,15 @@
 //! A reader or a writer with the count of its calls that failed.
 
-ghost use Rattle.std.specs.Prelude.{◌≡◌, ◌+◌, ◌<◌, ◌^◌, List, IfOk, IfErr, IfSome, OnOk, OnErr, ◌≤◌};
+ghost use Rattle.std.specs.Prelude.{◌≡◌, ◌+◌, ◌<◌, ◌^◌, ◌++◌, ℕ, drop, List, IfOk, IfErr, IfSome, OnOk, OnErr, ◌≤◌};
 ghost use Rattle.std.specs.List.{flat_map};
-ghost use Rattle.std.specs.Io.KnownBytes.{Appends};
+ghost use Rattle.std.specs.Io.KnownBytes.{Appends, Consumes, IsAtEnd};
 ghost use Rattle.kp_types.specs.declared.refusal.Refusal.TheVariants.{Device};
+ghost use Rattle.kp_types.specs.Windows.{WritesWindow};
 ghost use Rattle.kp_types.specs.Devices.{CountsFaults, AppendsFront, IsDeviceFault, IsOut, IsBegun, device_of, faults_of};
 
 use crate::refusal::Refusal;
+use crate::window::{JOINED_BYTES, window_at};
+use arrayvec::ArrayVec;
 use std::alloc::Global;
 use std::fmt::Display;
 use std::io::{ErrorKind, Read, Write};
@@ -60,12 +63,16 @@ impl<T> Counted<T> {
 }
 
 impl<R: Read> Counted<R> {
-    /// All the bytes that are left. F32 where the device failed or never ends, and the count rises by one;
-    /// F33 where memory was refused, by the device too. Reads that were interrupted are tried again.
+    /// All the bytes that are left, and then none is. F32 where the device failed or never ends, and the count rises by
+    /// one; F33 where memory was refused, by the device too; a beginning of the bytes has been read then. Reads that were
+    /// interrupted are tried again. O(n) in the bytes, and as much memory.
     pub fn read_all(&mut self, alloc: Global) -> Result<Vec<u8>, Refusal>
         requires { faults_of self.old + 1 < 2 ^ 64 }
         ensures bytes { IfOk result (λ input. IfSome (R.remaining (device_of self.old))
             (λ all. input.items ≡ all)) }
+        ensures end { OnOk result (IsAtEnd (R.remaining (device_of self.new))) }
+        ensures begun { OnErr result ((read : List ℕ) × Consumes (R.remaining (device_of self.old))
+            (R.remaining (device_of self.new)) read) }
         ensures only { IfErr result IsDeviceFault }
         ensures counted { CountsFaults result (faults_of self.old) (faults_of self.new) }
     {
@@ -112,8 +119,9 @@ impl<W: Write> Counted<W> {
         Err(Refusal::Device)
     }
 
-    /// Writes these texts, one after another. F32 where the device failed, and the count rises by one; a
-    /// beginning of all of them together is out then.
+    /// Writes these texts, one after another: joined, in one write where they have at most [`JOINED_BYTES`] bytes
+    /// together. F32 where the device failed, and the count rises by one; a beginning of all of them together is out
+    /// then. It takes no memory; O(n) in their bytes.
     pub fn write_each(&mut self, texts: &[&[u8]]) -> Result<(), Refusal>
         requires { faults_of self.old + 1 < 2 ^ 64 }
         ensures ok { OnOk result (IsOut W.contents self.old self.new
@@ -122,27 +130,80 @@ impl<W: Write> Counted<W> {
             (flat_map (λ text. text.now) texts.now)) }
         ensures only { IfErr result (λ refusal. refusal ≡ Device) }
     {
+        let mut joined = ArrayVec::new();
         for text in texts {
-            self.write_all(text)?;
+            self.join(&mut joined, text)?;
         }
-        Ok(())
+        self.write_all(joined.as_slice())
     }
 
-    /// Writes the text of a value. F32 where the device failed, and the count rises by one; then some of the
-    /// text may be out.
+    // The text comes behind those that are joined. They are written where it doesn't fit behind them, and it is written itself
+    // where it is too long to be joined.
+    fn join(&mut self, joined: &mut ArrayVec<u8, JOINED_BYTES>, text: &[u8]) -> Result<(), Refusal>
+        requires { faults_of self.old + 1 < 2 ^ 64 }
+        ensures ok { OnOk result ((out : List ℕ) × IsOut W.contents self.old self.new out
+            × (out ++ joined.new.items ≡ joined.old.items ++ text.now)) }
+        ensures err { OnErr result (IsBegun W.contents self.old self.new
+            (joined.old.items ++ text.now)) }
+        ensures only { IfErr result (λ refusal. refusal ≡ Device) }
+    {
+        match joined.try_extend_from_slice(text) {
+            Ok(()) => return Ok(()),
+            Err(_) => self.write_all(joined.as_slice())?,
+        }
+        joined.clear();
+        match joined.try_extend_from_slice(text) {
+            Ok(()) => Ok(()),
+            Err(_) => self.write_all(text),
+        }
+    }
+
+    /// Writes the text of a value, in one write for each [`JOINED_BYTES`] bytes of it. F32 where the device failed, or the value
+    /// gave no text, and the count rises by one; a beginning of the text is out then. It takes no memory, and makes the text
+    /// once more for each such write but the first.
     pub fn write_text<D: Display + Drop>(&mut self, text: D) -> Result<(), Refusal>
         requires { faults_of self.old + 1 < 2 ^ 64 }
         ensures ok { OnOk result (IfSome (D.output text)
             (Appends (W.contents (device_of self.old)) (W.contents (device_of self.new)))) }
+        ensures err { OnErr result (IfSome (D.output text)
+            (AppendsFront (W.contents (device_of self.old)) (W.contents (device_of self.new)))) }
         ensures only { IfErr result (λ refusal. refusal ≡ Device) }
         ensures counted { CountsFaults result (faults_of self.old) (faults_of self.new) }
     {
-        match write!(self.inner, "{text}") {
-            Ok(()) => Ok(()),
-            Err(_) => {
-                self.failed += 1;
-                Err(Refusal::Device)
+        let mut done = 0;
+        for _ in 0..u64::MAX {
+            match self.write_window(&text, done)? {
+                Some(further) => done = further,
+                None => return Ok(()),
             }
         }
+        self.failed += 1;
+        Err(Refusal::Device)
+    }
+
+    // Writes what the value's text has behind its first bytes, as much of it as is written at once. Gives where the next such
+    // part begins, and none at the text's end.
+    fn write_window<D: Display>(&mut self, text: &D, done: usize) -> Result<Option<usize>, Refusal>
+        requires { faults_of self.old + 1 < 2 ^ 64 }
+        ensures next { IfOk result (λ next. IfSome (D.output text.now) (λ all. WritesWindow
+            (W.contents (device_of self.old)) (W.contents (device_of self.new)) done all next)) }
+        ensures err { OnErr result (IfSome (D.output text.now) (λ all. AppendsFront
+            (W.contents (device_of self.old)) (W.contents (device_of self.new)) (drop done all))) }
+        ensures only { IfErr result (λ refusal. refusal ≡ Device) }
+        ensures counted { CountsFaults result (faults_of self.old) (faults_of self.new) }
+    {
+        let Some(window) = window_at(text, done) else {
+            self.failed += 1;
+            return Err(Refusal::Device);
+        };
+        self.write_all(window.as_slice())?;
+        if window.len() < JOINED_BYTES {
+            return Ok(None);
+        }
+        let Some(further) = done.checked_add(JOINED_BYTES) else {
+            self.failed += 1;
+            return Err(Refusal::Device);
+        };
+        Ok(Some(further))
     }
 }

@@ -1,6 +1,6 @@
 //! What every crate speaks of: offsets, epochs, node numbers, limits, refusals, and devices that count
-//! their failed calls. It stands on std alone. The layers above use the refusals' exact texts, and that
-//! a device refusal comes exactly where a count rose.
+//! their failed calls. It stands on the kit's arrayvec. The layers above use the refusals' exact texts, and
+//! that a device refusal comes exactly where a count rose.
 #![tactic(auto)]
 
 mod counted;
@@ -8,6 +8,7 @@ mod faulty;
 mod folder;
 mod limits;
 mod refusal;
+mod window;
 
 pub use counted::Counted;
 pub use faulty::{Faulty, FaultyFolder};
@@ -18,3 +19,4 @@ pub use limits::{
     NODE_PLACES, NodeId, Offset, SEQUENCES,
 };
 pub use refusal::Refusal;
+pub use window::JOINED_BYTES;
