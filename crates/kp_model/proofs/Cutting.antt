@@ -6,15 +6,15 @@ use Rattle.std.proofs.lemmas.Bool.{and_parts, not-false, eqb-true, cases_lt, fal
 use Rattle.kp_model.specs.Beginning.{Begins}
 use Rattle.kp_model.specs.Log.{Batch, end_of, IsLog, IsBoundary, below, IsKin}
 use Rattle.kp_model.specs.Epochs.{end_for, cut_place}
-use Rattle.kp_model.specs.World.{LeaderAndIsr, Leading, Following, Mode, Down, Idle, Leads, Follows, Node, Answer, Answers, World}
+use Rattle.kp_model.specs.World.{LeaderAndIsr, Leading, Following, Mode, Down, Idle, Leads, Follows, Node, Answer, Answers, World, IsSent}
 use Rattle.kp_model.specs.Event.{Receive, Cut}
-use Rattle.kp_model.specs.Run.{Run, last}
+use Rattle.kp_model.specs.Run.{Run, last, IsOf}
 use Rattle.kp_model.specs.Local.{Effect, Local, LocalBy, becomes, cause, WhereFollows, last_epoch, piece, epoch_answer, is_down, has_epoch, mode_epoch, reconciles, take_cause, cut_cause_for, cut_cause, Cuts, Accepts}
 use Rattle.kp_model.specs.Letter.{From, ForEpoch, Batches, EpochEnd, letter_of}
 use Rattle.kp_model.specs.Calls.{asked_epoch, answered_end, reconciled, cut_by, cut}
 use Rattle.kp_types.specs.declared.refusal.Refusal.{Refusal}
 use Rattle.kp_model.specs.Laws.{place_of, CutIsTheStep, NoCutBelowTheWatermark, IsRound, AreRounds, RoundsEnd, ReconciliationsEnd}
-use Rattle.kp_model.proofs.Beginnings.{Begins-nil, Begins-trans}
+use Rattle.kp_model.proofs.Beginnings.{Begins-refl, Begins-nil, Begins-trans, Begins-length, Begins-agree, Begins-whole}
 use Rattle.kp_model.proofs.Logs.{end_of-append, last_epoch_or, IsLog-begins}
 use Rattle.kp_model.proofs.Steps.{each_sent, where_follows, happened, was_refused}
 use Rattle.kp_model.proofs.SoundLogs.{AllBelow, below_later, last_epoch_is, MessageIsSound}
@@ -25,8 +25,7 @@ use Rattle.kp_model.proofs.HeldGrown.{made_to}
 use Rattle.kp_model.proofs.HeldOnto.{AllKept}
 use Rattle.kp_model.proofs.HeldEvents.{last_election}
 use Rattle.kp_model.proofs.CutPlaces.{IsCutPlace, is_cut_place}
-use Rattle.kp_model.proofs.HeldRuns.{none_higher}
-use Rattle.kp_model.proofs.RunLaws.{last_is_of}
+use Rattle.kp_model.proofs.HeldRuns.{none_higher, run_is_held, was_held}
 use Rattle.kp_model.proofs.Sends.{sent_at_last}
 use Rattle.kp_model.proofs.Known.{known}
 use Rattle.kp_types.proofs.Causes.{passed}
@@ -186,8 +185,8 @@ last_batch (b ∷ bs) =
       | inr more ↦ inr (b ∷ more.0, more.1, ap (λ (s : List Batch). b ∷ s) more.2)
     ]
 
--- Node n takes an answer that was sent in v, and in w, where m leads in its epoch. Neither world need be the later one.
-module _ (v : World) (g : History) (t : Sets) (k : AllKept v g t) (w : World) (g' : History) (t' : Sets) (k' : AllKept w g' t') (n m : ℕ) (l : Leading) (a : Answer)
+-- Node n takes an answer that was sent in v, and in w. Neither world need be the later one.
+module _ (v : World) (g : History) (t : Sets) (k : AllKept v g t) (w : World) (g' : History) (t' : Sets) (k' : AllKept w g' t') (n : ℕ) (a : Answer)
     (sent : Sent v (Answers a)) (known : Sent w (Answers a)) where
   abbrev y : Node
   y = v.nodes n
@@ -225,9 +224,9 @@ module _ (v : World) (g : History) (t : Sets) (k : AllKept v g t) (w : World) (g
                 recent f mode facts.reconciling facts.asked facts.life asks Q p there)
           ]
 
-  round_ends : (e : Effect) (end : ℕ) (done : Bool) → Local v.controller n y (Receive (Answers a)) e → e.reply ≡ Cut end done → (w.nodes m).mode ≡ Leads l → epoch ≡ l.epoch
-      → RoundsEnd y.log e.node.log (w.nodes m).log done
-  round_ends e end done h r leads same_epoch =
+  round_ends : (leaders : List Batch) (answered : Type 0) → Begins leaders (g'.ledger epoch) → (answered → Begins a.log leaders)
+      → (e : Effect) (end : ℕ) (done : Bool) → Local v.controller n y (Receive (Answers a)) e → e.reply ≡ Cut end done → RoundsEnd y.log e.node.log leaders done answered
+  round_ends leaders answered made has e end done h r =
       let found = cut_of v.controller n y a e end done h r in
       let f = found.1 in
       let mode = found.2 in
@@ -235,29 +234,46 @@ module _ (v : World) (g : History) (t : Sets) (k : AllKept v g t) (w : World) (g
       let free = sym (cause_is v.controller n y a found.4) ∙ found.0 in
       let facts = cut_facts v n a f mode free in
       let message : MessageIsKept g' (Answers a) = each_sent (MessageIsKept g') w.messages (Answers a) k'.kept.messages known in
-      let leading : ModeIsKept g' m (w.nodes m).log (Leads l) = subst (ModeIsKept g' m (w.nodes m).log) leads (k'.kept.nodes m).mode in
-      let ledger : (w.nodes m).log ≡ g'.ledger epoch = leading.0 ∙ ap g'.ledger (sym same_epoch) in
       let left : e.node.log ≡ cuts.left = ap (λ (i : Effect). i.node.log) cuts.effect_is in
       let same : cuts.done ≡ done = (let replies = sym (ap (λ (i : Effect). i.reply) cuts.effect_is) ∙ r in cc) in
-      record {
-        common = cuts.common;
-        is_common =
-            record {
-              first = cuts.is_common.first;
-              second = subst (Begins cuts.common) (sym ledger) (Begins-trans cuts.is_common.second message.1);
-              longest = λ Q p q. cuts.is_common.longest Q p (answer_has_common f mode facts found.4 Q p (subst (Begins Q) ledger q));
-            };
-        begins = subst (λ (s : List Batch). Begins s y.log) (sym left) cuts.begins;
-        keeps = subst (Begins cuts.common) (sym left) cuts.keeps;
-        ends = λ d. left ∙ cuts.done_at (same ∙ d);
-        shorter = λ d. (let short = cuts.shorter (same ∙ d) in let long = ap length left in omega arith);
-      }
+      let begins : Begins e.node.log y.log = subst (λ (s : List Batch). Begins s y.log) (sym left) cuts.begins in
+      let keeps : Begins cuts.common e.node.log = subst (Begins cuts.common) (sym left) cuts.keeps in
+      let shorter : IsFalse done → length e.node.log < length y.log = λ d. (let short = cuts.shorter (same ∙ d) in let long = ap length left in omega arith) in
+      elim (Begins-agree (Begins-trans cuts.is_common.second message.1) made) [
+        | inl there ↦ record {
+          common = cuts.common;
+          is_common =
+              record {
+                first = cuts.is_common.first;
+                second = there;
+                longest = λ Q p q. cuts.is_common.longest Q p (answer_has_common f mode facts found.4 Q p (Begins-trans q made));
+              };
+          begins = begins;
+          keeps = keeps;
+          ends = λ d answers. left ∙ cuts.done_at (same ∙ d);
+          shorter = shorter;
+        }
+        | inr short ↦ record {
+          common = leaders;
+          is_common =
+              record {
+                first = Begins-trans short cuts.is_common.first;
+                second = Begins-refl leaders;
+                longest = λ Q p q. Begins-length q;
+              };
+          begins = begins;
+          keeps = Begins-trans short keeps;
+          ends = λ d answers.
+              left ∙ cuts.done_at (same ∙ d) ∙ sym (Begins-whole leaders cuts.common short (Begins-length (Begins-trans cuts.is_common.second (has answers))));
+          shorter = shorter;
+        }
+      ]
 
 -- ---- what rounds leave
 
 -- a round, and what the rounds after it leave
-rounds_then : (old left new leaders : List Batch) (done : Bool) → RoundsEnd old left leaders false → RoundsEnd left new leaders done → RoundsEnd old new leaders done
-rounds_then old left new leaders done p q =
+rounds_then : (old left new leaders : List Batch) (done : Bool) (before answered : Type 0) → RoundsEnd old left leaders false before → RoundsEnd left new leaders done answered → RoundsEnd old new leaders done answered
+rounds_then old left new leaders done before answered p q =
     record {
       common = q.common;
       is_common =
@@ -272,21 +288,33 @@ rounds_then old left new leaders done p q =
       shorter = λ d. (let before = p.shorter refl in let after = q.shorter d in omega arith);
     }
 
-module _ (count : ℕ) (r : Run count) (n m : ℕ) (l : Leading) (leads : ((last r).nodes m).mode ≡ Leads l) where
+-- m leads in u; what it made by then is of what was made in its epoch by the run's end
+module _ (count : ℕ) (r : Run count) (u : World) (n m : ℕ) (l : Leading) (of : IsOf u r) (leads : (u.nodes m).mode ≡ Leads l) where
   abbrev leaders : List Batch
-  leaders = ((last r).nodes m).log
+  leaders = (u.nodes m).log
 
-  one_round : (old new : List Batch) (done : Bool) → IsRound r n l.epoch old new done → RoundsEnd old new leaders done
-  one_round old new done (v, a, e, end, i, sent, epoch, h, reply, before, after) =
-      let k = known count r v i in
-      let k' = known count r (last r) (last_is_of count r) in
-      let here = round_ends v k.history k.sets k.all (last r) k'.history k'.sets k'.all n m l a sent (sent_at_last count r v i (Answers a) sent) e end done h reply leads epoch in
-      subst (λ (s : List Batch). RoundsEnd old s leaders done) after (subst (λ (s : List Batch). RoundsEnd s e.node.log leaders done) before here)
+  abbrev Answered : Answer → Type 0
+  Answered a = IsSent u.messages (Answers a)
 
-  rounds_end : (old new : List Batch) (between : List (List Batch)) (done : Bool) → AreRounds r n l.epoch old between new done → RoundsEnd old new leaders done
-  rounds_end old new [] done h = one_round old new done h
-  rounds_end old new (left ∷ between) done h =
-      rounds_then old left new leaders done (one_round old left false h.0) (rounds_end left new between done h.1)
+  one_round : (a : Answer) (old new : List Batch) (done : Bool) → IsRound r n l.epoch a old new done → RoundsEnd old new leaders done (Answered a)
+  one_round a old new done (v, e, end, i, sent, epoch, h, reply, before, after) =
+      let run = run_is_held count r.moments r.is_run in
+      let was = was_held count r.moments run v i in
+      let led = was_held count r.moments run u of in
+      let kept : ModeIsKept led.history m (u.nodes m).log (Leads l) = subst (ModeIsKept led.history m (u.nodes m).log) leads (led.all.kept.nodes m).mode in
+      let whole : leaders ≡ led.history.ledger a.request.epoch = kept.0 ∙ ap led.history.ledger (sym epoch) in
+      let made : Begins leaders (run.history.ledger a.request.epoch) =
+      subst (λ (s : List Batch). Begins s (run.history.ledger a.request.epoch)) (sym whole) (led.grows a.request.epoch) in
+      let has : Answered a → Begins a.log leaders = λ known.
+      (let message : MessageIsKept led.history (Answers a) = each_sent (MessageIsKept led.history) u.messages (Answers a) led.all.kept.messages known in
+      subst (Begins a.log) (sym whole) message.1) in
+      let here = round_ends v was.history was.sets was.all (last r) run.history run.sets run.all n a sent (sent_at_last count r v i (Answers a) sent) leaders (Answered a) made has e end done h reply in
+      subst (λ (s : List Batch). RoundsEnd old s leaders done (Answered a)) after (subst (λ (s : List Batch). RoundsEnd s e.node.log leaders done (Answered a)) before here)
+
+  rounds_end : (a : Answer) (old new : List Batch) (between : List (List Batch)) (done : Bool) → AreRounds r n l.epoch a old between new done → RoundsEnd old new leaders done (Answered a)
+  rounds_end a old new [] done h = one_round a old new done h
+  rounds_end a old new (left ∷ between) done h =
+      rounds_then old left new leaders done (Answered h.0.0) (Answered a) (one_round h.0.0 old left false h.0.1) (rounds_end a left new between done h.1)
 
 pub reconciliations_end : ReconciliationsEnd
-reconciliations_end count r n m l old new between done leads h = rounds_end count r n m l leads old new between done h
+reconciliations_end count r v n m l a old new between done i leads h = rounds_end count r v n m l i leads a old new between done h

@@ -14,6 +14,7 @@ use Rattle.kp_model.specs.Local.{Effect, Local, LocalBy, LacksMemoryFor, Receive
 use Rattle.kp_model.specs.Step.{NodeStep}
 use Rattle.kp_model.specs.Laws.{NoDeliveryIsRefusedOddly}
 use Rattle.kp_model.proofs.Beginnings.{Begins-refl, Begins-trans}
+use Rattle.kp_model.proofs.Following.{cannot_follow-cons}
 use Rattle.kp_model.proofs.Logs.{Follow-rest, last_epoch_or, IsLog-begins}
 use Rattle.kp_model.proofs.Steps.{where_leads, where_follows, each_sent}
 use Rattle.kp_model.proofs.SoundLogs.{last_epoch_is}
@@ -51,7 +52,7 @@ can_follow_all log (b ∷ bs) h =
     let here : eqb b.base (end_of log) ≡ true = eq-eqb b.base (end_of log) (tail.0 ∙ zero-add (end_of log)) in
     let onward : last_epoch_or 0 log ≤ b.epoch = tail.1 in
     let not_back : ltb b.epoch (unwrap_or (last_epoch log) 0) ≡ false = le-ltb b.epoch (unwrap_or (last_epoch log) 0) (omega (arith, last_epoch_is log)) in
-    rw (here, not_back) (can_follow_all (log ++ b ∷ []) bs (subst IsLog (sym (append_assoc log (b ∷ []) bs)) h))
+    cannot_follow-cons log b bs ∙ rw (here, not_back) (can_follow_all (log ++ b ∷ []) bs (subst IsLog (sym (append_assoc log (b ∷ []) bs)) h))
 
 -- ---- causes and replies that aren't odd
 

@@ -115,6 +115,7 @@ abbrev w6 : World
 w6 = moved w5 0 a6
 
 pub e6 : Step w5 (Deliver 0) (record { reply = SentBatches 1 0; number = Some 1 }) w6
+unfolding size_of covered record_spelling record_fields records_spelling varint varint_within sized sized_or_null
 e6 = did w5 0 (Receive (Asks (ask []))) a6 (omega arith) (0, refl) refl refl
 
 abbrev a7 : Effect
@@ -124,6 +125,7 @@ abbrev pub w7 : World
 w7 = moved w6 1 a7
 
 pub e7 : Step w6 (Deliver 1) (told (Took 1 0)) w7
+unfolding size_of covered record_spelling record_fields records_spelling varint varint_within sized sized_or_null
 e7 = did w6 1 (Receive (Answers (record { request = ask []; log = batch ∷ []; watermark = 0 }))) a7 (omega arith) (1, refl) refl refl
 
 -- ask 1 again, deliver 2, raise 0: the batch is committed

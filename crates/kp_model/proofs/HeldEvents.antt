@@ -21,12 +21,12 @@ use Rattle.kp_model.proofs.Ledger.{IsMade}
 use Rattle.kp_model.proofs.Kin
 use Rattle.kp_model.proofs.Kin.{History, IsKept, ModeIsKept, MessageIsKept, same_log, re_recorded, elect_kept, take_kept, take_some_kept, cut_kept, grown_made, cut_facts, has_epoch_is, empty_is}
 use Rattle.kp_model.proofs.Held.{Sets, IsIn, Sent, IsHeld, answer_has, cut_holds}
-use Rattle.kp_model.proofs.HeldNodes.{NodeChange, changed_held, committed_after}
+use Rattle.kp_model.proofs.HeldNodes.{NodeChange, changed_held, committed_after, epoch_after}
 use Rattle.kp_model.proofs.HeldSteps.{goes_down, restarts, marks_change, follows_now, takes, cuts}
 use Rattle.kp_model.proofs.HeldMarks.{raises}
-use Rattle.kp_model.proofs.HeldMessages.{Sending, sent_held, committed_sent, asks, serves, answering}
-use Rattle.kp_model.proofs.HeldRecord.{elect_held, committed_elected, with_members}
-use Rattle.kp_model.proofs.HeldAlter.{CaughtUp, alter_held, committed_altered}
+use Rattle.kp_model.proofs.HeldMessages.{Sending, sent_held, committed_sent, epoch_sent, asks, serves, answering}
+use Rattle.kp_model.proofs.HeldRecord.{elect_held, committed_elected, epoch_elected, with_members}
+use Rattle.kp_model.proofs.HeldAlter.{CaughtUp, alter_held, committed_altered, epoch_altered}
 use Rattle.kp_model.proofs.Members.{with_member_cases, with_member_keeps, without_member_had, without_member_keeps, named, caught_up}
 use Rattle.kp_model.proofs.HeldOnto.{AllKept, Onto, onto_same, node_onto, led_same, led_follows}
 use Rattle.kp_model.proofs.HeldAppend.{append_onto}
@@ -44,7 +44,10 @@ module _ (w : World) (g : History) (t : Sets) (a : AllKept w g t) where
         held = sent_held w g t a.held m c;
         led = a.led;
         own = a.own;
+        grows = λ e. Begins-refl (g.ledger e);
+        began = λ e first o. o;
         committed = committed_sent w g t a.held m c;
+        epoch = λ P p. inl (epoch_sent w g t a.held m c P p);
         stays = λ n P p b. b;
       }
 
@@ -120,7 +123,11 @@ module _ (w : World) (g : History) (t : Sets) (a : AllKept w g t) where
           held = sent_held v g t held m said;
           led = led_same w g t n y refl a.led;
           own = a.own;
+          grows = λ e. Begins-refl (g.ledger e);
+          began = λ e first o. o;
           committed = λ P p. committed_sent v g t held m said P (committed_after w g t a.sound a.held a.kept n y c P p);
+          epoch = λ P p.
+              inl (epoch_sent v g t held m said P (committed_after w g t a.sound a.held a.kept n y c P p) ∙ epoch_after w g t a.sound a.held a.kept n y c P p);
           stays = first.stays;
         }
 
@@ -224,7 +231,10 @@ module _ (w : World) (g : History) (t : Sets) (a : AllKept w g t) where
           held = alter_held w g t a.sound a.held a.kept n l mode recorded isr own each;
           led = led_same w g t n y refl a.led;
           own = a.own;
+          grows = λ e. Begins-refl (g.ledger e);
+          began = λ e first o. o;
           committed = committed_altered w g t a.sound a.held a.kept n l mode recorded isr own each;
+          epoch = λ P p. inl (epoch_altered w g t a.sound a.held a.kept n l mode recorded isr own each P p);
           stays = λ m P p b. cond_both (eqb m n) y (w.nodes m) (λ (z : Node). Begins P z.log) (λ e. subst (λ (j : ℕ). Begins P (w.nodes j).log) (eqb-true m n e) b) (λ e. b);
         })
 
@@ -330,7 +340,10 @@ module _ (w : World) (g : History) (t : Sets) (a : AllKept w g t) where
               let epoch : elections_of w ≡ l.epoch = ap (λ (y : Leader). y.epoch) same in
               false≢true (ap is_some (sym (a.held.later l.epoch (omega arith)) ∙ o)));
           own = a.own;
+          grows = λ e. Begins-refl (g.ledger e);
+          began = λ e first o. o;
           committed = committed_elected w g t a.sound a.held a.kept n member;
+          epoch = epoch_elected w g t a.sound a.held a.kept n member;
           stays = λ m P p b. b;
         }
 

@@ -8,7 +8,8 @@ use Rattle.kp_model.specs.World.{LeaderAndIsr, Leader, Leading, Following, Leads
 use Rattle.kp_model.specs.Event.{Act, Adopt, Produce, Mark, Ask, Receive, Raise, Join, Leave, Checkpoint, Stop, Restart, Show, Read, Committed, Event, Outcome}
 use Rattle.kp_model.specs.Local.{Effect, cause, Happens, LacksMemory, LacksMemoryFor, Adopts, Appends, Produces, Marks, Receives, Accepts, Serves, Cuts, Alters, marker_body, with_member, without_member, asked, answer, serve_cause, receive_cause}
 use Rattle.kp_model.specs.Step.{Step, IsGiven}
-use Rattle.kp_model.specs.Run.{Moment, IsRun, Run, now, worlds, last, Among, IsOf}
+use Rattle.kp_model.specs.Run.{Moment, IsRun, now, worlds, Among}
+use Rattle.kp_model.specs.Laws.{MessagesStay}
 use Rattle.kp_model.proofs.Steps.{where_leads, where_follows, leads_cause, step_cases, get_front}
 use Rattle.kp_types.proofs.Elements.{all_append}
 
@@ -120,5 +121,5 @@ sent_by_now count (p ∷ past) r w a m sent =
       | inr older ↦ step_sent (now count past) p.event p.outcome p.after m r.0 (sent_by_now count past r.1 w older m sent)
     ]
 
-pub sent_at_last : (count : ℕ) (r : Run count) (w : World) → IsOf w r → (m : Message) → IsSent w.messages m → IsSent (last r).messages m
+pub sent_at_last : MessagesStay
 sent_at_last count r w i m sent = sent_by_now count r.moments r.is_run w i m sent

@@ -1,18 +1,20 @@
 -- Each log of each world of a run is a log, and no leader epoch in it is above its node's.
-use Rattle.std.proofs.Common.{◌≡◌, ℕ, ◌+◌, ◌-◌, ◌<◌, ◌≤◌, Bool, true, false, cond, eqb, ltb, leb, List, [], ◌∷◌, ◌++◌, Option, Some, None, Result, Ok, Err, refl, sym, ap, subst, append_assoc, append-nil, arith, inl, inr}
+use Rattle.std.proofs.Common.{◌≡◌, ℕ, ◌+◌, ◌<◌, ◌≤◌, Bool, true, false, cond, eqb, ltb, leb, List, [], ◌∷◌, ◌++◌, Option, Some, None, Result, Ok, Err, refl, sym, ap, ◌∙◌, subst, append_assoc, append-nil, arith, inl, inr}
 use Rattle.std.specs.Prelude.{map, unwrap_or, is_some}
 use Rattle.std.specs.List.{AllByRecursion, last_or}
 use Rattle.std.proofs.lemmas.Bool.{cond_both, cases_Bool, ltb-false, and_parts, not-false, eqb-true}
 use Rattle.kp_types.specs.declared.refusal.Refusal.{Refusal}
 use Rattle.kp_batch.specs.Batch.{Body, IsBody}
 use Rattle.kp_model.specs.Beginning.{Begins}
-use Rattle.kp_model.specs.Log.{Batch, width, size, end_of, Follow, IsLog, from_offset}
+use Rattle.kp_model.specs.Log.{Batch, width, end_of, Follow, IsLog, from_offset}
 use Rattle.kp_model.specs.Admission.{Admission, Append, Duplicate, Refused as NotAdmitted, admit, admit_marker}
 use Rattle.kp_model.specs.World.{Leader, Leading, Following, Mode, Down, Idle, Leads, Follows, Node, Request, Answer, Message, Asks, Answers, World, start, with_record, with_node, with_message}
 use Rattle.kp_model.specs.Event.{Act, Adopt, Produce, Mark, Ask, Receive, Raise, Join, Leave, Checkpoint, Stop, Restart, Show, Read, Committed, Event, Reply, Outcome}
 use Rattle.kp_model.specs.Local
-use Rattle.kp_model.specs.Local.{Effect, cause, Happens, LacksMemory, next_epoch, last_epoch, stamped, under, Adopts, Appends, Produces, Marks, Receives, Accepts, Serves, Takes, TakesSome, Cuts, Alters, piece, at_least_one, fitting, fetch_bytes, cannot_follow, grown, awaits, take_cause, serve_cause, marker_body, LacksMemoryFor, elected, altered}
+use Rattle.kp_model.specs.Local.{Effect, cause, Happens, LacksMemory, next_epoch, last_epoch, stamped, under, Adopts, Appends, Produces, Marks, Receives, Accepts, Serves, Takes, TakesSome, Cuts, Alters, piece, cannot_follow, grown, awaits, take_cause, serve_cause, marker_body, LacksMemoryFor, elected, altered}
 use Rattle.kp_model.specs.Step.{Step, moved, IsGiven}
+use Rattle.kp_model.proofs.Fetched.{each_at_least_one}
+use Rattle.kp_model.proofs.Following.{cannot_follow-cons}
 use Rattle.kp_model.proofs.Beginnings.{Begins-after}
 use Rattle.kp_model.proofs.Logs.{last_epoch_or, IsLog-begins, IsLog-push}
 use Rattle.kp_model.proofs.Steps.{where_leads, where_follows, leads_cause, with_node_keeps, step_cases, becoming, staying, sending, altering, each_sent}
@@ -41,15 +43,6 @@ last_epoch_is (b ∷ bs) = ap (λ (o : Option ℕ). unwrap_or o 0) (last_epoch_s
 
 -- ---- a piece of a log
 
-each_fitting : (P : Batch → Type 0) (room : ℕ) (bs : List Batch) → AllByRecursion P bs → AllByRecursion P (fitting room bs)
-each_fitting P room [] h = tt
-each_fitting P room (b ∷ bs) h =
-    cond_both (leb (size b) room) (b ∷ fitting (room - size b) bs) [] (AllByRecursion P) (λ e. (h.0, each_fitting P (room - size b) bs h.1)) (λ e. tt)
-
-each_at_least_one : (P : Batch → Type 0) (bs : List Batch) → AllByRecursion P bs → AllByRecursion P (at_least_one bs)
-each_at_least_one P [] h = tt
-each_at_least_one P (b ∷ bs) h = (h.0, each_fitting P (fetch_bytes - size b) bs h.1)
-
 pub each_piece : (P : Batch → Type 0) (log : List Batch) (r : Request) → AllByRecursion P log → AllByRecursion P (piece log r)
 each_piece P log r h = each_at_least_one P (from_offset (end_of r.log) log) (all_kept P (λ b. leb (end_of r.log) b.base) log h)
 
@@ -60,7 +53,8 @@ Follow-bodies offset epoch (b ∷ bs) h = (h.2, Follow-bodies (offset + width b)
 -- batches that can follow a log make a log with it
 can_follow : (log bs : List Batch) → IsLog log → AllByRecursion (λ b. IsBody b.body) bs → cannot_follow log bs ≡ None → IsLog (log ++ bs)
 can_follow log [] h bodies e = rw append-nil h
-can_follow log (b ∷ bs) h bodies e =
+can_follow log (b ∷ bs) h bodies free =
+    let e = sym (cannot_follow-cons log b bs) ∙ free in
     elim (cases_Bool (eqb b.base (end_of log))) [
       | inr differs ↦ (let wrong = rw differs at e in absurd cc)
       | inl same ↦
@@ -201,7 +195,7 @@ serve_keeps w n r l f e c h a =
     (record { log = sound.log; epochs = below_later (mode_bound (elections_of w) x.mode) (r.epoch + 1) x.log (omega (arith, bound)) sound.epochs }))
 
 -- what a fetch answer adds keeps the node's log
-expects_mode : (elections : ℕ) (x : Node) (a : Answer) (mode : Mode) → awaits x a.request.epoch (end_of a.request.log) mode ≡ true → mode_bound elections mode ≡ a.request.epoch + 1
+pub expects_mode : (elections : ℕ) (x : Node) (a : Answer) (mode : Mode) → awaits x a.request.epoch (end_of a.request.log) mode ≡ true → mode_bound elections mode ≡ a.request.epoch + 1
 expects_mode elections x a Down e = absurd cc
 expects_mode elections x a Idle e = absurd cc
 expects_mode elections x a (Leads l) e = absurd cc

@@ -25,7 +25,7 @@ pub record Leading : Type 0 where
   pub start : ℕ
   pub reported : List (Option ℕ)
 
--- there are at most so many nodes
+-- a leader keeps the reports of so many nodes, the first ones (own rule)
 abbrev pub most_nodes : ℕ
 most_nodes = 7
 
