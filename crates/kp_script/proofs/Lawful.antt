@@ -70,7 +70,7 @@ lawful_produced time producer epoch sequence transactional values p e s a =
       length = omega (arith, size_is b, a.fits);
     }
 
-same_body : (a b : Body) → (let r : Result Body Refusal = Ok a in r) ≡ Ok b → a ≡ b
+pub same_body : (a b : Body) → (let r : Result Body Refusal = Ok a in r) ≡ Ok b → a ≡ b
 same_body a b e = cc
 
 -- the batch that the fields say, where they agree

@@ -20,5 +20,6 @@ pub mod Apart
 pub mod Logs
 pub mod Lawful
 pub mod Played
+pub mod Limited
 pub mod KeptLogs
 pub mod Counting

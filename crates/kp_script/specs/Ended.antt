@@ -1,9 +1,10 @@
 -- What a script's run leaves (own rule).
-use Rattle.std.specs.Prelude.{◌≡◌, ℕ, List, map, Option, IfSome}
-use Rattle.std.specs.List.{range_with_len}
+use Rattle.std.specs.Prelude.{◌≡◌, ℕ, ◌≤◌, List, map, Option, IfSome}
+use Rattle.std.specs.List.{AllByRecursion, range_with_len}
 use Rattle.std.specs.Io.KnownBytes.{Appends}
 use Rattle.kp_types.specs.declared.limits.Limits.{Limits}
 use Rattle.kp_log.specs.Partition.{Partition}
+use Rattle.kp_model.specs.Log.{size}
 use Rattle.kp_model.specs.Run.{last}
 use Rattle.kp_model.specs.World.{Node, World}
 use Rattle.kp_script.specs.Call.{Header}
@@ -25,6 +26,13 @@ node_log limits x = record { limits = limits; log = x.log; settled = x.watermark
 -- the logs of the header's nodes in this world
 abbrev pub logs_in : Header → World → List Partition
 logs_in header w = map (λ n. node_log (limits_in header) (w.nodes n)) (range_with_len 0 header.count)
+
+-- no batch of the log is above the greatest size
+abbrev pub KeepsLimit : Partition → Type 0
+KeepsLimit p = AllByRecursion (λ b. size b ≤ largest_batch) p.log
+
+abbrev pub AreLimited : List Partition → Type 0
+AreLimited logs = AllByRecursion KeepsLimit logs
 
 -- The input spells a script, the text is the trace of its calls, and the logs are those in the last world of that trace's run.
 pub record EndsWith (input text : List ℕ) (ended : RunEnd) : Type 0 where

@@ -5,7 +5,7 @@ ghost use Rattle.std.specs.List.{AllByRecursion};
 ghost use Rattle.kp_types.specs.declared.refusal.Refusal.TheVariants.{BadScript, Device as DeviceFault, Memory as WantOfMemory};
 ghost use Rattle.kp_types.specs.Devices.{CountsFaults, CountsOne, IsDeviceFault, device_of, faults_of};
 ghost use Rattle.kp_script.specs.Call.{IsCall};
-ghost use Rattle.kp_script.specs.Ended.{limits_in, WritesTo};
+ghost use Rattle.kp_script.specs.Ended.{limits_in, AreLimited, WritesTo};
 ghost use Rattle.kp_script.specs.Playing.{BeginFrom, PlayTo};
 ghost use Rattle.kp_script.specs.Script.{IsFaultAt};
 ghost use Rattle.kp_script.specs.Seen.{seen_header, seen_line};
@@ -96,7 +96,7 @@ fn play_lines<W: Write>(
 /// events were refused, and the nodes with their logs as they are then. F31 with the first line at fault, and then nothing
 /// is written; F33, and then the lines of the first events are, or nothing; F32 where a device failed, and then a
 /// beginning of the trace is. All lines are read before the first event is played, and the lines of some events are
-/// written before the next ones are played. Takes time proportional to the script, its trace and the batches that
+/// written before the next ones are played. No batch of the logs has more than [`MAX_BATCH`] bytes. Takes time proportional to the script, its trace and the batches that
 /// messages carry, and memory to the script, to what the nodes' logs keep of it and to all messages; the nodes and the
 /// messages stay as long as the answer does.
 pub fn play_script<R: Read, W: Write>(
@@ -108,6 +108,7 @@ pub fn play_script<R: Read, W: Write>(
     requires writes { faults_of writer.old + 1 < 2 ^ 64 }
     ensures played { IfOk result (λ ended. WritesTo (R.remaining (device_of reader.old))
         (W.contents (device_of writer.old)) (W.contents (device_of writer.new)) ended) }
+    ensures limited { IfOk result (λ ended. AreLimited ended.logs) }
     ensures fault { (line : ℕ) → result ≡ Err (BadScript line)
         → IfSome (R.remaining (device_of reader.old)) (λ input. IsFaultAt input line) }
     ensures untouched { (line : ℕ) → result ≡ Err (BadScript line) → writer.new ≡ writer.old }
@@ -122,6 +123,7 @@ pub fn play_script<R: Read, W: Write>(
     kp_world::plays_go_on();
     kp_model::runs_are_safe();
     kp_model::no_delivery_is_refused_oddly();
+    kp_model::batches_keep_their_size();
     kp_replica::bytes_are_an_offer();
     let input = reader.read_all(alloc)?;
     let script = parse(alloc, &input)?;

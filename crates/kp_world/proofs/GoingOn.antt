@@ -27,7 +27,7 @@ use Rattle.kp_model.specs.Step.{Delivers, ElectsBy, IsGiven, NodeStep, Step, ans
 use Rattle.kp_replica.specs.Acts.{IsAsked, TakesNoMemory}
 use Rattle.kp_world.specs.Laws.{IsLawful, MayCome, PlaysGoOn}
 use Rattle.kp_world.specs.Plays.{NoneLacks, SparesMemory, events_of, outcomes_of}
-use Rattle.kp_world.proofs.Moved.{given}
+use Rattle.kp_world.proofs.Moved.{given, same_refusal}
 use Rattle.kp_world.proofs.Playing.{all_fit}
 
 -- an answer to an event, and the world after it
@@ -79,9 +79,6 @@ adopts c n x d f (Some l) none =
     (becomes c (record x { mode = role.0 }) role.1, refl)
 
 -- ---- what is done for what takes no memory
-
-same_refusal : (r s : Refusal) → Refused r ≡ Refused s → r ≡ s
-same_refusal r s e = cc
 
 ask_spared : (mode : Mode) → ask_cause mode ≢ Some refusals.Memory
 ask_spared Down e = cc

@@ -105,7 +105,7 @@ messages_never (says.AsksEpoch epoch) refusal e = cc
 messages_never (says.Batches count watermark) refusal e = cc
 messages_never (says.EpochEnd end) refusal e = cc
 
-same_refusal : (r s : Refusal) → Refused r ≡ Refused s → r ≡ s
+pub same_refusal : (r s : Refusal) → Refused r ≡ Refused s → r ≡ s
 same_refusal r s e = cc
 
 -- what is told to be refused was refused

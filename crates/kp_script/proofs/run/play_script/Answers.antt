@@ -7,7 +7,8 @@ use Rattle.kp_types.specs.declared.refusal.Refusal.TheVariants as refusals
 use Rattle.kp_model.specs.World.{start}
 use Rattle.kp_world.specs.Shown.{IsShown}
 use Rattle.kp_script.specs.Call.{Call}
-use Rattle.kp_script.specs.Ended.{RunEnd, WritesTo}
+use Rattle.kp_script.specs.Ended.{AreLimited, RunEnd, WritesTo}
+use Rattle.kp_script.proofs.Limited.{limited}
 use Rattle.kp_script.specs.Seen.{seen_header, seen_line, seen_script}
 use Rattle.kp_script.specs.Transcript.{WritesFirst}
 use Rattle.kp_script.specs.declared.script.Line.{Line}
@@ -140,3 +141,10 @@ returns-clause-played g c =
     subst (λ (ended : RunEnd). WritesTo input old now ended) (sym c.new-4.ensures)
     (writes_to c.runs_are_safe.ensures c.no_delivery_is_refused_oddly.ensures input c.deref.result.now script c.loop-rest.world c.loop-rest.refused old now bytes c.in_ok-script.ensures.found
     c.loop-rest.invariant.nodes all)
+
+pub returns-clause-limited : goal.returns-clause-limited
+returns-clause-limited g c =
+    let played = c.loop-rest.invariant.played in
+    subst (λ (ended : RunEnd). AreLimited ended.logs) (sym c.new-4.ensures)
+    (limited c.batches_keep_their_size.ensures (seen_header c.in_ok-script.script.header) (map seen_line played.0) c.loop-rest.world c.loop-rest.refused
+    (g.W.Write.contents (device_of c.args.writer.now)) (g.W.Write.contents (device_of c.loop-rest.writer)) c.loop-rest.invariant.nodes played.1.1)
