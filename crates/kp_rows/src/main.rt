@@ -4,6 +4,7 @@
 #![tactic(auto)]
 
 use kp_cli::{Call, Files, NOT_EMPTY, Unopened, call_of, main_with, perform, run_and_keep};
+use kp_crc::crc32c;
 use kp_types::{Counted, Faulty, FaultyFolder};
 use std::fs;
 use std::io::{self, Write};
@@ -167,15 +168,38 @@ fn perform_each(rt: &HostRuntime, front: &str, lines: &str, back: &str) -> io::R
     Ok(())
 }
 
-/// Runs the script that a file begins and so many copies of another end.
-fn perform_repeated(rt: &HostRuntime, front: &str, piece: &str, count: &str) -> io::Result<()> {
+/// The script that a file begins and so many copies of another end.
+fn repeated(rt: &HostRuntime, front: &str, piece: &str, count: &str) -> io::Result<Vec<u8>> {
     let mut script = fs::read(rt, front)?;
     let piece = fs::read(rt, piece)?;
     for _ in 0..count.parse::<u32>().unwrap_or(0) {
         script.extend_from_slice(piece.as_slice())?;
     }
+    Ok(script)
+}
+
+/// Runs such a script.
+fn perform_repeated(rt: &HostRuntime, front: &str, piece: &str, count: &str) -> io::Result<()> {
+    let script = repeated(rt, front, piece, count)?;
     let call = run_call(rt)?;
     run_bytes(rt, &call, script)
+}
+
+/// Runs such a script, and prints of its output how many lines and bytes it has, and their checksum.
+fn sum_repeated(rt: &HostRuntime, front: &str, piece: &str, count: &str) -> io::Result<()> {
+    let script = repeated(rt, front, piece, count)?;
+    let mut reader = Counted::new(Faulty::new(script, NEVER.read));
+    let mut out = Counted::new(Vec::new(rt.alloc()));
+    let mut err = Counted::new(Vec::new(rt.alloc()));
+    let status = perform(rt.alloc(), &run_call(rt)?, &mut reader, &mut out, &mut err);
+    let told = out.device().as_slice();
+    let lines = told.iter().filter(|byte| **byte == b'\n').count();
+    let sum = format!(in rt.alloc();
+        "lines {lines} bytes {} crc {:08x}\n",
+        told.len(),
+        crc32c(told)
+    )?;
+    show(rt, sum.as_bytes(), err.device().as_slice(), status)
 }
 
 /// The number of a device's call that fails.
@@ -184,7 +208,7 @@ fn number(word: &str) -> u64 {
 }
 
 /// Does one row: a command line; or one behind `fail READ WRITE`; or `each FRONT LINES BACK`; or
-/// `repeat FRONT PIECE COUNT`; or `keep PUT SCRIPT`, which shows the files in which a script's logs are kept; or
+/// `repeat FRONT PIECE COUNT`, or `sum` for `repeat`, which prints a sum; or `keep PUT SCRIPT`, which shows the files in which a script's logs are kept; or
 /// `dump NODE SEGMENT INTERVAL SCRIPT`, which inspects those of a node. A line that begins with `#` is a heading.
 fn perform_row(rt: &HostRuntime, row: &str) -> io::Result<()> {
     println!(rt; "> {row}")?;
@@ -193,6 +217,7 @@ fn perform_row(rt: &HostRuntime, row: &str) -> io::Result<()> {
         ["#", ..] => Ok(()),
         ["each", front, lines, back] => perform_each(rt, front, lines, back),
         ["repeat", front, piece, count] => perform_repeated(rt, front, piece, count),
+        ["sum", front, piece, count] => sum_repeated(rt, front, piece, count),
         ["keep", put, file] => show_kept(rt, file, number(put)),
         ["dump", node, segment, interval, file] => dump_kept(rt, file, node, segment, interval),
         ["fail", read, write, words @ ..] => {
