@@ -1,6 +1,6 @@
-# What the benchmarks share that call a static library. The caller has set `here`, its own folder.
+# What the benchmarks share that build a static library or a program. The caller has set `here`, its own folder.
 #
-# A static library is built in a folder outside of the repository, which may have one crates.txt
+# They are built in a folder outside of the repository, which may have one crates.txt
 # alone: KPART_BENCH names it, and it keeps the proofs for the next run.
 top=$(dirname "$(dirname "$here")")
 room=${KPART_BENCH:-${TMPDIR:-/tmp}/kpart-bench}
@@ -13,13 +13,13 @@ below() {
     echo "$1"
 }
 
-# library NAME FILE DEP.. builds the static library of this name, over these, from a file of the caller's folder.
-library() {
-    name=$1
+# over LINE FILE DEP.. lays out the crate that a line of crates.txt names, from a file of the caller's folder, and what it stands on.
+over() {
+    name=${1%%[ :]*}
+    echo "$1" >"$room/crates.new"
     mkdir -p "$room/crates/$name/src"
-    cp "$here/$2" "$room/crates/$name/src/lib.rt"
+    cp "$here/$2" "$room/crates/$name/src/$kind.rt"
     shift 2
-    echo "$name staticlib: $*" >"$room/crates.new"
     for crate in $(for dep in "$@"; do below "$dep"; done | awk '!seen[$0]++'); do
         grep "^${crate}[: ]" "$top/crates.txt" >>"$room/crates.new"
         mkdir -p "$room/crates/$crate"
@@ -35,10 +35,33 @@ library() {
         fi
     done
     mv "$room/crates.new" "$room/crates.txt"
-    (cd "$room/crates/$name" && rt lib --jobs 1) >"$room/build.log" 2>&1 || {
+    cp "$top/HANDLES" "$room/HANDLES"
+}
+
+# built NAME WORD.. builds the crate of this name by a command of rt.
+built() {
+    (cd "$room/crates/$1" && shift && rt "$@") >"$room/build.log" 2>&1 || {
         tail -n 20 "$room/build.log" >&2
         exit 1
     }
+}
+
+# library NAME FILE DEP.. builds the static library of this name, over these, from a file of the caller's folder.
+library() {
+    crate_name=$1 file=$2
+    shift 2
+    kind=lib
+    over "$crate_name staticlib: $*" "$file" "$@"
+    built "$crate_name" lib --jobs 1
+}
+
+# program NAME FILE DEP.. likewise builds the program of this name, and runs it once on the words in `tried`.
+program() {
+    crate_name=$1 file=$2
+    shift 2
+    kind=main
+    over "$crate_name: $*" "$file" "$@"
+    built "$crate_name" run --jobs 1 -- ${tried:-}
 }
 
 # driver NAME FILE LIBRARY builds the program of this name from a Rust file of the caller's folder.

@@ -1,5 +1,5 @@
 -- What a run and an inspection have written.
-use Rattle.std.proofs.Common.{◌≡◌, ℕ, List, Option, None, Some, IfSome, Result, Ok, Err, inl, inr, ◌+◌, zero, suc, arith, nat_lt, sym, refl, ap, subst}
+use Rattle.std.proofs.Common.{◌≡◌, ℕ, List, [], ◌++◌, Option, None, Some, IfSome, Result, Ok, Err, inl, inr, ◌+◌, zero, suc, arith, nat_lt, sym, refl, ap, subst}
 use Rattle.std.proofs.lemmas.Bool.{lt-ltb}
 use mir.Val.{bool_byte}
 use Rattle.std.proofs.KnownBytes.{Keeps-refl}
@@ -12,11 +12,15 @@ use Rattle.kp_script.specs.Transcript.{WritesFront as WritesTraceFront}
 use Rattle.kp_types.specs.declared.refusal.Refusal.{Refusal}
 use Rattle.kp_types.specs.declared.refusal.Refusal.TheVariants as refusals
 use Rattle.kp_types.specs.declared.limits.Limits.{Limits}
-use Rattle.kp_types.specs.Devices.{CountsFault, IsDeviceFault, device_of, faults_of}
+use Rattle.kp_types.specs.Devices.{CountsFault, CountsOne, IsDeviceFault, device_of, faults_of}
 use Rattle.kp_types.specs.Folders.{Entry}
 use Rattle.kp_inspect.specs.Inspected.{WritesFront}
-use Rattle.kp_cli.specs.Perform.{Complains, CountsOneOfThree, Inspects, RunsKeeping, RunsScript, status_of}
-use Rattle.kp_cli.specs.Program.{EndsKeeping}
+use Rattle.kp_cli.specs.Line.{path_of}
+use Rattle.kp_cli.specs.Perform.{Complains, CountsOneOfThree, Inspects, Performs, RunsKeeping, RunsScript, status_of}
+use Rattle.kp_cli.specs.Program.{Around, EndsCall, EndsKeeping, IsLeft, Known}
+use Rattle.kp_cli.specs.Told.{reason_of}
+use Rattle.kp_cli.specs.declared.call.Call.{Call}
+use Rattle.kp_cli.specs.declared.fault.Fault.{Fault}
 
 pub inspects_front : (limits : Limits) (input old new : Option (List ℕ)) (refusal : Refusal) → IsDeviceFault refusal → WritesFront limits input old new
     → Inspects limits input old new (Err refusal)
@@ -55,27 +59,84 @@ kept_counted refusals.Device only read read_new written written_new put put_new 
 kept_counted refusals.Memory only read read_new written written_new put put_new same counted = inl (same, counted)
 kept_counted _ only read read_new written written_new put put_new same counted = absurd only
 
--- what a run leaves whose counts begin at none
-pub ends_keeping : {R K W E : Type 0} (remaining : R → Option (List ℕ)) (entries : K → Option (List Entry)) (held : W → Option (List ℕ)) (known : E → Option (List ℕ))
-    (file : R) (folder : K) (reader reader_new : Counted R) (put put_new : Counted K) (out out_new : Counted W) (err err_new : Counted E) (status : ℕ)
-    → device_of reader ≡ file → faults_of reader ≡ 0 → device_of put ≡ folder → faults_of put ≡ 0
+abbrev pub known_of : {F K W E : Type 0} → (F → List ℕ → Result (Unit {0}) Fault → F → Type 0) → (F → Option (List ℕ)) → (F → Fault)
+    → (K → List ℕ → Result (Unit {0}) Fault → K → Type 0) → (K → Option (List Entry)) → (K → Fault) → (W → Option (List ℕ)) → (E → Option (List ℕ)) → Known F K W E
+known_of opens remaining file_fault takes entries folder_fault held told = record {
+  opens = opens;
+  remaining = remaining;
+  file_fault = file_fault;
+  takes = takes;
+  entries = entries;
+  folder_fault = folder_fault;
+  held = held;
+  told = told;
+}
+
+abbrev pub around_of : {F K W E : Type 0} → F → Counted F → K → Counted K → (out out_left : Counted W) → (err err_left : Counted E) → Around F K W E
+around_of file file_left folder folder_left out out_left err err_left = record {
+  file = file;
+  file_left = file_left;
+  folder = folder;
+  folder_left = folder_left;
+  out = out;
+  out_left = out_left;
+  err = err;
+  err_left = err_left;
+}
+
+-- what a call leaves whose counts begin at none
+pub ends_call : {F K W E : Type 0} (known : Known F K W E) (call : Call) (around : Around F K W E) (status : ℕ) (opened : F) (reader : Counted F)
+    → device_of reader ≡ opened → faults_of reader ≡ 0 → known.opens around.file (path_of call) (Ok tt) opened → IsLeft around.folder around.folder_left
     → ((outcome : Result ℕ Refusal)
-    × RunsKeeping (remaining (device_of reader)) (held (device_of out)) (held (device_of out_new)) (entries (device_of put)) (entries (device_of put_new)) outcome
-    × CountsOneOfThree outcome (faults_of reader) (faults_of reader_new) (faults_of out) (faults_of out_new) (faults_of put) (faults_of put_new)
-    × Complains known err err_new outcome × (status ≡ status_of outcome))
-    → EndsKeeping remaining entries held known file folder out out_new err err_new status
-ends_keeping remaining entries held known file folder reader reader_new put put_new out out_new err err_new status is_file no_fault is_folder no_fault_there (outcome, runs, counted, complains, status_is) =
+    × Performs call (known.remaining (device_of reader)) (known.held (device_of around.out)) (known.held (device_of around.out_left)) outcome
+    × CountsOne outcome (faults_of reader) (faults_of around.file_left) (faults_of around.out) (faults_of around.out_left)
+    × Complains known.told around.err around.err_left outcome (reason_of known.file_fault (path_of call) (faults_of reader) around.file_left)
+    × (status ≡ status_of outcome))
+    → EndsCall known call around status
+ends_call known call around status opened reader is_file no_fault opens same (outcome, performs, counted, complains, status_is) =
     record {
+      opened = opened;
+      opens = opens;
+      folder_same = same;
       outcome = outcome;
-      kept = device_of put_new;
+      performs =
+          subst (λ (f : _). Performs call (known.remaining f) (known.held (device_of around.out)) (known.held (device_of around.out_left)) outcome) is_file performs;
+      counted = subst (λ (n : ℕ). CountsOne outcome n (faults_of around.file_left) (faults_of around.out) (faults_of around.out_left)) no_fault counted;
+      complains =
+          subst (λ (n : ℕ). Complains known.told around.err around.err_left outcome (reason_of known.file_fault (path_of call) n around.file_left)) no_fault
+          complains;
+      status_is = status_is;
+    }
+
+-- and a run whose logs are kept
+pub ends_keeping : {F K W E : Type 0} (known : Known F K W E) (call : Call) (keep : List ℕ) (around : Around F K W E) (status : ℕ) (opened : F) (taken : K)
+    (reader : Counted F) (put : Counted K) (file : List ℕ)
+    → device_of reader ≡ opened → faults_of reader ≡ 0 → device_of put ≡ taken → faults_of put ≡ 0 → file ≡ path_of call
+    → known.opens around.file (path_of call) (Ok tt) opened → known.takes around.folder keep (Ok tt) taken → IfSome (known.entries taken) (λ all. all ≡ [])
+    → ((outcome : Result ℕ Refusal)
+    × RunsKeeping (known.remaining (device_of reader)) (known.held (device_of around.out)) (known.held (device_of around.out_left)) (known.entries (device_of put)) (known.entries (device_of around.folder_left)) outcome
+    × CountsOneOfThree outcome (faults_of reader) (faults_of around.file_left) (faults_of around.out) (faults_of around.out_left) (faults_of put) (faults_of around.folder_left)
+    × Complains known.told around.err around.err_left outcome
+    (reason_of known.file_fault file (faults_of reader) around.file_left ++ reason_of known.folder_fault keep (faults_of put) around.folder_left)
+    × (status ≡ status_of outcome))
+    → EndsKeeping known call keep around status
+ends_keeping known call keep around status opened taken reader put file is_file no_fault is_folder none_there is_path opens takes empty (outcome, runs, counted, complains, status_is) =
+    record {
+      opened = opened;
+      opens = opens;
+      taken = taken;
+      takes = takes;
+      empty = empty;
+      outcome = outcome;
       runs =
-          subst (λ (f : _). RunsKeeping (remaining f) (held (device_of out)) (held (device_of out_new)) (entries folder) (entries (device_of put_new)) outcome) is_file
-          (subst (λ (k : _). RunsKeeping (remaining (device_of reader)) (held (device_of out)) (held (device_of out_new)) (entries k) (entries (device_of put_new)) outcome) is_folder runs);
-      fault = faults_of reader_new;
-      fault_of_folder = faults_of put_new;
+          subst (λ (f : _). RunsKeeping (known.remaining f) (known.held (device_of around.out)) (known.held (device_of around.out_left)) (known.entries taken) (known.entries (device_of around.folder_left)) outcome) is_file
+          (subst (λ (k : _). RunsKeeping (known.remaining (device_of reader)) (known.held (device_of around.out)) (known.held (device_of around.out_left)) (known.entries k) (known.entries (device_of around.folder_left)) outcome) is_folder runs);
       counted =
-          subst (λ (n : ℕ). CountsOneOfThree outcome n (faults_of reader_new) (faults_of out) (faults_of out_new) 0 (faults_of put_new)) no_fault
-          (subst (λ (n : ℕ). CountsOneOfThree outcome (faults_of reader) (faults_of reader_new) (faults_of out) (faults_of out_new) n (faults_of put_new)) no_fault_there counted);
-      complains = complains;
+          subst (λ (n : ℕ). CountsOneOfThree outcome n (faults_of around.file_left) (faults_of around.out) (faults_of around.out_left) 0 (faults_of around.folder_left)) no_fault
+          (subst (λ (n : ℕ). CountsOneOfThree outcome (faults_of reader) (faults_of around.file_left) (faults_of around.out) (faults_of around.out_left) n (faults_of around.folder_left)) none_there counted);
+      complains =
+          subst (λ (p : List ℕ). Complains known.told around.err around.err_left outcome (reason_of known.file_fault p 0 around.file_left ++ reason_of known.folder_fault keep 0 around.folder_left)) is_path
+          (subst (λ (n : ℕ). Complains known.told around.err around.err_left outcome (reason_of known.file_fault file n around.file_left ++ reason_of known.folder_fault keep 0 around.folder_left)) no_fault
+          (subst (λ (n : ℕ). Complains known.told around.err around.err_left outcome (reason_of known.file_fault file (faults_of reader) around.file_left ++ reason_of known.folder_fault keep n around.folder_left)) none_there complains));
       status_is = status_is;
     }

@@ -3,3 +3,4 @@ pub mod Filled
 pub mod Suits
 pub mod Taken
 pub mod Ending
+pub mod Lines

@@ -1,3 +1,5 @@
+pub mod Faults
 pub mod Line
 pub mod Perform
 pub mod Program
+pub mod Told

@@ -1,10 +1,9 @@
 -- What the program does once its command line is read.
-use Rattle.std.specs.Prelude.{◌⊎◌, ◌+◌, ◌++◌, ℕ, zero, suc, List, [], Option, Some, None, Result, Ok, Err, IfSome, ◌≡◌, codes}
+use Rattle.std.specs.Prelude.{◌⊎◌, ◌+◌, ◌++◌, ℕ, zero, suc, List, [], Option, Some, None, Result, Ok, Err, IfSome, ◌≡◌}
 use Rattle.std.specs.Io.KnownBytes.{Keeps}
 use Rattle.kp_types.specs.declared.refusal.Refusal.{Refusal}
 use Rattle.kp_types.specs.declared.refusal.Refusal.TheVariants as refusals
 use Rattle.kp_types.specs.declared.limits.Limits.{Limits}
-use Rattle.kp_types.specs.Texts.{refusal_text}
 use Rattle.kp_types.specs.Devices.{CountsOne, IsDeviceFault, Tells}
 use Rattle.kp_types.specs.Folders.{Entry, Puts}
 use Rattle.kp_types.specs.declared.counted.Counted.{Counted}
@@ -13,6 +12,7 @@ use Rattle.kp_script.specs.Kept.{KeepsLogs, KeepsLogsFront}
 use Rattle.kp_script.specs.Script.{IsFaultAt}
 use Rattle.kp_script.specs.Transcript.{largest_batch, Writes, WritesFirst, WritesFront}
 use Rattle.kp_inspect.specs.Inspected.{Writes as WritesDump, WritesFront as WritesDumpFront}
+use Rattle.kp_cli.specs.Told.{complaint}
 use Rattle.kp_cli.specs.declared.call.Call.{Call}
 use Rattle.kp_cli.specs.declared.call.Call.TheVariants.{Run, Inspect}
 
@@ -65,15 +65,11 @@ Performs (Run file keep) input old new outcome = RunsScript input old new outcom
 Performs (Inspect file segment_bytes index_interval) input old new outcome =
     Inspects (record { segment_bytes = segment_bytes; index_interval = index_interval; max_batch = largest_batch }) input old new outcome
 
--- what stands on standard error for a refusal
-abbrev pub complaint : Refusal → List ℕ
-complaint refusal = codes "kpart: " ++ (refusal_text refusal ++ codes "\n")
-
--- Nothing has happened to standard error without a refusal. With one its complaint is out, or a call of standard error
--- failed, and a beginning of it is.
-abbrev pub Complains : {E : Type 0} → (E → Option (List ℕ)) → (old new : Counted E) → Result ℕ Refusal → Type 0
-Complains contents old new (Ok refused) = new ≡ old
-Complains contents old new (Err refusal) = Tells contents old new (complaint refusal)
+-- Nothing has happened to standard error without a refusal. With one its complaint is out, and this second line, or a call of
+-- standard error failed, and a beginning of them is.
+abbrev pub Complains : {E : Type 0} → (E → Option (List ℕ)) → (old new : Counted E) → Result ℕ Refusal → (second : List ℕ) → Type 0
+Complains contents old new (Ok refused) second = new ≡ old
+Complains contents old new (Err refusal) second = Tells contents old new (complaint refusal ++ second)
 
 -- 2 for a fault of the script, and 1 else
 abbrev pub status_of_refusal : Refusal → ℕ

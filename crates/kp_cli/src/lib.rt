@@ -4,13 +4,17 @@
 #![tactic(auto)]
 
 mod call;
+mod devices;
+mod fault;
 mod line;
-mod opening;
 mod program;
 mod running;
+mod telling;
 
 pub use call::Call;
+pub use devices::{Explained, KeptFolder, Source};
+pub use fault::Fault;
 pub use line::{VERSION, call_of};
-pub use opening::{Files, NOT_EMPTY, Unopened, refusal_of};
-pub use program::main_with;
-pub use running::{perform, refuse, run_and_keep};
+pub use program::{Left, explain, main_with};
+pub use running::{perform, run_and_keep};
+pub use telling::refuse;

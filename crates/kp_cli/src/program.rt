@@ -1,91 +1,146 @@
 //! The whole program: from the words of the command line to the exit status.
 
-ghost use Rattle.std.specs.Prelude.{◌≡◌, ◌+◌, ◌<◌, ◌^◌, List, ℕ, Result, map, string_bytes};
-ghost use Rattle.clap.specs.Words.{kind_of};
-ghost use Rattle.kp_types.specs.Devices.{Tells, device_of, faults_of};
-ghost use Rattle.kp_cli.specs.Program.{Asked, Asks, Ends, EndsMistaken, IsAsked, file_complaint, known_of};
+ghost use Rattle.std.specs.Prelude.{◌≡◌, ◌+◌, ◌<◌, ◌^◌, map, string_bytes};
+ghost use Rattle.kp_types.specs.Devices.{faults_of};
+ghost use Rattle.kp_cli.specs.Program.{Asked, Ends, ExplainsBy, IsAsked, IsLeft};
 
+use crate::devices::{KeptFolder, Source};
+use crate::fault::Fault;
 use crate::line::call_of;
-use crate::opening::{Files, Unopened};
-use crate::running::{complain, perform, refuse, run_and_keep, write_line};
-use clap::Error;
+use crate::running::{perform, run_and_keep};
+use crate::telling::{refuse, refuse_path, refuse_words};
 use clap::error::ErrorKind;
 use kp_types::{Counted, Refusal};
 use std::alloc::Global;
+use std::fmt::Display;
 use std::io::Write;
 
-/// Says on standard error that a file can't be opened, or a folder not be taken, and on a second line which one, and why.
-/// Answers the exit status, 1.
-fn refuse_path<E: Write>(err: &mut Counted<E>, path: &str, reason: Unopened) -> u8
-    requires { faults_of err.old + 1 < 2 ^ 64 }
-    ensures told { Tells E.contents err.old err.new (file_complaint reason path.now) }
-    ensures status { result ≡ 1 }
-{
-    match complain(err, reason.refusal) {
-        Ok(()) => {
-            let _ = write_line(err, "kpart: ", path, ": ", reason.why, "\n");
-        }
-        Err(_) => {}
-    }
-    1
+/// What the program leaves: its exit status, and the file and the folder that it was handed, each with the count of its calls
+/// that failed.
+#[derive(Drop)]
+pub struct Left<F, K> {
+    /// The exit status.
+    pub status: u8,
+    /// The file that was read, if one was.
+    pub file: Counted<F>,
+    /// The folder that logs were kept in, if they were.
+    pub folder: Counted<K>,
 }
 
-/// Says why the words are no call, or what was asked for instead of one, and answers the exit status.
-fn explain<W: Write, E: Write>(error: &Error, out: &mut Counted<W>, err: &mut Counted<E>) -> u8
+/// Says why words are no call, or what was asked for instead of one, by clap's kind of it and its text, and answers the exit status:
+/// 0 for help and the version, which go to standard output, 2 for a mistake, which goes to standard error, and 1 where one of
+/// them failed or memory ran out. O(n) in the text.
+pub fn explain<D: Display, W: Write, E: Write>(
+    alloc: Global,
+    kind: ErrorKind,
+    text: &D,
+    out: &mut Counted<W>,
+    err: &mut Counted<E>,
+) -> u8
     requires writes { faults_of out.old + 1 < 2 ^ 64 }
     requires complaints { faults_of err.old + 1 < 2 ^ 64 }
-    ensures { EndsMistaken E.contents (kind_of error.now) out.old out.new err.old err.new result }
+    ensures { ExplainsBy W.contents E.contents kind (D.output text.now) out.old out.new err.old err.new result }
 {
-    match error.kind() {
+    let Ok(text) = text.to_string(alloc) else {
+        return refuse(err, Refusal::Memory);
+    };
+    match kind {
         ErrorKind::OutOfMemory => refuse(err, Refusal::Memory),
-        ErrorKind::DisplayHelp | ErrorKind::DisplayVersion => match out.write_text(error) {
+        ErrorKind::DisplayHelp | ErrorKind::DisplayVersion => match out.write_all(text.as_bytes()) {
             Ok(()) => 0,
-            Err(_) => 1,
+            Err(refusal) => refuse(err, refusal),
         },
-        _ => match err.write_text(error) {
+        _ => match err.write_all(text.as_bytes()) {
             Ok(()) => 2,
             Err(_) => 1,
         },
     }
 }
 
-/// Does what the words ask for, of which the first is the program's name, and answers the exit status: that of
-/// [`perform`] for a call whose file is open, and of [`run_and_keep`] where its logs are kept besides; 1 where the file can't
-/// be opened or the folder not be taken, with a second line on standard error that says which one and why, before anything is
-/// read; 0 for help and the version, which go to standard output; 2 for a mistake in the words, which goes
-/// to standard error; and 1 where the words couldn't be read or a text not be written. Time and memory are those of the
-/// call.
-pub fn main_with<F: Files, W: Write, E: Write>(
+/// Does what the words ask for, of which the first is the program's name, with a file of which none is open and a folder of which none
+/// is taken. The exit status is that of [`perform`] for a call whose file is open, and of [`run_and_keep`] where its logs are kept
+/// besides; 1 where the file can't be opened or the folder not be taken, with a second line on standard error that says which one
+/// and why, before anything is read; that of [`explain`] where the words are no call; 2 where one isn't UTF-8; and 1
+/// where memory ran out before. Without a call that keeps logs, and before its file is open, the folder is left alone. Time and
+/// memory are those of the call.
+pub fn main_with<F: Source + Drop, K: KeptFolder + Drop, W: Write, E: Write>(
     alloc: Global,
-    words: Result<Vec<String>, Refusal>,
-    files: &F,
+    words: Result<Vec<String>, Fault>,
+    file: F,
+    folder: K,
     out: &mut Counted<W>,
     err: &mut Counted<E>,
-) -> u8
+) -> Left<F, K>
     requires writes { faults_of out.old + 1 < 2 ^ 64 }
     requires complaints { faults_of err.old + 1 < 2 ^ 64 }
     ensures { (asked : Asked) × IsAsked (λ all. map string_bytes all.items) words asked
-        × Ends (known_of (F.opens files.now) (F.makes files.now) F.File.remaining
-        F.Kept.entries W.contents E.contents) asked out.old out.new err.old err.new result }
+        × Ends (record {
+          opens = F.opens;
+          remaining = F.remaining;
+          file_fault = F.fault_is;
+          takes = K.takes;
+          entries = K.entries;
+          folder_fault = K.fault_is;
+          held = W.contents;
+          told = E.contents;
+        }) asked (record {
+          file = file;
+          file_left = result.file;
+          folder = folder;
+          folder_left = result.folder;
+          out = out.old;
+          out_left = out.new;
+          err = err.old;
+          err_left = err.new;
+        }) result.status }
 {
+    let mut file = file;
+    let mut folder = folder;
     let words = match words {
         Ok(words) => words,
-        Err(refusal) => return refuse(err, refusal),
+        Err(fault) => return leave(refuse_words(err, fault), file, folder),
     };
     let call = match call_of(alloc, words.as_slice()) {
         Ok(call) => call,
-        Err(error) => return explain(&error, out, err),
+        Err(error) => {
+            let status = explain(alloc, error.kind(), &error, out, err);
+            return leave(status, file, folder);
+        }
     };
-    let file = match files.open(call.file()) {
-        Ok(file) => file,
-        Err(reason) => return refuse_path(err, call.file(), reason),
-    };
-    let mut reader = Counted::new(file);
+    if let Err(fault) = file.open(call.file()) {
+        return leave(refuse_path(err, call.file(), fault), file, folder);
+    }
     let Some(path) = call.keep() else {
-        return perform(alloc, &call, &mut reader, out, err);
+        let mut file = Counted::new(file);
+        let status = perform(alloc, &call, &mut file, out, err);
+        return Left {
+            status,
+            file,
+            folder: Counted::new(folder),
+        };
     };
-    match files.empty_folder(path) {
-        Ok(folder) => run_and_keep(alloc, &mut reader, &mut Counted::new(folder), out, err),
-        Err(reason) => refuse_path(err, path, reason),
+    if let Err(fault) = folder.take(path) {
+        return leave(refuse_path(err, path, fault), file, folder);
+    }
+    let mut file = Counted::new(file);
+    let mut folder = Counted::new(folder);
+    let status = run_and_keep(alloc, call.file(), path, &mut file, &mut folder, out, err);
+    Left {
+        status,
+        file,
+        folder,
+    }
+}
+
+/// What is left where nothing was read and nothing kept.
+fn leave<F: Source + Drop, K: KeptFolder + Drop>(status: u8, file: F, folder: K) -> Left<F, K>
+    ensures status { result.status ≡ status }
+    ensures file { IsLeft file result.file }
+    ensures folder { IsLeft folder result.folder }
+{
+    Left {
+        status,
+        file: Counted::new(file),
+        folder: Counted::new(folder),
     }
 }

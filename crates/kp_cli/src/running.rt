@@ -1,76 +1,26 @@
 //! What the command line asks for, done.
 
-ghost use Rattle.std.specs.Prelude.{◌≡◌, ◌+◌, ◌++◌, ◌<◌, ◌^◌, ℕ, Result, OnOk, OnErr};
-ghost use Rattle.kp_types.specs.Devices.{CountsOne, IsBegun, IsOut, Tells, device_of, faults_of};
+ghost use Rattle.std.specs.Prelude.{◌≡◌, ◌+◌, ◌++◌, ◌<◌, ◌^◌, ℕ, Result};
+ghost use Rattle.kp_types.specs.Devices.{CountsOne, device_of, faults_of};
 ghost use Rattle.kp_types.specs.declared.refusal.Refusal.{Refusal as SomeRefusal};
-ghost use Rattle.kp_cli.specs.Perform.{RunsScript, Inspects, Performs, Complains, CountsOneOfThree, RunsKeeping, complaint, status_of, status_of_refusal};
+ghost use Rattle.kp_cli.specs.Line.{path_of};
+ghost use Rattle.kp_cli.specs.Perform.{Complains, CountsOneOfThree, Performs, RunsKeeping, status_of};
+ghost use Rattle.kp_cli.specs.Told.{reason_of};
 
 use crate::Call;
-use itoa::Buffer;
+use crate::devices::Explained;
+use crate::telling::refuse_since;
 use kp_inspect::inspect;
 use kp_script::play_script;
-use kp_types::{Counted, Folder, Limits, MAX_BATCH, Refusal};
+use kp_types::{Counted, Folder, Limits, MAX_BATCH};
 use std::alloc::Global;
 use std::io::{Read, Write};
-
-/// Writes five texts, one after another.
-pub(crate) fn write_line<'a, E: Write>(
-    err: &mut Counted<E>,
-    first: &'a str,
-    second: &'a str,
-    third: &'a str,
-    fourth: &'a str,
-    last: &'a str,
-) -> Result<(), Refusal>
-    requires { faults_of err.old + 1 < 2 ^ 64 }
-    ensures ok { OnOk result (IsOut E.contents err.old err.new
-        (first.now ++ (second.now ++ (third.now ++ (fourth.now ++ last.now))))) }
-    ensures err { OnErr result (IsBegun E.contents err.old err.new
-        (first.now ++ (second.now ++ (third.now ++ (fourth.now ++ last.now))))) }
-{
-    err.write_each(&[
-        first.as_bytes(),
-        second.as_bytes(),
-        third.as_bytes(),
-        fourth.as_bytes(),
-        last.as_bytes(),
-    ])
-}
-
-/// Writes what was refused, as `kpart: F32 Device`.
-pub(crate) fn complain<E: Write>(err: &mut Counted<E>, refusal: Refusal) -> Result<(), Refusal>
-    requires { faults_of err.old + 1 < 2 ^ 64 }
-    ensures ok { OnOk result (IsOut E.contents err.old err.new (complaint refusal)) }
-    ensures err { OnErr result (IsBegun E.contents err.old err.new (complaint refusal)) }
-{
-    let mut buffer = Buffer::new();
-    let (gap, place) = match refusal.place() {
-        Some(place) => (" ", buffer.format(place)),
-        None => ("", ""),
-    };
-    write_line(err, "kpart: ", refusal.name(), gap, place, "\n")
-}
-
-/// Says on standard error what was refused, as `kpart: F32 Device`, and answers the exit status: 2 for a fault
-/// of the script, else 1. Where standard error fails, its count rises by one, and a beginning is out. It takes no
-/// memory.
-pub fn refuse<E: Write>(err: &mut Counted<E>, refusal: Refusal) -> u8
-    requires { faults_of err.old + 1 < 2 ^ 64 }
-    ensures told { Tells E.contents err.old err.new (complaint refusal) }
-    ensures status { result ≡ status_of_refusal refusal }
-{
-    let _ = complain(err, refusal);
-    match refusal {
-        Refusal::BadScript(_) => 2,
-        _ => 1,
-    }
-}
 
 /// Does what the call asks for, but for keeping logs, with the opened file as the reader, and answers the exit status: 0 where no
 /// event was refused and no fault was found, 1 where one or more were and for F32 and F33, 2 for F31. The trace
 /// or the dump goes to standard output and a refusal of the whole call to standard error; with F31 nothing
 /// is on standard output. Takes time and memory proportional to the file and what is written of it.
-pub fn perform<R: Read, W: Write, E: Write>(
+pub fn perform<R: Read + Explained, W: Write, E: Write>(
     alloc: Global,
     call: &Call,
     reader: &mut Counted<R>,
@@ -86,12 +36,14 @@ pub fn perform<R: Read, W: Write, E: Write>(
         × CountsOne outcome (faults_of reader.old) (faults_of reader.new)
         (faults_of out.old) (faults_of out.new)
         × Complains E.contents err.old err.new outcome
+        (reason_of R.fault_is (path_of call.now) (faults_of reader.old) reader.new)
         × result ≡ status_of outcome }
 {
+    let faults = reader.faults();
     match call {
         Call::Run { .. } => match play_script(alloc, reader, out) {
             Ok(ended) => u8::from(ended.refused() > 0),
-            Err(refusal) => refuse(err, refusal),
+            Err(refusal) => refuse_since(err, refusal, call.file(), reader, faults),
         },
         Call::Inspect {
             segment_bytes,
@@ -106,7 +58,7 @@ pub fn perform<R: Read, W: Write, E: Write>(
             match inspect(alloc, reader, out, &limits) {
                 Ok(None) => 0,
                 Ok(Some(_)) => 1,
-                Err(refusal) => refuse(err, refusal),
+                Err(refusal) => refuse_since(err, refusal, call.file(), reader, faults),
             }
         }
     }
@@ -116,8 +68,10 @@ pub fn perform<R: Read, W: Write, E: Write>(
 /// folder, as [`kp_script::Ended::write_logs`] does. Answers the exit status: 0 where no event was refused, 1 where one or more
 /// were and for F32 and F33, 2 for F31. Where the run is refused nothing comes into the folder; where the folder fails, or a
 /// growth is refused there, the whole trace is out, and a beginning of the logs is there. O(n) in the script and the logs.
-pub fn run_and_keep<R: Read, K: Folder, W: Write, E: Write>(
+pub fn run_and_keep<R: Read + Explained, K: Folder + Explained, W: Write, E: Write>(
     alloc: Global,
+    file: &str,
+    keep: &str,
     reader: &mut Counted<R>,
     folder: &mut Counted<K>,
     out: &mut Counted<W>,
@@ -134,14 +88,18 @@ pub fn run_and_keep<R: Read, K: Folder, W: Write, E: Write>(
         × CountsOneOfThree outcome (faults_of reader.old) (faults_of reader.new)
         (faults_of out.old) (faults_of out.new) (faults_of folder.old) (faults_of folder.new)
         × Complains E.contents err.old err.new outcome
+        (reason_of R.fault_is file.now (faults_of reader.old) reader.new
+        ++ reason_of K.fault_is keep.now (faults_of folder.old) folder.new)
         × result ≡ status_of outcome }
 {
+    let read = reader.faults();
+    let put = folder.faults();
     let ended = match play_script(alloc, reader, out) {
         Ok(ended) => ended,
-        Err(refusal) => return refuse(err, refusal),
+        Err(refusal) => return refuse_since(err, refusal, file, reader, read),
     };
     match ended.write_logs(alloc, folder) {
         Ok(()) => u8::from(ended.refused() > 0),
-        Err(refusal) => refuse(err, refusal),
+        Err(refusal) => refuse_since(err, refusal, keep, folder, put),
     }
 }

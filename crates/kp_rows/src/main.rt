@@ -3,22 +3,30 @@
 //! Its rows, files and wanted text are made by `tools/rows`; no contract speaks of it, and `docs/TESTS.md` says how to add a row.
 #![tactic(auto)]
 
-use kp_cli::{Call, Files, NOT_EMPTY, Unopened, call_of, main_with, perform, run_and_keep};
-use kp_crc::crc32c;
-use kp_types::{Counted, Faulty, FaultyFolder};
-use std::fs;
-use std::io::{self, Write};
+ghost use Rattle.std.specs.Prelude.{◌≡◌};
 
-/// The calls of the devices at which reading and writing fail, the first being number 0; `u64::MAX` is never.
+use kp_cli::{
+    Call, Explained, Fault, KeptFolder, Source, call_of, main_with, perform, run_and_keep,
+};
+use kp_crc::crc32c;
+use kp_types::{Counted, Faulty, FaultyFolder, Folder, Refusal};
+use std::alloc::Global;
+use std::fs;
+use std::io::{self, Read, Write};
+
+/// The calls of the devices at which reading, writing and putting into a folder fail, the first being number 0; `u64::MAX` is
+/// never.
 #[derive(Clone, Copy)]
 struct Failing {
     read: u64,
     write: u64,
+    put: u64,
 }
 
 const NEVER: Failing = Failing {
     read: u64::MAX,
     write: u64::MAX,
+    put: u64::MAX,
 };
 
 /// Prints what was left: the output, the complaint behind `! `, and the exit status.
@@ -31,57 +39,151 @@ fn show(rt: &HostRuntime, out: &[u8], err: &[u8], status: u8) -> io::Result<()> 
     println!(rt; "status {status}")
 }
 
-/// The files of the folder, of which each read of this number fails; and folders in memory, of which `full` isn't empty.
-#[derive(Clone, Copy)]
-struct Given<'a> {
+/// A file of the folder, or bytes, of which the read of this number fails, as one of a folder does.
+#[derive(Drop)]
+struct GivenFile<'a> {
     rt: &'a HostRuntime,
-    read: u64,
+    fails: u64,
+    file: Faulty,
 }
 
-impl<'a> Files for Given<'a> {
-    type File = Faulty;
+impl<'a> GivenFile<'a> {
+    /// These bytes.
+    fn of(rt: &'a HostRuntime, bytes: Vec<u8>, fails: u64) -> GivenFile<'a> {
+        GivenFile {
+            rt,
+            fails,
+            file: Faulty::new(bytes, fails),
+        }
+    }
+}
 
-    type Kept = FaultyFolder;
+impl Explained for GivenFile<'_> {
+    ghost fault_is = { λ _. Fault.IsAFolder };
 
-    fn open(&self, path: &str) -> Result<Faulty, Unopened> {
+    fn fault(&self) -> Fault {
+        Fault::IsAFolder
+    }
+}
+
+impl Source for GivenFile<'_> {
+    fn open(&mut self, path: &str) -> Result<(), Fault> {
         match fs::read(self.rt, path) {
-            Ok(bytes) => Ok(Faulty::new(bytes, self.read)),
-            Err(error) => Err(Unopened::of(&error)),
-        }
-    }
-
-    fn empty_folder(&self, path: &str) -> Result<FaultyFolder, Unopened> {
-        if path == "full" {
-            Err(NOT_EMPTY)
-        } else {
-            Ok(FaultyFolder::new(self.rt.alloc(), u64::MAX))
+            Ok(bytes) => {
+                self.file = Faulty::new(bytes, self.fails);
+                Ok(())
+            }
+            Err(error) => Err(Fault::of(&error)),
         }
     }
 }
 
-/// Does one command line, as the whole program does it. Of words that are no call it prints the kind of clap's refusal,
-/// where the text went, and the status.
+impl Read for GivenFile<'_> {
+    fn read(&mut self, buf: &mut [u8]) -> io::Result<usize> {
+        self.file.read(buf)
+    }
+}
+
+/// A folder in memory, and the path at which it was taken, if it was; `full` isn't empty. The call of a given number fails, as
+/// one on a full disk does.
+#[derive(Drop)]
+struct GivenFolder {
+    alloc: Global,
+    taken: Option<String>,
+    folder: FaultyFolder,
+}
+
+impl GivenFolder {
+    /// One that isn't taken.
+    fn new(alloc: Global, fails: u64) -> GivenFolder {
+        GivenFolder {
+            alloc,
+            taken: None,
+            folder: FaultyFolder::new(alloc, fails),
+        }
+    }
+}
+
+impl Explained for GivenFolder {
+    ghost fault_is = { λ _. Fault.DiskFull };
+
+    fn fault(&self) -> Fault {
+        Fault::DiskFull
+    }
+}
+
+impl KeptFolder for GivenFolder {
+    fn take(&mut self, path: &str) -> Result<(), Fault> {
+        if path == "full" {
+            return Err(Fault::NotEmpty);
+        }
+        match String::from_str(self.alloc, path) {
+            Ok(path) => {
+                self.taken = Some(path);
+                Ok(())
+            }
+            Err(_) => Err(Fault::OutOfMemory),
+        }
+    }
+}
+
+impl Folder for GivenFolder {
+    fn make_folder(&mut self, name: &str) -> Result<(), Refusal> {
+        self.folder.make_folder(name)
+    }
+
+    fn begin(&mut self, name: &str) -> Result<(), Refusal> {
+        self.folder.begin(name)
+    }
+
+    fn append(&mut self, bytes: &[u8]) -> Result<(), Refusal> {
+        self.folder.append(bytes)
+    }
+}
+
+/// Prints what stands in the folder: each folder, and each file with its size and its bytes.
+fn show_folder(rt: &HostRuntime, folder: &GivenFolder) -> io::Result<()> {
+    for (name, bytes) in &folder.folder.entries {
+        match bytes {
+            None => println!(rt; "folder {name}")?,
+            Some(bytes) => {
+                let digits = hex::encode(rt.alloc(), bytes.as_slice())?;
+                println!(rt; "file {name} {} {digits}", bytes.len())?;
+            }
+        }
+    }
+    Ok(())
+}
+
+/// Prints at which path the folder was taken, if it was, and what stands in it.
+fn show_taken(rt: &HostRuntime, folder: &GivenFolder) -> io::Result<()> {
+    if let Some(path) = &folder.taken {
+        println!(rt; "taken {path}")?;
+    }
+    show_folder(rt, folder)
+}
+
+/// Does one command line, as the whole program does it, and shows the folder that was taken. Of words that are no call it prints
+/// the kind of clap's refusal, where the text went, and the status; of help and the version the text too.
 fn perform_words(rt: &HostRuntime, words: &[&str], failing: Failing) -> io::Result<()> {
     let mut out = Counted::new(Faulty::new(Vec::new(rt.alloc()), failing.write));
     let mut err = Counted::new(Vec::new(rt.alloc()));
-    let files = Given {
-        rt,
-        read: failing.read,
-    };
+    let file = GivenFile::of(rt, Vec::new(rt.alloc()), failing.read);
+    let folder = GivenFolder::new(rt.alloc(), failing.put);
     let mut handed = Vec::new(rt.alloc());
     for word in words {
         handed.push(word.to_string(rt.alloc())?)?;
     }
-    let status = main_with(rt.alloc(), Ok(handed), &files, &mut out, &mut err);
+    let left = main_with(rt.alloc(), Ok(handed), file, folder, &mut out, &mut err);
+    let status = left.status;
     let told = out.device().bytes.as_slice();
-    match call_of(rt.alloc(), words) {
-        Ok(_) => show(rt, told, err.device().as_slice(), status),
-        Err(error) => {
-            let kind = error.kind();
-            let place = if told.is_empty() { "error" } else { "output" };
-            println!(rt; "no call: {kind:?} on standard {place}, status {status}")
-        }
+    if let Err(error) = call_of(rt.alloc(), words) {
+        let kind = error.kind();
+        let place = if told.is_empty() { "error" } else { "output" };
+        println!(rt; "no call: {kind:?} on standard {place}, status {status}")?;
     }
+    show(rt, told, err.device().as_slice(), status)?;
+    show_taken(rt, left.folder.device())
 }
 
 /// The call that runs a script of no file.
@@ -94,7 +196,7 @@ fn run_call(rt: &HostRuntime) -> io::Result<Call> {
 
 /// Does the call over these bytes.
 fn run_bytes(rt: &HostRuntime, call: &Call, bytes: Vec<u8>) -> io::Result<()> {
-    let mut reader = Counted::new(Faulty::new(bytes, NEVER.read));
+    let mut reader = Counted::new(GivenFile::of(rt, bytes, NEVER.read));
     let mut out = Counted::new(Vec::new(rt.alloc()));
     let mut err = Counted::new(Vec::new(rt.alloc()));
     let status = perform(rt.alloc(), call, &mut reader, &mut out, &mut err);
@@ -103,12 +205,20 @@ fn run_bytes(rt: &HostRuntime, call: &Call, bytes: Vec<u8>) -> io::Result<()> {
 
 /// Runs the script of a file and keeps its nodes' logs in a folder in memory, of which the call of this number fails. Gives
 /// the folder, and prints what else the run leaves.
-fn keep(rt: &HostRuntime, file: &str, put: u64) -> io::Result<Counted<FaultyFolder>> {
-    let mut reader = Counted::new(Faulty::new(fs::read(rt, file)?, NEVER.read));
-    let mut folder = Counted::new(FaultyFolder::new(rt.alloc(), put));
+fn keep(rt: &HostRuntime, file: &str, put: u64) -> io::Result<Counted<GivenFolder>> {
+    let mut reader = Counted::new(GivenFile::of(rt, fs::read(rt, file)?, NEVER.read));
+    let mut folder = Counted::new(GivenFolder::new(rt.alloc(), put));
     let mut out = Counted::new(Vec::new(rt.alloc()));
     let mut err = Counted::new(Vec::new(rt.alloc()));
-    let status = run_and_keep(rt.alloc(), &mut reader, &mut folder, &mut out, &mut err);
+    let status = run_and_keep(
+        rt.alloc(),
+        file,
+        "kept",
+        &mut reader,
+        &mut folder,
+        &mut out,
+        &mut err,
+    );
     show(rt, out.device().as_slice(), err.device().as_slice(), status)?;
     Ok(folder)
 }
@@ -116,16 +226,7 @@ fn keep(rt: &HostRuntime, file: &str, put: u64) -> io::Result<Counted<FaultyFold
 /// Prints what stands in the folder in which a script's logs are kept, each file with its size and its bytes.
 fn show_kept(rt: &HostRuntime, file: &str, put: u64) -> io::Result<()> {
     let folder = keep(rt, file, put)?;
-    for (name, bytes) in &folder.device().entries {
-        match bytes {
-            None => println!(rt; "folder {name}")?,
-            Some(bytes) => {
-                let digits = hex::encode(rt.alloc(), bytes.as_slice())?;
-                println!(rt; "file {name} {} {digits}", bytes.len())?;
-            }
-        }
-    }
-    Ok(())
+    show_folder(rt, folder.device())
 }
 
 /// Inspects the files in which a node's log is kept at the end of a script's run, joined.
@@ -136,10 +237,10 @@ fn dump_kept(
     segment: &str,
     interval: &str,
 ) -> io::Result<()> {
-    let folder = keep(rt, file, NEVER.write)?;
+    let folder = keep(rt, file, NEVER.put)?;
     let place = format!(in rt.alloc(); "node-{node}/")?;
     let mut joined = Vec::new(rt.alloc());
-    for (name, bytes) in &folder.device().entries {
+    for (name, bytes) in &folder.device().folder.entries {
         if let Some(bytes) = bytes {
             if name.starts_with(place.as_str()) {
                 joined.extend_from_slice(bytes.as_slice())?;
@@ -188,7 +289,7 @@ fn perform_repeated(rt: &HostRuntime, front: &str, piece: &str, count: &str) -> 
 /// Runs such a script, and prints of its output how many lines and bytes it has, and their checksum.
 fn sum_repeated(rt: &HostRuntime, front: &str, piece: &str, count: &str) -> io::Result<()> {
     let script = repeated(rt, front, piece, count)?;
-    let mut reader = Counted::new(Faulty::new(script, NEVER.read));
+    let mut reader = Counted::new(GivenFile::of(rt, script, NEVER.read));
     let mut out = Counted::new(Vec::new(rt.alloc()));
     let mut err = Counted::new(Vec::new(rt.alloc()));
     let status = perform(rt.alloc(), &run_call(rt)?, &mut reader, &mut out, &mut err);
@@ -207,9 +308,9 @@ fn number(word: &str) -> u64 {
     word.parse().unwrap_or(u64::MAX)
 }
 
-/// Does one row: a command line; or one behind `fail READ WRITE`; or `each FRONT LINES BACK`; or
-/// `repeat FRONT PIECE COUNT`, or `sum` for `repeat`, which prints a sum; or `keep PUT SCRIPT`, which shows the files in which a script's logs are kept; or
-/// `dump NODE SEGMENT INTERVAL SCRIPT`, which inspects those of a node. A line that begins with `#` is a heading.
+/// Does one row: a command line; or one behind `fail READ WRITE PUT`; or `each FRONT LINES BACK`; or
+/// `repeat FRONT PIECE COUNT`, or `sum` for `repeat`, which prints a sum; or `keep PUT SCRIPT`, which shows the files in which a
+/// script's logs are kept; or `dump NODE SEGMENT INTERVAL SCRIPT`, which inspects those of a node. A line that begins with `#` is a heading.
 fn perform_row(rt: &HostRuntime, row: &str) -> io::Result<()> {
     println!(rt; "> {row}")?;
     let words: Vec<&str> = row.split(' ').collect(rt.alloc())?;
@@ -220,10 +321,11 @@ fn perform_row(rt: &HostRuntime, row: &str) -> io::Result<()> {
         ["sum", front, piece, count] => sum_repeated(rt, front, piece, count),
         ["keep", put, file] => show_kept(rt, file, number(put)),
         ["dump", node, segment, interval, file] => dump_kept(rt, file, node, segment, interval),
-        ["fail", read, write, words @ ..] => {
+        ["fail", read, write, put, words @ ..] => {
             let failing = Failing {
                 read: number(read),
                 write: number(write),
+                put: number(put),
             };
             perform_words(rt, words, failing)
         }

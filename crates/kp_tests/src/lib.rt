@@ -6,6 +6,8 @@
 #[cfg(test)]
 mod batch_tests;
 #[cfg(test)]
+mod board_tests;
+#[cfg(test)]
 mod cli_tests;
 #[cfg(test)]
 mod device_tests;

@@ -198,7 +198,10 @@ const MARKER: Marker = Marker {
 #[test]
 fn markers_have_ranges(rt: HostRuntime) {
     assert!(rt; HandedMarker::new(MARKER).is_some());
-    let late = Marker { timestamp: 1 << 62, ..MARKER };
+    let late = Marker {
+        timestamp: 1 << 62,
+        ..MARKER
+    };
     assert!(rt; HandedMarker::new(late).is_none());
 }
 

@@ -4,4 +4,3 @@ pub mod Elements
 pub mod Ordered
 pub mod Numbers
 pub mod Causes
-pub mod Windows

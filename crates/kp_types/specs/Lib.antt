@@ -2,4 +2,3 @@ pub mod Texts
 pub mod Causes
 pub mod Devices
 pub mod Folders
-pub mod Windows

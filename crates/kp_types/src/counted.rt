@@ -1,18 +1,18 @@
 //! A reader or a writer with the count of its calls that failed.
 
-ghost use Rattle.std.specs.Prelude.{◌≡◌, ◌+◌, ◌<◌, ◌^◌, ◌++◌, ℕ, drop, List, IfOk, IfErr, IfSome, OnOk, OnErr, ◌≤◌};
+ghost use Rattle.std.specs.Prelude.{◌≡◌, ◌+◌, ◌<◌, ◌^◌, ◌++◌, ℕ, List, IfOk, IfErr, IfSome, OnOk, OnErr, ◌≤◌};
 ghost use Rattle.std.specs.List.{flat_map};
 ghost use Rattle.std.specs.Io.KnownBytes.{Appends, Consumes, IsAtEnd};
 ghost use Rattle.kp_types.specs.declared.refusal.Refusal.TheVariants.{Device};
-ghost use Rattle.kp_types.specs.Windows.{WritesWindow};
 ghost use Rattle.kp_types.specs.Devices.{CountsFaults, AppendsFront, IsDeviceFault, IsOut, IsBegun, device_of, faults_of};
 
 use crate::refusal::Refusal;
-use crate::window::{JOINED_BYTES, window_at};
 use arrayvec::ArrayVec;
 use std::alloc::Global;
-use std::fmt::Display;
 use std::io::{ErrorKind, Read, Write};
+
+/// How many bytes of small texts are joined, to be written at once.
+pub const JOINED_BYTES: usize = 8192;
 
 /// A reader or a writer with the count of its calls that failed. Only its own calls reach the device, and they
 /// answer F32 exactly where the count rises: so what is refused with F32 is a call that the device failed.
@@ -156,54 +156,5 @@ impl<W: Write> Counted<W> {
             Ok(()) => Ok(()),
             Err(_) => self.write_all(text),
         }
-    }
-
-    /// Writes the text of a value, in one write for each [`JOINED_BYTES`] bytes of it. F32 where the device failed, or the value
-    /// gave no text, and the count rises by one; a beginning of the text is out then. It takes no memory, and makes the text
-    /// once more for each such write but the first.
-    pub fn write_text<D: Display + Drop>(&mut self, text: D) -> Result<(), Refusal>
-        requires { faults_of self.old + 1 < 2 ^ 64 }
-        ensures ok { OnOk result (IfSome (D.output text)
-            (Appends (W.contents (device_of self.old)) (W.contents (device_of self.new)))) }
-        ensures err { OnErr result (IfSome (D.output text)
-            (AppendsFront (W.contents (device_of self.old)) (W.contents (device_of self.new)))) }
-        ensures only { IfErr result (λ refusal. refusal ≡ Device) }
-        ensures counted { CountsFaults result (faults_of self.old) (faults_of self.new) }
-    {
-        let mut done = 0;
-        for _ in 0..u64::MAX {
-            match self.write_window(&text, done)? {
-                Some(further) => done = further,
-                None => return Ok(()),
-            }
-        }
-        self.failed += 1;
-        Err(Refusal::Device)
-    }
-
-    // Writes what the value's text has behind its first bytes, as much of it as is written at once. Gives where the next such
-    // part begins, and none at the text's end.
-    fn write_window<D: Display>(&mut self, text: &D, done: usize) -> Result<Option<usize>, Refusal>
-        requires { faults_of self.old + 1 < 2 ^ 64 }
-        ensures next { IfOk result (λ next. IfSome (D.output text.now) (λ all. WritesWindow
-            (W.contents (device_of self.old)) (W.contents (device_of self.new)) done all next)) }
-        ensures err { OnErr result (IfSome (D.output text.now) (λ all. AppendsFront
-            (W.contents (device_of self.old)) (W.contents (device_of self.new)) (drop done all))) }
-        ensures only { IfErr result (λ refusal. refusal ≡ Device) }
-        ensures counted { CountsFaults result (faults_of self.old) (faults_of self.new) }
-    {
-        let Some(window) = window_at(text, done) else {
-            self.failed += 1;
-            return Err(Refusal::Device);
-        };
-        self.write_all(window.as_slice())?;
-        if window.len() < JOINED_BYTES {
-            return Ok(None);
-        }
-        let Some(further) = done.checked_add(JOINED_BYTES) else {
-            self.failed += 1;
-            return Err(Refusal::Device);
-        };
-        Ok(Some(further))
     }
 }

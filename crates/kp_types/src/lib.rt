@@ -8,9 +8,8 @@ mod faulty;
 mod folder;
 mod limits;
 mod refusal;
-mod window;
 
-pub use counted::Counted;
+pub use counted::{Counted, JOINED_BYTES};
 pub use faulty::{Faulty, FaultyFolder};
 pub use folder::Folder;
 pub use limits::{
@@ -19,4 +18,3 @@ pub use limits::{
     NODE_PLACES, NodeId, Offset, SEQUENCES,
 };
 pub use refusal::Refusal;
-pub use window::JOINED_BYTES;

@@ -1,73 +1,87 @@
 //! The files and folders of the host.
 
-ghost use Rattle.std.specs.Prelude.{IfErr};
+ghost use Rattle.std.specs.Prelude.{◌≡◌, IfErr};
 ghost use Rattle.kp_types.specs.Devices.{IsDeviceFault};
 
-use kp_cli::{Files, NOT_EMPTY, Unopened, refusal_of};
+use kp_cli::{Explained, Fault, KeptFolder, Source};
 use kp_types::{Folder, Refusal};
 use std::fs::{self, File};
-use std::io::{ErrorKind, Write};
+use std::io::{self, ErrorKind, Read, Write};
 
-/// The files of the host.
-#[derive(Clone, Copy)]
-pub struct HostFiles<'a> {
-    /// What reaches them.
-    pub rt: &'a HostRuntime,
+/// A file of the host to be read, once it is open.
+#[derive(Drop)]
+pub struct HostFile<'a> {
+    rt: &'a HostRuntime,
+    file: Option<File>,
+    fault: Fault,
 }
 
-/// A folder of the host, which was empty, and the file that was begun in it last.
+/// A folder of the host, once it is taken, and the file that was begun in it last.
 #[derive(Drop)]
 pub struct HostFolder<'a> {
     rt: &'a HostRuntime,
     path: String,
-    file: Option<<HostRuntime as fs::Files>::File>,
+    file: Option<File>,
+    fault: Fault,
 }
 
-impl<'a> Files for HostFiles<'a> {
-    type File = <HostRuntime as fs::Files>::File;
+impl<'a> HostFile<'a> {
+    /// None yet.
+    pub fn new(rt: &'a HostRuntime) -> HostFile<'a> {
+        HostFile {
+            rt,
+            file: None,
+            fault: Fault::Other,
+        }
+    }
+}
 
-    type Kept = HostFolder<'a>;
+impl Explained for HostFile<'_> {
+    ghost fault_is = { λ file. file.fault };
 
-    fn open(&self, path: &str) -> Result<Self::File, Unopened> {
+    fn fault(&self) -> Fault {
+        self.fault
+    }
+}
+
+impl Source for HostFile<'_> {
+    fn open(&mut self, path: &str) -> Result<(), Fault> {
         match fs::open(self.rt, path) {
-            Ok(file) => Ok(file),
-            Err(error) => Err(Unopened::of(&error)),
-        }
-    }
-
-    fn empty_folder(&self, path: &str) -> Result<HostFolder<'a>, Unopened> {
-        match fs::create_dir(self.rt, path) {
-            Ok(()) => {}
-            Err(error) if error.kind() == ErrorKind::AlreadyExists => see_empty(self.rt, path)?,
-            Err(error) => return Err(Unopened::of_folder(&error)),
-        }
-        match String::from_str(self.rt.alloc(), path) {
-            Ok(path) => Ok(HostFolder {
-                rt: self.rt,
-                path,
-                file: None,
-            }),
-            Err(_) => Err(Unopened {
-                refusal: Refusal::Memory,
-                why: "out of memory",
-            }),
+            Ok(file) => {
+                self.file = Some(file);
+                Ok(())
+            }
+            Err(error) => Err(Fault::of(&error)),
         }
     }
 }
 
-/// Whether nothing stands in the folder.
-fn see_empty(rt: &HostRuntime, path: &str) -> Result<(), Unopened> {
-    match fs::read_dir(rt, path) {
-        Ok(mut entries) => match entries.next() {
-            None => Ok(()),
-            Some(Ok(_)) => Err(NOT_EMPTY),
-            Some(Err(error)) => Err(Unopened::of_folder(&error)),
-        },
-        Err(error) => Err(Unopened::of_folder(&error)),
+impl Read for HostFile<'_> {
+    fn read(&mut self, buf: &mut [u8]) -> io::Result<usize> {
+        let Some(file) = &mut self.file else {
+            return Err(io::Error::from(ErrorKind::NotFound));
+        };
+        match file.read(buf) {
+            Ok(count) => Ok(count),
+            Err(error) => {
+                self.fault = Fault::of(&error);
+                Err(error)
+            }
+        }
     }
 }
 
 impl<'a> HostFolder<'a> {
+    /// None yet.
+    pub fn new(rt: &'a HostRuntime) -> HostFolder<'a> {
+        HostFolder {
+            rt,
+            path: String::new(rt.alloc()),
+            file: None,
+            fault: Fault::Other,
+        }
+    }
+
     /// The path of this name in the folder.
     fn path_of(&self, name: &str) -> Result<String, Refusal>
         ensures { IfErr result IsDeviceFault }
@@ -76,14 +90,58 @@ impl<'a> HostFolder<'a> {
         let path = format!(in self.rt.alloc(); "{folder}/{name}")?;
         Ok(path)
     }
+
+    /// Keeps why a call failed.
+    fn failed(&mut self, error: &io::Error) -> Result<(), Refusal>
+        ensures { IfErr result IsDeviceFault }
+    {
+        let fault = Fault::of(error);
+        self.fault = fault;
+        Err(fault.refusal())
+    }
 }
 
-impl<'a> Folder for HostFolder<'a> {
+impl Explained for HostFolder<'_> {
+    ghost fault_is = { λ folder. folder.fault };
+
+    fn fault(&self) -> Fault {
+        self.fault
+    }
+}
+
+impl KeptFolder for HostFolder<'_> {
+    fn take(&mut self, path: &str) -> Result<(), Fault> {
+        let Ok(copy) = String::from_str(self.rt.alloc(), path) else {
+            return Err(Fault::OutOfMemory);
+        };
+        match fs::create_dir(self.rt, path) {
+            Ok(()) => {}
+            Err(error) if error.kind() == ErrorKind::AlreadyExists => see_empty(self.rt, path)?,
+            Err(error) => return Err(Fault::of_folder(&error)),
+        }
+        self.path = copy;
+        Ok(())
+    }
+}
+
+/// Whether nothing stands in the folder.
+fn see_empty(rt: &HostRuntime, path: &str) -> Result<(), Fault> {
+    match fs::read_dir(rt, path) {
+        Ok(mut entries) => match entries.next() {
+            None => Ok(()),
+            Some(Ok(_)) => Err(Fault::NotEmpty),
+            Some(Err(error)) => Err(Fault::of_folder(&error)),
+        },
+        Err(error) => Err(Fault::of_folder(&error)),
+    }
+}
+
+impl Folder for HostFolder<'_> {
     fn make_folder(&mut self, name: &str) -> Result<(), Refusal> {
         let path = self.path_of(name)?;
         match fs::create_dir(self.rt, &path) {
             Ok(()) => Ok(()),
-            Err(error) => Err(refusal_of(&error)),
+            Err(error) => self.failed(&error),
         }
     }
 
@@ -94,7 +152,7 @@ impl<'a> Folder for HostFolder<'a> {
                 self.file = Some(file);
                 Ok(())
             }
-            Err(error) => Err(refusal_of(&error)),
+            Err(error) => self.failed(&error),
         }
     }
 
@@ -104,7 +162,7 @@ impl<'a> Folder for HostFolder<'a> {
         };
         match file.write_all(bytes) {
             Ok(()) => Ok(()),
-            Err(error) => Err(refusal_of(&error)),
+            Err(error) => self.failed(&error),
         }
     }
 }

@@ -1,27 +1,42 @@
-//! The program `kpart`: hands its words, the files of the host and its standard streams to `kp_cli`, and exits with the
+//! The program `kpart`: hands its words, a file and a folder of the host and its standard streams to `kp_cli`, and exits with the
 //! status that this answers. It stands on `kp_cli` alone, whose `main_with` has the contract of all that happens here.
-//! Its own contract is none: its stored run, and the rows of `kp_rows`, show that what it hands over is the host's.
+//! Its own contract is none: what it hands over is the host's, and a check of the built program shows that.
 #![tactic(auto)]
 
 mod host;
 
-use host::HostFiles;
-use kp_cli::{main_with, refusal_of};
-use kp_types::{Counted, Refusal};
+use host::{HostFile, HostFolder};
+use kp_cli::{Fault, main_with};
+use kp_types::Counted;
 use std::env;
+use std::fs::{self, File};
+use std::io::{self, ErrorKind};
 use std::process::ExitCode;
 
+/// Opens the empty device, which takes the lowest descriptor that is free: three of them leave no standard one closed.
+fn nothing(rt: &HostRuntime) -> io::Result<File> {
+    fs::open(rt, "/dev/null")
+}
+
 /// The words of the command line, the first of which is the program's name.
-fn words(rt: &HostRuntime) -> Result<Vec<String>, Refusal> {
+fn words(rt: &HostRuntime) -> Result<Vec<String>, Fault> {
     match env::args(rt) {
-        Ok(words) => Ok(words.collect(rt.alloc())?),
-        Err(error) => Err(refusal_of(&error)),
+        Ok(words) => match words.collect(rt.alloc()) {
+            Ok(words) => Ok(words),
+            Err(_) => Err(Fault::OutOfMemory),
+        },
+        Err(error) if error.kind() == ErrorKind::InvalidData => Err(Fault::NotText),
+        Err(error) => Err(Fault::of(&error)),
     }
 }
 
 fn main(rt: HostRuntime) -> ExitCode {
+    let held = (nothing(&rt), nothing(&rt), nothing(&rt));
     let mut out = Counted::new(rt.stdout());
     let mut err = Counted::new(rt.stderr());
-    let files = HostFiles { rt: &rt };
-    ExitCode::from(main_with(rt.alloc(), words(&rt), &files, &mut out, &mut err))
+    let file = HostFile::new(&rt);
+    let folder = HostFolder::new(&rt);
+    let left = main_with(rt.alloc(), words(&rt), file, folder, &mut out, &mut err);
+    drop(held);
+    ExitCode::from(left.status)
 }

@@ -4,6 +4,7 @@ use Rattle.kp_types.specs.Devices.{device_of}
 use Rattle.kp_cli.specs.Perform.{Performs, faults_in}
 use Rattle.kp_cli.specs.declared.call.Call.{Call}
 use Rattle.kp_cli.proofs.Ending.{inspects_front, ran, ran_status, run_refused, same_kept}
+use Rattle.kp_cli.proofs.Lines.{told_since}
 use Rattle.kp_cli.proofs.running.perform.Goals as goal
 
 pub returns-in-Ok-None : goal.returns-in-Ok-None
@@ -33,8 +34,9 @@ returns-in-Err-inspect g c = (
       (g.W.Write.contents (device_of c.inspect.new.writer)) (Err c.in-Err-inspect.refusal)) (sym c.in-Inspect.is)
       (inspects_front _ _ _ _ c.in-Err-inspect.refusal c.in-Err-inspect.ensures.only c.in-Err-inspect.ensures.front),
   search rules,
-  search rules,
-  search rules,
+  told_since g.R.Explained.fault_is g.E.Write.contents c.args.err.now c.refuse_since-in-Err-inspect.new.err c.in-Err-inspect.refusal
+      c.inspect.new.reader _ _ _ _ c.file-in-Err-inspect.ensures c.faults-faults.ensures c.refuse_since-in-Err-inspect.ensures.told,
+  c.refuse_since-in-Err-inspect.ensures.status,
 )
 
 pub returns-in-Ok : goal.returns-in-Ok
@@ -56,6 +58,7 @@ returns-in-Err g c = (
       (λ line e. (c.in-Err.ensures.fault line (ap Err e), same_kept g.W.Write.contents c.args.out.now c.play_script.new.writer (c.in-Err.ensures.untouched line (ap Err e))))
       (λ e. c.in-Err.ensures.first (ap Err e)) c.in-Err.ensures.front),
   c.in-Err.ensures.counted,
-  c.refuse.ensures.told,
-  c.refuse.ensures.status,
+  told_since g.R.Explained.fault_is g.E.Write.contents c.args.err.now c.refuse_since.new.err c.in-Err.refusal
+      c.play_script.new.reader _ _ _ _ c.file.ensures c.faults-faults.ensures c.refuse_since.ensures.told,
+  c.refuse_since.ensures.status,
 )

@@ -1,7 +1,10 @@
 use Rattle.std.proofs.Common.{◌∙◌, ℕ, nat_lt, Ok, Err, inl, inr, refl, ap}
 use mir.Val.{bool_byte}
 use Rattle.kp_types.proofs.Filing.{put_none}
+use Rattle.kp_types.specs.Devices.{faults_of}
+use Rattle.kp_cli.specs.Told.{reason_of}
 use Rattle.kp_cli.proofs.Ending.{kept_counted, ran_status, run_refused, same_kept}
+use Rattle.kp_cli.proofs.Lines.{no_reason, told_first, told_second, told_since}
 use Rattle.kp_cli.proofs.running.run_and_keep.Goals as goal
 
 pub returns-in-Err : goal.returns-in-Err
@@ -16,8 +19,13 @@ returns-in-Err g c = (
     put_none _,
   ),
   inl (c.in-Err.ensures.counted, refl),
-  c.refuse.ensures.told,
-  c.refuse.ensures.status,
+  told_first g.E.Write.contents c.args.err.now c.refuse_since.new.err c.in-Err.refusal
+      (reason_of g.R.Explained.fault_is c.args.file.now (faults_of c.args.reader.now) c.play_script.new.reader)
+      (reason_of g.K.Explained.fault_is c.args.keep.now (faults_of c.args.folder.now) c.args.folder.now)
+      (no_reason g.K.Explained.fault_is c.args.keep.now (faults_of c.args.folder.now) c.args.folder.now refl)
+      (told_since g.R.Explained.fault_is g.E.Write.contents c.args.err.now c.refuse_since.new.err c.in-Err.refusal
+      c.play_script.new.reader c.args.file.now c.args.file.now c.faults-read.result (faults_of c.args.reader.now) refl c.faults-read.ensures c.refuse_since.ensures.told),
+  c.refuse_since.ensures.status,
 )
 
 pub returns-in-Ok-write_logs : goal.returns-in-Ok-write_logs
@@ -34,6 +42,11 @@ returns g c = (
   Err c.in-Err-write_logs.refusal,
   inr (c.in-Ok.ended, c.in-Ok.ensures.played, (c.in-Err-write_logs.ensures.only, c.in-Err-write_logs.ensures.err)),
   kept_counted c.in-Err-write_logs.refusal c.in-Err-write_logs.ensures.only _ _ _ _ _ _ c.in-Ok.ensures.counted c.in-Err-write_logs.ensures.counted,
-  c.refuse-in-Err-write_logs.ensures.told,
-  c.refuse-in-Err-write_logs.ensures.status,
+  told_second g.E.Write.contents c.args.err.now c.refuse_since-in-Err-write_logs.new.err c.in-Err-write_logs.refusal
+      (reason_of g.R.Explained.fault_is c.args.file.now (faults_of c.args.reader.now) c.play_script.new.reader)
+      (reason_of g.K.Explained.fault_is c.args.keep.now (faults_of c.args.folder.now) c.write_logs.new.folder)
+      (no_reason g.R.Explained.fault_is c.args.file.now (faults_of c.args.reader.now) c.play_script.new.reader c.in-Ok.ensures.counted.0)
+      (told_since g.K.Explained.fault_is g.E.Write.contents c.args.err.now c.refuse_since-in-Err-write_logs.new.err c.in-Err-write_logs.refusal
+      c.write_logs.new.folder c.args.keep.now c.args.keep.now c.faults-put.result (faults_of c.args.folder.now) refl c.faults-put.ensures c.refuse_since-in-Err-write_logs.ensures.told),
+  c.refuse_since-in-Err-write_logs.ensures.status,
 )

@@ -1,13 +1,12 @@
 use Rattle.std.proofs.lemmas.Result.{on_err_weaker}
 use Rattle.std.proofs.Common.{◌≡◌, ◌∙◌, ℕ, suc, ◌+◌, ◌<◌, List, ◌++◌, ap, sym, subst, rules, arith, take, drop, length, get_or, append_assoc}
 use Rattle.std.proofs.Math.Seq.{drop-cons}
-use Rattle.std.proofs.lemmas.List.{take-append-drop}
+use Rattle.std.proofs.lemmas.List.{take-append-drop, take_all}
 use Rattle.std.proofs.lemmas.Grind.{common_steps, flat_map-append}
 use Rattle.std.proofs.lemmas.List.Concat.{flat_map-cons}
 use Rattle.std.specs.List.{flat_map}
 use Rattle.kp_types.specs.Devices.{IsBegun}
 use Rattle.kp_types.proofs.Fronts.{begun_more, out_begun, out_out, part_out}
-use Rattle.kp_types.proofs.Windows.{whole_front}
 use Rattle.kp_types.proofs.counted.Counted.write_each.Goals as goal
 
 -- all of them, by one of them
@@ -73,7 +72,7 @@ returns-clause-err g c =
     let before = c.loop-text.invariant in
     let whole : before.0 ++ c.as_slice.result.now ≡ flat_map (λ text. text.now) texts =
     ap (λ (l : List ℕ). before.0 ++ l) c.as_slice.ensures.value ∙ before.2
-    ∙ ap (flat_map (λ text. text.now)) (whole_front c.loop-text.text-index texts (omega (arith, c.loop-text-test.false))) in
+    ∙ ap (flat_map (λ text. text.now)) (take_all c.loop-text.text-index texts (omega (arith, c.loop-text-test.false))) in
     on_err_weaker c.write_all.result
     (λ begun. subst (IsBegun contents old new) whole (out_begun contents old c.loop-text.self new before.0 c.as_slice.result.now before.1 begun))
     (part_out contents c.loop-text.self new c.as_slice.result.now c.write_all.result c.write_all.ensures.err c.write_all.ensures.only c.write_all.ensures.counted)

@@ -1,0 +1,9 @@
+pub mod InRange
+pub mod Lists
+pub mod Steps
+pub mod Fitting
+pub mod OwnWords
+pub mod RecordWord
+pub mod MarkWord
+pub mod Sharing
+pub mod Sits

@@ -1,0 +1,186 @@
+-- Each step keeps the rule.
+use Rattle.std.proofs.Common.{◌≡◌, ◌≢◌, ℕ, zero, suc, ◌<◌, ◌≤◌, max, Bool, List, [], ◌∷◌, ◌++◌, length, get_or, set, Option, Some, None, inr, ⊎_elim, ◌⊎◌, refl, sym, ap, ◌∙◌, subst, arith, eq-eqb, ne_eqb}
+use Rattle.std.specs.Prelude.{if◌then◌else◌, slice_get}
+use mathlib.Core.Logic.{dite}
+use mathlib.Core.Option.{some}
+use native.Mathlib.Decide.{ℕ_discrete}
+use lib.ListN.{get_elem?}
+use lib.Seq.{set-get_or}
+use Rattle.atomic_table.specs.Table.{State}
+use Rattle.atomic_table.proofs.Lists.{at_set}
+use Rattle.kp_model.specs.Log.{Batch}
+use Rattle.kp_model.specs.World.{LeaderAndIsr, Node, Message, World, IsSent}
+use Rattle.kp_model.specs.Event.{Act, Acts}
+use Rattle.kp_model.specs.Local.{Effect, Local}
+use Rattle.kp_model.specs.Step.{IsGiven, moved, answered}
+use Rattle.kp_model.specs.Run.{Run, IsOf, last, extend, WasAppended}
+use Rattle.kp_model.proofs.RunLaws.{last_is_of, count_stays}
+use Rattle.kp_control.specs.Word.{packed}
+use Rattle.kp_board.specs.Views.{CallerView, Note, KeptReceipt, View, founder, of_node, of_caller, of_message, of_note, spent}
+use Rattle.kp_board.specs.Rule.{mark_word, WasWatermark, NoWatermarkAbove, WasRecord, BeginsHeld, AreAppended, AreSent, WereRecords, IsOfRun, FitsNote, FitsCaller, Fits, Ruled}
+
+pub told_later : (messages messages' : List Message) → ((l : Message) → IsSent messages l → IsSent messages' l) → (ls : List Message) → AreSent messages ls → AreSent messages' ls
+told_later messages messages' h [] t = tt
+told_later messages messages' h (l ∷ ls) t = (h l t.0, told_later messages messages' h ls t.1)
+
+Lacks : Option Message → Type 0
+Lacks None = Unit {0}
+Lacks (Some l) = ⊥
+
+not_there : (l : Message) → None ≡ Some l → ⊥
+unfolding Lacks
+not_there l e = subst Lacks e tt
+
+get_before : (messages sent : List Message) (i : ℕ) (l : Message) → slice_get messages i ≡ Some l → slice_get (messages ++ sent) i ≡ Some l
+get_before [] sent i l e = absurd (not_there l e)
+get_before (x ∷ xs) sent zero l e = e
+get_before (x ∷ xs) sent (suc i) l e = get_before xs sent i l e
+
+pub sent_before : (messages sent : List Message) (l : Message) → IsSent messages l → IsSent (messages ++ sent) l
+sent_before messages sent l s = (s.0, get_before messages sent s.0 l s.1)
+
+pub moved_same : (w : World) (k : ℕ) (e : Effect) → (moved w k e).nodes k ≡ e.node
+moved_same w k e = subst (λ (b : Bool). (if b then e.node else w.nodes k) ≡ e.node) (sym (eq-eqb k k refl)) refl
+
+pub moved_other : (w : World) (k j : ℕ) (e : Effect) → j ≢ k → (moved w k e).nodes j ≡ w.nodes j
+moved_other w k j e ne = subst (λ (b : Bool). (if b then e.node else w.nodes j) ≡ w.nodes j) (sym (ne_eqb j k ne)) refl
+
+module _ {n : ℕ} where
+  -- the run q goes on from r, and what the seats other than id know stays true
+  pub record Later (r q : Run n) (owner : ℕ → ℕ) (words words' : List ℕ) (id : ℕ) : Type 0 where
+    pub among : (w : World) → IsOf w r → IsOf w q
+    pub messages : (l : Message) → IsSent (last r).messages l → IsSent (last q).messages l
+    pub nodes : (k : ℕ) → k < n → owner k ≢ id → (last q).nodes k ≡ (last r).nodes k
+    pub tops : (k m : ℕ) → k < n → owner k ≢ id → NoWatermarkAbove r k m → NoWatermarkAbove q k m
+    pub same : (k : ℕ) → k < n → owner k ≢ id → get_or words' (mark_word k) 0 ≡ get_or words (mark_word k) 0
+    pub rises : (k : ℕ) → k < n → get_or words (mark_word k) 0 ≤ get_or words' (mark_word k) 0
+
+  module _ (r q : Run n) (owner : ℕ → ℕ) (words words' : List ℕ) (id : ℕ) (later : Later r q owner words words' id) where
+    pub showed_later : (c : LeaderAndIsr) → WasRecord r c → WasRecord q c
+    showed_later c s = (s.0, later.among s.0 s.1, s.2)
+
+    pub begins_later : (xs : List Batch) → BeginsHeld r xs → BeginsHeld q xs
+    begins_later xs b = (b.0, b.1, later.among b.0 b.2, b.3)
+
+    pub was_later : (k m : ℕ) → WasWatermark r k m → WasWatermark q k m
+    was_later k m b = (b.0, later.among b.0 b.1, b.2)
+
+    pub note_later : (x : Note) → FitsNote r words x → FitsNote q words' x
+    note_later x f = record {
+      list = begins_later x.list f.list;
+      mark = λ l. let a = f.mark l in let b = later.rises x.node l in omega arith;
+      log = (f.log.0, f.log.1, later.among f.log.0 f.log.2, f.log.3);
+    }
+
+    pub appended_later : (xs : List KeptReceipt) → AreAppended r xs → AreAppended q xs
+    appended_later [] a = tt
+    appended_later (x ∷ xs) a = let b : WasAppended r x.batch = a.0 in ((b.0, b.1, later.among b.0 b.2, b.3), appended_later xs a.1)
+
+    pub records_later : (cs : List LeaderAndIsr) → WereRecords r cs → WereRecords q cs
+    records_later [] w = tt
+    records_later (c ∷ cs) w = (showed_later c w.0, records_later cs w.1)
+
+    pub of_run_later : (c : CallerView) → IsOfRun r c → IsOfRun q c
+    of_run_later c f = record {
+      wide = f.wide;
+      seen = begins_later c.seen f.seen;
+      shown = showed_later c.shown f.shown;
+      marks = λ k l. was_later k (get_or c.marks k 0) (f.marks k l);
+      receipts = appended_later c.receipts f.receipts;
+      elections = records_later c.elections f.elections;
+    }
+
+    pub caller_later : (c : CallerView) → FitsCaller r words c → FitsCaller q words' c
+    caller_later c f = record {
+      of_run = of_run_later c f.of_run;
+      told = note_later c.told f.told;
+      reached = λ k l. let rise = later.rises k l in let low = f.reached k l in omega arith;
+    }
+
+    pub others_fit : (j : ℕ) (v : View) → j ≢ id → Fits r owner words j v → Fits q owner words' j v
+    others_fit j (founder i m) apart f = record {
+      count = f.count;
+      own = f.own;
+      state = λ k a l. later.nodes k l (λ e. apart (sym (f.own k a l) ∙ e)) ∙ f.state k a l;
+      word = λ k a l. later.same k l (λ e. apart (sym (f.own k a l) ∙ e)) ∙ f.word k a l;
+      top = λ k a l. later.tops k 0 l (λ e. apart (sym (f.own k a l) ∙ e)) (f.top k a l);
+    }
+    others_fit j (of_node p) apart f = let ne : owner p.number ≢ id = λ e. apart (sym f.own ∙ e) in record {
+      inside = f.inside;
+      own = f.own;
+      state = later.nodes p.number f.inside ne ∙ f.state;
+      shown = showed_later p.shown f.shown;
+      word = later.same p.number f.inside ne ∙ f.word;
+      top = later.tops p.number (max p.published p.state.watermark) f.inside ne f.top;
+      told = told_later (last r).messages (last q).messages later.messages p.told f.told;
+    }
+    others_fit j (of_caller c) apart f = caller_later c f
+    others_fit j (of_message l) apart f = later.messages l f
+    others_fit j (of_note x) apart f = note_later x f
+    others_fit j spent apart f = tt
+
+  -- the views, after one has changed
+  pub views_fit : (r : Run n) (owner : ℕ → ℕ) (words : List ℕ) (views : List View) (id : ℕ) (w : View) → Fits r owner words id w
+      → ((j : ℕ) (v : View) → j ≢ id → get_elem? views j ≡ some v → Fits r owner words j v) → (j : ℕ) (v : View) → get_elem? (set views id w) j ≡ some v → Fits r owner words j v
+  views_fit r owner words views id w own others j v e =
+      ⊎_elim (λ (t : (j ≡ id) × (w ≡ v)). subst (λ (x : ℕ × View). Fits r owner words x.0 x.1) (λ i. (sym t.0 i, t.1 i)) own)
+      (λ (t : (j ≢ id) × (get_elem? views j ≡ some v)). others j v t.0 t.1) (at_set views id j w v e)
+
+  -- A step keeps the rule: the one lemma under all kinds.
+  pub keeps_rule : (s : State ℕ View) (d : Ruled n s) (q : Run n) (words' : List ℕ) (id : ℕ) (w : View) → Later d.run q d.owner s.words words' id → length words' ≡ length s.words
+      → get_or words' 0 0 ≡ packed (last q).controller → ((k : ℕ) → k < n → WasWatermark q k (get_or words' (mark_word k) 0)) → Fits q d.owner words' id w
+      → Ruled n record { words = words'; homes = s.homes; views = set s.views id w }
+  keeps_rule s d q words' id w later as_wide record_is marks fits = record {
+    small = d.small;
+    run = q;
+    owner = d.owner;
+    wide = as_wide ∙ d.wide;
+    record_is = record_is;
+    marks = marks;
+    seats = views_fit q d.owner words' s.views id w fits (λ j v apart e. others_fit d.run q d.owner s.words words' id later j v apart (d.seats j v e));
+  }
+
+  -- nothing happens in the model
+  pub stays : (r : Run n) (owner : ℕ → ℕ) (words : List ℕ) (id : ℕ) → Later r r owner words words id
+  stays r owner words id = record { among = λ w a. a; messages = λ l s. s; nodes = λ k l ne. refl; tops = λ k m l ne t. t; same = λ k l ne. refl; rises = λ k l. omega arith }
+
+  -- a load that tells the seat something
+  pub looks_on : (s : State ℕ View) (d : Ruled n s) (i id : ℕ) (w : View) → Fits d.run d.owner s.words id w → Ruled n record { words = set s.words i (get_or s.words i 0); homes = s.homes; views = set s.views id w }
+  looks_on s d i id w fits = subst (λ (ws : List ℕ). Ruled n record { words = ws; homes = s.homes; views = set s.views id w }) (sym (set-get_or s.words i 0))
+      (keeps_rule s d d.run s.words id w (stays d.run d.owner s.words id) refl d.record_is d.marks fits)
+
+  -- the run after a node's step
+  abbrev pub acted : (r : Run n) (k : ℕ) (act : Act) (e : Effect) → k < n → IsGiven (last r).messages act → Local (last r).controller k ((last r).nodes k) act e → Run n
+  acted r k act e inside given local =
+      extend r (Acts k act) (answered (last r).messages e) (moved (last r) k e)
+      (record { counted = (let z = count_stays n r (last r) (last_is_of n r) in omega arith); given = given; effect = e; local = local; outcome_is = refl; new_is = refl })
+
+  -- what the others know stays true over a step of the node k, whose pass is id
+  pub acts_on : (r : Run n) (owner : ℕ → ℕ) (words words' : List ℕ) (id k : ℕ) (act : Act) (e : Effect) (inside : k < n) (given : IsGiven (last r).messages act) (local : Local (last r).controller k ((last r).nodes k) act e)
+      → owner k ≡ id → ((j : ℕ) → j < n → j ≢ k → get_or words' (mark_word j) 0 ≡ get_or words (mark_word j) 0) → get_or words (mark_word k) 0 ≤ get_or words' (mark_word k) 0
+      → Later r (acted r k act e inside given local) owner words words' id
+  acts_on r owner words words' id k act e inside given local own same rise =
+      let other = λ (j : ℕ) (ne : j ≢ k). moved_other (last r) k j e ne in record {
+        among = λ w a. inr a;
+        messages = λ l s. sent_before (last r).messages e.sent l s;
+        nodes = λ j l ne. other j (λ g. ne (ap owner g ∙ own));
+        tops = λ j m l ne t w a. ⊎_elim
+            (λ (g : w ≡ moved (last r) k e). let f = ap (λ (z : World). (z.nodes j).watermark) g ∙ ap (λ (x : Node). x.watermark) (other j (λ h. ne (ap owner h ∙ own))) in let low = t (last r) (last_is_of n r) in omega arith)
+            (λ (b : IsOf w r). t w b) a;
+        same = λ j l ne. same j l (λ g. ne (ap owner g ∙ own));
+        rises = λ j l. dite (ℕ_discrete j k) (λ g. subst (λ (z : ℕ). get_or words (mark_word z) 0 ≤ get_or words' (mark_word z) 0) (sym g) rise) (λ ne. let f = same j l ne in omega arith);
+      }
+
+  -- the run after another event that changes the record alone
+  pub record_on : (r q : Run n) (owner : ℕ → ℕ) (words words' : List ℕ) (id : ℕ)
+      → ((w : World) → IsOf w r → IsOf w q) → ((w : World) → IsOf w q → (w ≡ last q) ⊎ IsOf w r)
+      → ((k : ℕ) → (last q).nodes k ≡ (last r).nodes k) → ((l : Message) → IsSent (last r).messages l → IsSent (last q).messages l)
+      → ((j : ℕ) → get_or words' (mark_word j) 0 ≡ get_or words (mark_word j) 0) → Later r q owner words words' id
+  record_on r q owner words words' id among cases nodes messages same = record {
+    among = among;
+    messages = messages;
+    nodes = λ j l ne. nodes j;
+    tops = λ j m l ne t w a. ⊎_elim (λ (e : w ≡ last q). let f = ap (λ (z : World). (z.nodes j).watermark) e ∙ ap (λ (x : Node). x.watermark) (nodes j) in let low = t (last r) (last_is_of n r) in omega arith) (λ (b : IsOf w r). t w b) (cases w a);
+    same = λ j l ne. same j;
+    rises = λ j l. let f = same j in omega arith;
+  }

@@ -1,0 +1,23 @@
+use Rattle.std.proofs.Common.{arith, ◌≡◌, ℕ, sym, ap, ◌∙◌}
+use Rattle.atomic_table.specs.Table.{Me}
+use Rattle.kp_board.specs.Views.{View, founder, new_node, next_founder, founded_node, node_view}
+use Rattle.kp_board.proofs.Sharing.{founds_as}
+use Rattle.kp_board.proofs.Sits.{pushed_by}
+use Rattle.kp_board.proofs.board.Board.new.Goals as goal
+
+pub split_seat-seat-requires : goal.split_seat-seat-requires
+split_seat-seat-requires g c =
+    let i = c.opened.invariant in
+    let l = c.loop-number.invariant in
+    let at : c.loop-number.first.me.0 ≡ founder c.loop-number.number c.opened.inside.table.shared.key = ap (λ (m : Me ℕ View). m.0) l.1 ∙ ap (λ (x : ℕ). founder c.loop-number.number x) (sym i.2) in
+    (l.0, (let w = i.3 in omega arith), founds_as c.opened.inside.table.shared.key c.loop-number.first.id c.loop-number.number c.loop-number.first.me.0 at (let k = i.2 in omega arith))
+
+pub loop-number-preserved : goal.loop-number-preserved
+loop-number-preserved g c =
+    let l = c.loop-number.invariant in
+    let s = c.split_seat-seat.ensures in
+    let v = ap (λ (m : Me ℕ View). m.0) l.1 in
+    let rest = ap (λ (m : Me ℕ View). m.1) l.1 in
+    let here : node_view c.split_seat-seat.result.me.0 ≡ new_node c.opened.inside.nodes c.loop-number.number = ap (λ (m : Me ℕ View). node_view m.0) s.4 ∙ ap (λ (x : View). node_view (founded_node x)) v in
+    let more = pushed_by (λ f. f.pass) (new_node c.opened.inside.nodes) c.loop-number.number c.loop-number.passes.items _ c.push.new.self.items c.in_ok-push.ensures.items (l.2) l.3 here in
+    (s.0 ∙ l.0, s.2 ∙ (λ k. (next_founder (v k), rest k)), more.0, more.1)

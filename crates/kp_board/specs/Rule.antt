@@ -1,0 +1,142 @@
+-- The rule of the board (own rule): some run of the definitions ends in just the world that the words and the passes show.
+-- It holds between any two steps of any threads.
+use Rattle.std.specs.Prelude.{◌≡◌, ℕ, ◌+◌, ◌*◌, ◌<◌, ◌≤◌, max, List, [], ◌∷◌, length, slice_index}
+use mathlib.Core.Option.{some}
+use lib.ListN.{get_elem?}
+use Rattle.atomic_table.specs.Table.{State}
+use Rattle.kp_control.specs.Word.{packed}
+use Rattle.kp_model.specs.Beginning.{Begins}
+use Rattle.kp_model.specs.Log.{Batch}
+use Rattle.kp_model.specs.World.{LeaderAndIsr, Message, World, fresh, IsSent}
+use Rattle.kp_model.specs.Event.{Outcome, Elect}
+use Rattle.kp_model.specs.Step.{Step}
+use Rattle.kp_model.specs.Run.{Run, IsOf, last, extend, held, WasAppended}
+use Rattle.kp_board.specs.Views.{NodeView, CallerView, Note, KeptReceipt, View, founder, of_node, of_caller, of_message, of_note, spent}
+
+-- The words: word 0 is the controller's record, packed; then for each node its log end offset and its watermark. Of an end
+-- word the rule says nothing: it is for those who look and need no promise.
+abbrev pub end_word : ℕ → ℕ
+end_word k = 2 * k + 1
+
+abbrev pub mark_word : ℕ → ℕ
+mark_word k = 2 * k + 2
+
+-- these messages were sent
+abbrev pub AreSent : List Message → List Message → Type 0
+AreSent messages [] = Unit {0}
+AreSent messages (l ∷ ls) = IsSent messages l × AreSent messages ls
+
+module _ {n : ℕ} (r : Run n) where
+  -- node k had this watermark in a world of the run
+  abbrev pub WasWatermark : (k mark : ℕ) → Type 0
+  WasWatermark k mark = (w : World) × IsOf w r × ((w.nodes k).watermark ≡ mark)
+
+  -- node k never had a higher watermark in the run
+  abbrev pub NoWatermarkAbove : (k mark : ℕ) → Type 0
+  NoWatermarkAbove k mark = (w : World) → IsOf w r → (w.nodes k).watermark ≤ mark
+
+  -- it was the record in a world of the run
+  abbrev pub WasRecord : LeaderAndIsr → Type 0
+  WasRecord c = (w : World) × IsOf w r × (w.controller ≡ c)
+
+  -- the list begins what a node held in a world of the run
+  abbrev pub BeginsHeld : List Batch → Type 0
+  BeginsHeld xs = (w : World) × (k : ℕ) × IsOf w r × Begins xs (held (w.nodes k))
+
+  -- the list was a node's log in a world of the run
+  abbrev pub WasLog : List Batch → Type 0
+  WasLog xs = (w : World) × (k : ℕ) × IsOf w r × (xs ≡ (w.nodes k).log)
+
+  -- the batches of these receipts were appended in the run
+  abbrev pub AreAppended : List KeptReceipt → Type 0
+  AreAppended [] = Unit {0}
+  AreAppended (x ∷ xs) = WasAppended r x.batch × AreAppended xs
+
+  -- these were records in worlds of the run
+  abbrev pub WereRecords : List LeaderAndIsr → Type 0
+  WereRecords [] = Unit {0}
+  WereRecords (c ∷ cs) = WasRecord c × WereRecords cs
+
+  -- all that a caller's pass shows is of this run
+  pub record IsOfRun (c : CallerView) : Type 0 where
+    pub wide : length c.marks ≡ n
+    pub seen : BeginsHeld c.seen
+    pub shown : WasRecord c.shown
+    pub marks : (k : ℕ) → k < n → WasWatermark k (slice_index c.marks k)
+    pub receipts : AreAppended c.receipts
+    pub elections : WereRecords c.elections
+
+  -- ---- what the rule says of each sort of pass, by these words
+
+  pub record FitsNote (words : List ℕ) (x : Note) : Type 0 where
+    pub list : BeginsHeld x.list
+    pub mark : x.node < n → x.mark ≤ slice_index words (mark_word x.node)
+    pub log : WasLog x.log
+
+  -- The node in the run's last world is just what the pass shows, and its mark word too. Only one pass is its own. The mark
+  -- word, or where it doesn't yet follow the node's watermark, is the greatest watermark that the node had.
+  pub record FitsNode (owner : ℕ → ℕ) (words : List ℕ) (id : ℕ) (p : NodeView) : Type 0 where
+    pub inside : p.number < n
+    pub own : owner p.number ≡ id
+    pub state : (last r).nodes p.number ≡ p.state
+    pub shown : WasRecord p.shown
+    pub word : slice_index words (mark_word p.number) ≡ p.published
+    pub top : NoWatermarkAbove p.number (max p.published p.state.watermark)
+    pub told : AreSent (last r).messages p.told
+
+  -- all that it shows is of the run, and no watermark shown is above the node's mark word
+  pub record FitsCaller (words : List ℕ) (c : CallerView) : Type 0 where
+    pub of_run : IsOfRun c
+    pub told : FitsNote words c.told
+    pub reached : (k : ℕ) → k < n → slice_index c.marks k ≤ slice_index words (mark_word k)
+
+  -- the nodes from j on have no pass yet, and are as at the start
+  pub record FitsFounder (owner : ℕ → ℕ) (words : List ℕ) (id j m : ℕ) : Type 0 where
+    pub count : m ≡ n
+    pub own : (k : ℕ) → j ≤ k → k < n → owner k ≡ id
+    pub state : (k : ℕ) → j ≤ k → k < n → (last r).nodes k ≡ fresh
+    pub word : (k : ℕ) → j ≤ k → k < n → slice_index words (mark_word k) ≡ 0
+    pub top : (k : ℕ) → j ≤ k → k < n → NoWatermarkAbove k 0
+
+  abbrev pub Fits : (owner : ℕ → ℕ) (words : List ℕ) (id : ℕ) → View → Type 0
+  Fits owner words id (founder j m) = FitsFounder owner words id j m
+  Fits owner words id (of_node p) = FitsNode owner words id p
+  Fits owner words id (of_caller c) = FitsCaller words c
+  Fits owner words id (of_message l) = IsSent (last r).messages l
+  Fits owner words id (of_note x) = FitsNote words x
+  Fits owner words id spent = Unit {0}
+
+-- The rule, of a board of n nodes: word 0 is the record of the last world of a run; each mark word is a watermark that its
+-- node had; and each pass fits. `owner` says which pass is each node's own.
+pub record Ruled (n : ℕ) (s : State ℕ View) : Type 0 where
+  pub small : n ≤ 7
+  pub run : Run n
+  pub owner : ℕ → ℕ
+  pub wide : length s.words ≡ 2 * n + 1
+  pub record_is : slice_index s.words 0 ≡ packed (last run).controller
+  pub marks : (k : ℕ) → k < n → WasWatermark run k (slice_index s.words (mark_word k))
+  pub seats : (id : ℕ) (v : View) → get_elem? s.views id ≡ some v → Fits run owner s.words id v
+
+-- ---- what a call can say of that run, which it can't name
+
+-- some run has all that this pass shows
+abbrev pub ShowsARun : CallerView → Type 0
+ShowsARun c = (n : ℕ) × (r : Run n) × IsOfRun r c
+
+-- and the record shown is the last one of that run
+abbrev pub ShowsLastRecord : CallerView → Type 0
+ShowsLastRecord c = (n : ℕ) × (r : Run n) × IsOfRun r c × ((last r).controller ≡ c.shown)
+
+-- the newest event of the run is an election of this node, which changes one record to the next
+pub record EndsElecting {n : ℕ} (r : Run n) (node : ℕ) (old next : LeaderAndIsr) : Type 0 where
+  pub before : Run n
+  pub outcome : Outcome
+  pub after : World
+  pub step : Step (last before) (Elect node) outcome after
+  pub is : r ≡ extend before (Elect node) outcome after step
+  pub old_is : (last before).controller ≡ old
+  pub next_is : after.controller ≡ next
+
+-- some run has all that this pass shows, and ends with an election of this node, from the record `old` to the one shown
+abbrev pub ShowsElection : (node : ℕ) (old : LeaderAndIsr) → CallerView → Type 0
+ShowsElection node old c = (n : ℕ) × (r : Run n) × IsOfRun r c × EndsElecting r node old c.shown

@@ -1,0 +1,122 @@
+-- What the passes of a board show (own rule). A pass has no bytes: what it shows stands in the proof alone.
+use Rattle.std.specs.Prelude.{ℕ, ◌+◌, false, List, [], ◌∷◌, replicate}
+use Rattle.kp_model.specs.Log.{Batch}
+use Rattle.kp_model.specs.World.{LeaderAndIsr, Node, Message, Asks, fresh, initial}
+use Rattle.kp_model.specs.Run.{held}
+
+-- A node's pass: the node's number and its state now, the record that the node was last shown, the value of its mark
+-- word, and messages that are known to have been sent.
+pub record NodeView : Type 0 where
+  pub number : ℕ
+  pub state : Node
+  pub shown : LeaderAndIsr
+  pub published : ℕ
+  pub told : List Message
+
+-- What one pass tells another: a committed list, a watermark that the mark word of this node has reached, and a log that
+-- some node had.
+pub record Note : Type 0 where
+  pub list : List Batch
+  pub node : ℕ
+  pub mark : ℕ
+  pub log : List Batch
+
+-- A receipt that a caller keeps: the batch that it names, and the bytes that were handed in for it.
+pub record KeptReceipt : Type 0 where
+  pub batch : Batch
+  pub bytes : List ℕ
+
+-- A caller's pass: the committed list that it has seen, what it was told last, the record that it was last shown, the
+-- watermark of each node that it was last shown, its receipts, and the records that its elections made. The newest of these
+-- come first.
+pub record CallerView : Type 0 where
+  pub seen : List Batch
+  pub told : Note
+  pub shown : LeaderAndIsr
+  pub marks : List ℕ
+  pub receipts : List KeptReceipt
+  pub elections : List LeaderAndIsr
+
+-- All passes: the one that makes the passes of the nodes from j to n - 1; a node's; a caller's; that of a message that
+-- was sent; a note on its way from one pass to another; and one that is used up.
+pub data View : Type 0 where
+  founder : (j n : ℕ) → View
+  of_node : NodeView → View
+  of_caller : CallerView → View
+  of_message : Message → View
+  of_note : Note → View
+  spent : View
+
+-- ---- new passes
+
+-- node k's, on a board of n nodes
+abbrev pub new_node : (n k : ℕ) → NodeView
+new_node n k = record { number = k; state = fresh; shown = initial n; published = 0; told = [] }
+
+abbrev pub no_note : Note
+no_note = record { list = []; node = 0; mark = 0; log = [] }
+
+-- a caller's, on a board of n nodes: it has seen the empty list, the record of the start and watermark 0 of each node
+abbrev pub new_caller : (n : ℕ) → CallerView
+new_caller n = record { seen = []; told = no_note; shown = initial n; marks = replicate n 0; receipts = []; elections = [] }
+
+abbrev pub no_message : Message
+no_message = Asks (record { from = 0; to = 0; life = 0; epoch = 0; fetching = false; log = [] })
+
+-- ---- what a view is, where it is of that sort
+
+abbrev pub node_view : View → NodeView
+node_view (of_node p) = p
+node_view _ = new_node 0 0
+
+abbrev pub caller_view : View → CallerView
+caller_view (of_caller c) = c
+caller_view _ = new_caller 0
+
+abbrev pub message_view : View → Message
+message_view (of_message l) = l
+message_view _ = no_message
+
+abbrev pub founder_count : View → ℕ
+founder_count (founder j n) = n
+founder_count _ = 0
+
+-- ---- how a view is cut in two, and how two are joined
+
+-- the founder makes one node's pass, and goes on with the next node
+abbrev pub next_founder : View → View
+next_founder (founder j n) = founder (j + 1) n
+next_founder v = v
+
+abbrev pub founded_node : View → View
+founded_node (founder j n) = of_node (new_node n j)
+founded_node v = spent
+
+-- a node tells what it holds, its mark word's value and its log
+abbrev pub node_note : NodeView → Note
+node_note p = record { list = held p.state; node = p.number; mark = p.published; log = p.state.log }
+
+-- a caller tells what it has seen
+abbrev pub caller_note : CallerView → Note
+caller_note c = record { list = c.seen; node = 0; mark = 0; log = [] }
+
+abbrev pub noted : View → View
+noted (of_node p) = of_note (node_note p)
+noted (of_caller c) = of_note (caller_note c)
+noted _ = spent
+
+abbrev pub first_message : List Message → View
+first_message [] = spent
+first_message (l ∷ ls) = of_message l
+
+-- a node gives out the message that it sent last; a message's pass is doubled
+abbrev pub sent_message : View → View
+sent_message (of_node p) = first_message p.told
+sent_message (of_message l) = of_message l
+sent_message _ = spent
+
+-- a caller is told a note; a node is told that a message was sent
+abbrev pub told_of : View → View → View
+told_of (of_caller c) (of_note x) = of_caller (record c { told = x })
+told_of (of_node p) (of_message l) = of_node (record p { told = l ∷ [] })
+told_of v w = v

@@ -1,0 +1,221 @@
+//! The board, and a caller's steps.
+ghost use Rattle.std.specs.Prelude.{◌≡◌, ◌⊎◌, ℕ, ◌+◌, ◌*◌, ◌<◌, ◌≤◌, ◌∷◌, length, slice_get, Some, Ok, Err, IfOk, IfErr, OnErr, MatchBool, None, map, [], Contains};
+ghost use Rattle.kp_types.specs.declared.refusal.Refusal.TheVariants.{Memory, StaleRecord};
+ghost use Rattle.kp_model.specs.World.{LeaderAndIsr as ModelRecord, most_nodes};
+ghost use Rattle.kp_model.specs.Local.{elected};
+ghost use Rattle.kp_model.specs.Step.{elect_cause};
+ghost use Rattle.kp_control.specs.Set.{record_of};
+ghost use Rattle.kp_control.specs.Word.{packed};
+ghost use Rattle.kp_board.specs.Views.{KeptReceipt, new_node, new_caller};
+ghost use Rattle.kp_board.specs.Rule.{ShowsLastRecord, ShowsElection};
+ghost use Rattle.kp_board.specs.Plays.{Finds, IsPassedBy, Learned, electing};
+
+use crate::passes::{BoardName, FreshPass, NodePass, Pass};
+use crate::plays::{
+    Arrives, Election, Elects, Founds, KeepsReceipt, Looks, LooksAtMark, ReceiptFiling,
+};
+use crate::rule::{BoardSeat, BoardTable};
+use crate::word::record_of_word;
+use kp_control::LeaderAndIsr;
+use kp_types::{NODE_PLACES, NodeId, Offset, Refusal};
+use std::alloc::Global;
+use std::marker::{Brand, Model, PhantomData};
+
+// Word 0, and an end word and a mark word for each node.
+const MOST_WORDS: usize = 2 * NODE_PLACES + 1;
+
+/// A board that no type names yet, and what makes its nodes' passes. A clause sees which words it is of. (Own rule.)
+#[derive(Drop)]
+pub struct Opened {
+    table: BoardTable,
+    first: BoardSeat,
+    nodes: NodeId,
+}
+
+impl Model for Opened {
+    ghost use Rattle.std.specs.Prelude.{◌≡◌, ℕ, ◌+◌, ◌*◌, ◌≤◌, []};
+    ghost use Rattle.atomic_table.specs.Seated.{TableId, table_id_coded};
+    ghost use Rattle.kp_board.specs.Views.{founder};
+
+    ghost Value = { TableId };
+
+    ghost coded = { table_id_coded };
+
+    ghost view = { λ o. o.table.shared.table_id };
+
+    ghost invariant = { λ o. (o.first.table_id ≡ o.table.shared.table_id) × (o.first.me ≡ (founder 0 o.nodes, [])) × (o.table.shared.key ≡ o.nodes) × (o.table.shared.table_id.words ≡ 2 * o.nodes + 1) × (o.nodes ≤ 7) };
+}
+
+/// The words that all threads share: word 0 is the controller's record, then each node has an end word and a mark word. A clause
+/// sees the number of nodes. Share it by `&` or in an `Arc`. (Own rule.)
+#[derive(Drop)]
+pub struct Board<B: BoardName> {
+    pub(crate) table: BoardTable,
+    pub(crate) nodes: NodeId,
+    pub(crate) name: PhantomData<B>,
+}
+
+impl<B: BoardName> Model for Board<B> {
+    ghost use Rattle.std.specs.Prelude.{◌≡◌, ℕ, ◌+◌, ◌*◌, ◌≤◌};
+
+    ghost Value = { ℕ };
+
+    ghost view = { λ b. b.nodes };
+
+    ghost invariant = { λ b. (b.table.shared.table_id ≡ B.table) × (b.table.shared.key ≡ b.nodes) × (B.table.words ≡ 2 * b.nodes + 1) × (b.nodes ≤ 7) };
+}
+
+impl Opened {
+    /// The words of a board of 0 to 7 nodes, at the start of a run: no leader, all in sync, all logs empty. F33 is the only
+    /// refusal. It takes one block of memory, of at most 15 words. (Own rule.)
+    pub fn new(alloc: Global, nodes: NodeId) -> Result<Opened, Refusal>
+        requires { nodes ≤ most_nodes }
+        ensures made { IfOk result (λ o. o.words ≡ 2 * nodes + 1) }
+        ensures only { IfErr result (λ refusal. refusal ≡ Memory) }
+    {
+        let mut words = [0u64; MOST_WORDS];
+        words[0] = LeaderAndIsr::initial(nodes).pack();
+        let count = 2 * nodes as usize + 1;
+        let (table, first) = BoardTable::of_words(alloc, &words[..count], &u64::from(nodes))?;
+        Ok(Opened {
+            table,
+            first,
+            nodes,
+        })
+    }
+}
+
+impl<B: BoardName> Board<B> {
+    /// The board under its name, and the pass of each node once, in their order. F33 is the only refusal, of the list of passes.
+    /// (Own rule.)
+    pub fn new(alloc: Global, opened: Opened) -> Result<(Board<B>, Vec<FreshPass<B>>), Refusal>
+        requires { opened ≡ B.table }
+        ensures nodes { IfOk result (λ r. 2 * r.0 + 1 ≡ opened.words) }
+        ensures passes { IfOk result (λ r. (length r.1.items ≡ r.0)
+            × ((k : ℕ) → k < r.0 → slice_get (map (λ f. f.pass) r.1.items) k ≡ Some (new_node r.0 k))) }
+        ensures only { IfErr result (λ refusal. refusal ≡ Memory) }
+    {
+        let Opened {
+            table,
+            mut first,
+            nodes,
+        } = opened;
+        let mut passes = Vec::with_capacity(alloc, nodes as usize)?;
+        for number in 0..nodes {
+            let seat = table.shared.split_seat::<Founds>(&mut first);
+            let pass = NodePass {
+                seat,
+                number,
+                name: PhantomData,
+            };
+            passes.push(FreshPass { pass })?;
+        }
+        let board = Board {
+            table,
+            nodes,
+            name: PhantomData,
+        };
+        Ok((board, passes))
+    }
+
+    /// How many nodes it is of. O(1).
+    pub fn nodes(&self) -> NodeId
+        ensures value { result ≡ self.now }
+        ensures words { B.table.words ≡ 2 * result + 1 }
+    {
+        self.nodes
+    }
+
+    /// A new caller's pass: it has seen the empty list, the record of the start and watermark 0 of each node. A pass has no
+    /// bytes, so none is refused. O(1). (Own rule.)
+    pub fn pass(&self) -> Pass<B>
+        ensures { result ≡ new_caller self.now }
+    {
+        let (_found, seat) = self.table.shared.load_new_seat::<Arrives>(0);
+        Pass {
+            seat,
+            name: PhantomData,
+        }
+    }
+
+    // The word of the record that is then the one shown.
+    fn look(&self, pass: &mut Pass<B>) -> u64
+        ensures { (s : ModelRecord) × Finds pass.old.shown s result × (pass.new ≡ record pass.old { shown = s })
+            × ShowsLastRecord (record pass.old { shown = s }) }
+    {
+        self.table.shared.load::<Looks>(&mut pass.seat, 0)
+    }
+
+    /// The controller's record, which is then the one shown: some run has all that the pass shows, and this is its last record.
+    /// Its version is not below the one shown before. One load, without memory or waiting. (Own rule.)
+    pub fn record(&self, pass: &mut Pass<B>) -> LeaderAndIsr
+        ensures shown { pass.new ≡ record pass.old { shown = record_of result } }
+        ensures later { pass.old.shown.version ≤ (record_of result).version }
+        ensures of_run { ShowsLastRecord pass.new }
+    {
+        let word = self.look(pass);
+        record_of_word(word)
+    }
+
+    /// A watermark that this node had in the run, which is then the one shown for it, not below the one before. The pass has then
+    /// seen a committed list at least that long, which begins with all that it had seen and been told. One load, without memory
+    /// or waiting. (Own rule.)
+    pub fn watermark(&self, pass: &mut Pass<B>, node: NodeId) -> Offset
+        requires { node < self.now }
+        ensures { Learned pass.old pass.new node result }
+    {
+        let _nodes = self.nodes;
+        let word = 2 * node as usize + 2;
+        self.table.shared.load::<LooksAtMark>(&mut pass.seat, word)
+    }
+
+    // One try to elect a node under the record that the pass was shown.
+    fn exchange<E: Election>(&self, pass: &mut Pass<B>, node: NodeId, shown: u64, next: u64) -> bool
+        requires free { elect_cause pass.old.shown node ≡ None }
+        requires node { E.node ≡ node }
+        requires after { E.record_after ≡ elected pass.old.shown node }
+        requires shown { shown ≡ packed pass.old.shown }
+        requires next { next ≡ packed E.record_after }
+        ensures { MatchBool result
+            ((pass.new ≡ electing (elected pass.old.shown node) pass.old)
+            × ShowsElection node pass.old.shown pass.new)
+            ((pass.new ≡ record pass.old { shown = pass.new.shown }) × (pass.old.shown.version < pass.new.shown.version)
+            × ShowsLastRecord pass.new) }
+    {
+        let _nodes = self.nodes;
+        self.table
+            .shared
+            .compare_exchange::<Elects<E>>(&mut pass.seat, 0, shown, next)
+            == shown
+    }
+
+    /// One try to elect the node as leader. Ok: one event of the run elected it; that record is the answer, it is shown now, and
+    /// the pass has one election more. F21 where the record now shown doesn't have the node in sync, F24 where that record is
+    /// full, F22 where another change came first; nothing has changed then but the record shown. A load and one exchange, without
+    /// memory or waiting. (Own rule.)
+    pub fn elect(&self, pass: &mut Pass<B>, node: NodeId) -> Result<LeaderAndIsr, Refusal>
+        ensures elected { IfOk result (λ r. (c : ModelRecord) × (pass.old.shown.version ≤ c.version) × (elect_cause c node ≡ None)
+            × (record_of r ≡ elected c node) × (pass.new ≡ electing (record_of r) pass.old) × ShowsElection node c pass.new) }
+        ensures refused { IfErr result (λ f. ((f ≡ StaleRecord) × IsPassedBy pass.old.shown pass.new.shown node)
+            ⊎ (elect_cause pass.new.shown node ≡ Some f)) }
+        ensures later { pass.old.shown.version ≤ pass.new.shown.version }
+        ensures pass { OnErr result ((pass.new ≡ record pass.old { shown = pass.new.shown }) × ShowsLastRecord pass.new) }
+    {
+        let shown = self.record(pass);
+        let next = shown.elected(node)?;
+        if self.exchange::<Brand>(pass, node, shown.pack(), next.pack()) {
+            Ok(next)
+        } else {
+            Err(Refusal::StaleRecord)
+        }
+    }
+
+    /// Puts a receipt to those that a pass keeps. Its batch stands in the log that the pass was told of, so it was appended in
+    /// the run. No event. One load, without memory or waiting. (Own rule.)
+    pub fn keep_receipt<E: ReceiptFiling, T, U>(&self, pass: &mut Pass<B>, _said: &T, _receipt: &U)
+        requires { (x : KeptReceipt) × E.fits x × Contains pass.old.told.log x.batch }
+        ensures { (x : KeptReceipt) × E.fits x × (pass.new ≡ record pass.old { receipts = x ∷ pass.old.receipts }) }
+    {
+        self.table.shared.load::<KeepsReceipt<E>>(&mut pass.seat, 0);
+    }
+}

@@ -1,0 +1,19 @@
+//! The board: one word for the controller's record and two for each node, which threads share without a lock.
+//! It stands on kp_control's packed record, on kp_model's runs with their laws, and on atomic_table's words and seats.
+//! The layer above reads off a pass what holds of a run of the definitions; each step on a word is a step of that run.
+#![tactic(auto)]
+
+mod board;
+mod node_steps;
+mod passes;
+mod plays;
+mod rule;
+mod telling;
+mod views;
+mod word;
+
+pub use board::{Board, Opened};
+pub use passes::{BoardName, FreshPass, MessagePass, NodePass, Pass};
+pub use plays::{Election, NodeStep, ReceiptFiling, RecordChange, SendingStep, StepUnderRecord};
+pub use rule::{BoardRule, BoardSeat, BoardTable};
+pub use views::SeatView;

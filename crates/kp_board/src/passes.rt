@@ -1,0 +1,97 @@
+//! The passes of a board: what a step on its words is made with. None of them has any bytes.
+ghost use Rattle.std.specs.Prelude.{◌≡◌, ◌+◌, ◌*◌, ◌/◌, ◌<◌};
+ghost use Rattle.kp_board.specs.Views.{new_node};
+
+use crate::rule::BoardSeat;
+use kp_types::NodeId;
+use std::marker::{Brand, Model, PhantomData};
+
+/// Names one board in types: the passes, nodes and messages of a board have it as a parameter. So a pass of one board can't be
+/// used at another. (Own rule.)
+pub trait BoardName {
+    ghost use Rattle.atomic_table.specs.Seated.{TableId};
+
+    ghost table: { TableId };
+}
+
+impl BoardName for Brand {
+    ghost use Rattle.std.specs.Prelude.{[]};
+
+    ghost table = { record { words = 0; slots = 0; views_name = 0; atom = 0; block = 0; offset = 0; slot_names = [] } };
+}
+
+/// A node's own pass. A clause sees what it shows (`NodeView`): the node's number, its state, the record that it was last
+/// shown, its mark word's value, and messages that are known to have been sent. Each node has one, and nobody can make another.
+#[derive(Drop)]
+pub struct NodePass<B: BoardName> {
+    pub(crate) seat: BoardSeat,
+    pub(crate) number: NodeId,
+    pub(crate) name: PhantomData<B>,
+}
+
+impl<B: BoardName> Model for NodePass<B> {
+    ghost use Rattle.std.specs.Prelude.{◌≡◌, ◌+◌, ◌*◌, ◌<◌, []};
+    ghost use Rattle.kp_board.specs.Views.{NodeView, of_node, node_view};
+
+    ghost Value = { NodeView };
+
+    ghost view = { λ p. node_view p.seat.me.0 };
+
+    ghost invariant = { λ p. (p.seat.table_id ≡ B.table) × (p.seat.me ≡ (of_node (node_view p.seat.me.0), [])) × ((node_view p.seat.me.0).number ≡ p.number) × (2 * p.number + 2 < B.table.words) × (p.number < 7) };
+}
+
+/// A node's pass that nobody has used: its node is as at the start. `Board::new` gives each node's once.
+#[derive(Drop)]
+pub struct FreshPass<B: BoardName> {
+    pub pass: NodePass<B>,
+    pub ghost fresh: { pass ≡ new_node (B.table.words / 2) pass.number },
+    pub ghost inside: { 2 * pass.number + 2 < B.table.words },
+}
+
+impl<B: BoardName> NodePass<B> {
+    /// Which node's it is, 0 to 6. O(1).
+    pub fn number(&self) -> NodeId
+        ensures number { result ≡ self.now.number }
+        ensures small { result < 7 }
+    {
+        self.number
+    }
+}
+
+/// A caller's pass. A clause sees what it shows (`CallerView`): the committed list that it has seen, the record and the
+/// watermarks that it was last shown, its receipts, and what it was told last. What it was shown never goes back.
+#[derive(Drop)]
+pub struct Pass<B: BoardName> {
+    pub(crate) seat: BoardSeat,
+    pub(crate) name: PhantomData<B>,
+}
+
+impl<B: BoardName> Model for Pass<B> {
+    ghost use Rattle.std.specs.Prelude.{◌≡◌, []};
+    ghost use Rattle.kp_board.specs.Views.{CallerView, of_caller, caller_view};
+
+    ghost Value = { CallerView };
+
+    ghost view = { λ p. caller_view p.seat.me.0 };
+
+    ghost invariant = { λ p. (p.seat.table_id ≡ B.table) × (p.seat.me ≡ (of_caller (caller_view p.seat.me.0), [])) };
+}
+
+/// A message's pass. A clause sees the message, which was sent in the board's run. It goes with the message's body.
+#[derive(Drop)]
+pub struct MessagePass<B: BoardName> {
+    pub(crate) seat: BoardSeat,
+    pub(crate) name: PhantomData<B>,
+}
+
+impl<B: BoardName> Model for MessagePass<B> {
+    ghost use Rattle.std.specs.Prelude.{◌≡◌, []};
+    ghost use Rattle.kp_model.specs.World.{Message};
+    ghost use Rattle.kp_board.specs.Views.{of_message, message_view};
+
+    ghost Value = { Message };
+
+    ghost view = { λ p. message_view p.seat.me.0 };
+
+    ghost invariant = { λ p. (p.seat.table_id ≡ B.table) × (p.seat.me ≡ (of_message (message_view p.seat.me.0), [])) };
+}

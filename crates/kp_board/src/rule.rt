@@ -1,0 +1,23 @@
+//! The rule of the board, and its words.
+use crate::views::SeatView;
+use atomic_table::{Seat, Table, TableRule};
+use std::alloc::Global;
+
+/// The rule that each step on a word keeps, in any schedule: some run ends in just the world that the words and all passes
+/// show (`Ruled`). Its key is the number of nodes. (Own rule.)
+pub struct BoardRule;
+
+impl TableRule<u8, SeatView, u64> for BoardRule {
+    ghost use Rattle.kp_board.specs.Views.{founder};
+    ghost use Rattle.kp_board.specs.Rule.{Ruled};
+
+    ghost holds = { λ n s. Ruled n s };
+
+    ghost first = { λ n. founder 0 n };
+}
+
+/// The words of a board under that rule.
+pub type BoardTable = Table<u8, SeatView, u64, BoardRule, Global>;
+
+/// What steps on a board's words are made with. It has no bytes.
+pub type BoardSeat = Seat<u8, SeatView>;

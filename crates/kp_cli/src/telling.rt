@@ -1,0 +1,261 @@
+//! What is said on standard error.
+
+ghost use Rattle.std.specs.Prelude.{◌≡◌, ◌+◌, ◌<◌, ◌≤◌, ◌^◌, ◌++◌, [], length, IsTrue, OnOk, OnErr};
+ghost use Rattle.std.specs.List.{flat_map};
+ghost use Rattle.arrayvec.specs.ArrayVec.{array_vec_len};
+ghost use Rattle.kp_types.specs.Devices.{IsBegun, IsOut, Tells, faults_of};
+ghost use Rattle.kp_types.specs.Texts.{place_of, place_text};
+ghost use Rattle.kp_cli.specs.Perform.{status_of_refusal};
+ghost use Rattle.kp_cli.specs.Program.{words_complaint, words_status};
+ghost use Rattle.kp_cli.specs.Told.{complaint, file_complaint, hex_digit, is_plain, lone_reason, reason, reason_of, shown, shown_byte, shown_bytes};
+
+use crate::devices::Explained;
+use crate::fault::Fault;
+use arrayvec::ArrayVec;
+use itoa::Buffer;
+use kp_types::{Counted, Refusal};
+use std::io::Write;
+
+/// How many bytes of a path are shown.
+const PATH: usize = 1_024;
+
+/// The most bytes that a path is shown by.
+const SHOWN: usize = 4_099;
+
+/// The most bytes that are put together before they are written: those of both lines.
+const LINES: usize = 4_352;
+
+/// Puts these texts together, one behind another, and says whether all have fitted.
+fn join(lines: &mut ArrayVec<u8, LINES>, texts: &[&[u8]]) -> bool
+    requires { lines.old.items ≡ [] }
+    ensures { IsTrue result → lines.new.items ≡ flat_map (λ text. text.now) texts.now }
+{
+    for text in texts {
+        if lines.try_extend_from_slice(text).is_err() {
+            return false;
+        }
+    }
+    true
+}
+
+/// Writes these texts, one behind another: by one call where they have at most [`LINES`] bytes, as a complaint's always have.
+/// F32 where standard error failed, and its count rises by one; a beginning of them is out then. It takes no memory.
+fn write_joined<E: Write>(err: &mut Counted<E>, texts: &[&[u8]]) -> Result<(), Refusal>
+    requires { faults_of err.old + 1 < 2 ^ 64 }
+    ensures ok { OnOk result (IsOut E.contents err.old err.new
+        (flat_map (λ text. text.now) texts.now)) }
+    ensures err { OnErr result (IsBegun E.contents err.old err.new
+        (flat_map (λ text. text.now) texts.now)) }
+{
+    let mut lines: ArrayVec<u8, LINES> = ArrayVec::new();
+    if join(&mut lines, texts) {
+        err.write_all(lines.as_slice())
+    } else {
+        err.write_each(texts)
+    }
+}
+
+fn hex_digit(digit: u8) -> u8
+    requires { digit < 16 }
+    ensures { result ≡ hex_digit digit }
+{
+    if digit < 10 { 48 + digit } else { 87 + digit }
+}
+
+fn is_plain(before: u8, byte: u8) -> bool
+    ensures { result ≡ is_plain before byte }
+{
+    !(byte < 32) && byte != b'\\' && byte != 127 && byte != 194 && before != 194
+}
+
+/// Puts one byte of a path behind those that are shown.
+fn show_byte(shown: &mut ArrayVec<u8, SHOWN>, before: u8, byte: u8)
+    requires { array_vec_len shown.old + 4 ≤ 4099 }
+    ensures { shown.new.items ≡ shown.old.items ++ shown_byte before byte }
+{
+    if is_plain(before, byte) {
+        shown.push(byte);
+    } else {
+        shown.push(b'\\');
+        shown.push(b'x');
+        shown.push(hex_digit(byte / 16));
+        shown.push(hex_digit(byte % 16));
+    }
+}
+
+/// The bytes of a path as they are shown.
+fn show_bytes(path: &[u8]) -> ArrayVec<u8, SHOWN>
+    requires { length path.now ≤ 1024 }
+    ensures bytes { result.items ≡ shown_bytes 0 path.now }
+    ensures length { array_vec_len result ≤ 4096 }
+{
+    let mut shown = ArrayVec::new();
+    let mut before = 0;
+    for byte in path {
+        show_byte(&mut shown, before, *byte);
+        before = *byte;
+    }
+    shown
+}
+
+/// How a path is shown, so that no terminal obeys it: a byte stands for itself, but for control bytes, DEL, the backslash, and
+/// both bytes of a sign from U+0080 to U+00BF, which stand as `\xHH`. Of a path of more than 1,024 bytes stand the first
+/// 1,024, and three dots. Own rule. O(n) in the path, and no memory.
+fn show(path: &str) -> ArrayVec<u8, SHOWN>
+    ensures { result.items ≡ shown path.now }
+{
+    let bytes = path.as_bytes();
+    if bytes.len() <= PATH {
+        return show_bytes(bytes);
+    }
+    let mut shown = show_bytes(&bytes[..PATH]);
+    shown.push(b'.');
+    shown.push(b'.');
+    shown.push(b'.');
+    shown
+}
+
+/// The blank and the place that stand behind a refusal's name, where it has a place.
+fn place_in<'b>(refusal: Refusal, buffer: &'b mut Buffer) -> (&'static str, &'b str)
+    ensures { result.0.now ++ result.1.now ≡ place_text (place_of refusal) }
+{
+    match refusal.place() {
+        Some(place) => (" ", buffer.format(place)),
+        None => ("", ""),
+    }
+}
+
+/// Says what was refused, as `kpart: F32 Device`, by one write.
+fn complain<E: Write>(err: &mut Counted<E>, refusal: Refusal) -> Result<(), Refusal>
+    requires { faults_of err.old + 1 < 2 ^ 64 }
+    ensures ok { OnOk result (IsOut E.contents err.old err.new (complaint refusal)) }
+    ensures err { OnErr result (IsBegun E.contents err.old err.new (complaint refusal)) }
+{
+    let mut buffer = Buffer::new();
+    let (gap, place) = place_in(refusal, &mut buffer);
+    write_joined(
+        err,
+        &[
+            "kpart: ".as_bytes(),
+            refusal.name().as_bytes(),
+            gap.as_bytes(),
+            place.as_bytes(),
+            "\n".as_bytes(),
+        ],
+    )
+}
+
+/// Says what was refused, and on a second line which file or folder it is, and why, as `kpart: PATH: no such file`, by one
+/// write.
+fn complain_at<E: Write>(
+    err: &mut Counted<E>,
+    refusal: Refusal,
+    path: &str,
+    fault: Fault,
+) -> Result<(), Refusal>
+    requires { faults_of err.old + 1 < 2 ^ 64 }
+    ensures ok { OnOk result (IsOut E.contents err.old err.new (complaint refusal ++ reason path.now fault)) }
+    ensures err { OnErr result (IsBegun E.contents err.old err.new (complaint refusal ++ reason path.now fault)) }
+{
+    let mut buffer = Buffer::new();
+    let (gap, place) = place_in(refusal, &mut buffer);
+    let shown = show(path);
+    write_joined(
+        err,
+        &[
+            "kpart: ".as_bytes(),
+            refusal.name().as_bytes(),
+            gap.as_bytes(),
+            place.as_bytes(),
+            "\nkpart: ".as_bytes(),
+            shown.as_slice(),
+            ": ".as_bytes(),
+            fault.text().as_bytes(),
+            "\n".as_bytes(),
+        ],
+    )
+}
+
+/// Says on standard error what was refused, as `kpart: F32 Device`, and answers the exit status: 2 for a fault
+/// of the script, else 1. Where standard error fails, its count rises by one, and a beginning is out. It takes no
+/// memory.
+pub fn refuse<E: Write>(err: &mut Counted<E>, refusal: Refusal) -> u8
+    requires { faults_of err.old + 1 < 2 ^ 64 }
+    ensures told { Tells E.contents err.old err.new (complaint refusal) }
+    ensures status { result ≡ status_of_refusal refusal }
+{
+    let _ = complain(err, refusal);
+    status_of(refusal)
+}
+
+/// Says on standard error what was refused, and on a second line, where calls of this file or folder have failed since it had
+/// so many faults, which one it is, and why. Answers the exit status.
+pub(crate) fn refuse_since<T: Explained, E: Write>(
+    err: &mut Counted<E>,
+    refusal: Refusal,
+    path: &str,
+    left: &Counted<T>,
+    faults: u64,
+) -> u8
+    requires { faults_of err.old + 1 < 2 ^ 64 }
+    ensures told { Tells E.contents err.old err.new (complaint refusal ++ reason_of T.fault_is path.now faults left.now) }
+    ensures status { result ≡ status_of_refusal refusal }
+{
+    if left.faults() == faults {
+        return refuse(err, refusal);
+    }
+    let _ = complain_at(err, refusal, path, left.device().fault());
+    status_of(refusal)
+}
+
+/// Says on standard error that a file can't be opened, or a folder not be taken, and on a second line which one, and why.
+/// Answers the exit status, 1.
+pub(crate) fn refuse_path<E: Write>(err: &mut Counted<E>, path: &str, fault: Fault) -> u8
+    requires { faults_of err.old + 1 < 2 ^ 64 }
+    ensures told { Tells E.contents err.old err.new (file_complaint path.now fault) }
+    ensures status { result ≡ 1 }
+{
+    let _ = complain_at(err, fault.refusal(), path, fault);
+    1
+}
+
+/// 2 for a fault of the script, and 1 else.
+fn status_of(refusal: Refusal) -> u8
+    ensures { result ≡ status_of_refusal refusal }
+{
+    match refusal {
+        Refusal::BadScript(_) => 2,
+        _ => 1,
+    }
+}
+
+/// Says why, as `kpart: an argument isn't UTF-8`, by one write.
+fn complain_alone<E: Write>(err: &mut Counted<E>, fault: Fault) -> Result<(), Refusal>
+    requires { faults_of err.old + 1 < 2 ^ 64 }
+    ensures ok { OnOk result (IsOut E.contents err.old err.new (lone_reason fault)) }
+    ensures err { OnErr result (IsBegun E.contents err.old err.new (lone_reason fault)) }
+{
+    write_joined(
+        err,
+        &[
+            "kpart: ".as_bytes(),
+            fault.text().as_bytes(),
+            "\n".as_bytes(),
+        ],
+    )
+}
+
+/// Says on standard error why the words couldn't be read, and answers the exit status: 2 where one isn't UTF-8, else 1.
+pub(crate) fn refuse_words<E: Write>(err: &mut Counted<E>, fault: Fault) -> u8
+    requires { faults_of err.old + 1 < 2 ^ 64 }
+    ensures told { Tells E.contents err.old err.new (words_complaint fault) }
+    ensures status { result ≡ words_status fault }
+{
+    match fault {
+        Fault::NotText => {
+            let _ = complain_alone(err, Fault::NotText);
+            2
+        }
+        _ => refuse(err, fault.refusal()),
+    }
+}

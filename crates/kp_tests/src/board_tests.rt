@@ -1,0 +1,109 @@
+//! A board by itself: threads look and elect on it.
+
+ghost use Rattle.std.specs.Prelude.{◌≡◌};
+
+use kp_board::{Board, BoardName, Opened};
+use kp_types::{NodeId, Refusal};
+use std::alloc::Global;
+use std::marker::Brand;
+use std::process::Abort;
+use std::thread::{Threads, join};
+
+const TRIES: u32 = 100;
+
+// A board of two nodes, at the start.
+fn board_of_two(rt: &impl Abort, alloc: Global) -> Opened {
+    match Opened::new(alloc, 2) {
+        Ok(opened) => opened,
+        Err(refusal) => panic!(rt; "{refusal} in place of a board"),
+    }
+}
+
+// How many of its tries to elect the node are answered by a record.
+fn elections<B: BoardName>(board: &Board<B>, node: NodeId) -> u32 {
+    let mut pass = board.pass();
+    let mut elected = 0u32;
+    for _ in 0..TRIES {
+        if board.elect(&mut pass, node).is_ok() {
+            elected = elected.wrapping_add(1);
+        }
+    }
+    elected
+}
+
+// The version that was shown last, of many looks.
+fn last_version<B: BoardName>(board: &Board<B>) -> u32 {
+    let mut pass = board.pass();
+    let mut version = 0;
+    for _ in 0..TRIES {
+        version = board.record(&mut pass).version;
+    }
+    version
+}
+
+// How many elections two threads got, one for each node, and the version at the end.
+fn elect_by_two<B: BoardName + Send + Sync>(
+    rt: &impl Threads,
+    alloc: Global,
+    opened: Opened,
+) -> Result<(u32, u32), Refusal>
+    requires { opened ≡ B.table }
+{
+    let (board, _passes) = Board::<B>::new(alloc, opened)?;
+    let (zero, one) = join(rt, || elections(&board, 0), || elections(&board, 1));
+    let version = board.record(&mut board.pass()).version;
+    Ok((zero.wrapping_add(one), version))
+}
+
+#[test]
+fn elections_add_up(rt: HostRuntime) {
+    let alloc = rt.alloc();
+    let found = elect_by_two::<Brand>(&rt, alloc, board_of_two(&rt, alloc));
+    let Ok((elected, version)) = found else {
+        panic!(&rt; "no board");
+    };
+    assert_eq!(rt; elected, version);
+    assert!(rt; version >= TRIES);
+}
+
+// The elections that one thread got while another one looked; the version that this one saw last, and that at the end.
+fn look_and_elect<B: BoardName + Send + Sync>(
+    rt: &impl Threads,
+    alloc: Global,
+    opened: Opened,
+) -> Result<(u32, u32, u32), Refusal>
+    requires { opened ≡ B.table }
+{
+    let (board, _passes) = Board::<B>::new(alloc, opened)?;
+    let (elected, seen) = join(rt, || elections(&board, 1), || last_version(&board));
+    let version = board.record(&mut board.pass()).version;
+    Ok((elected, seen, version))
+}
+
+#[test]
+fn one_looks_while_another_elects(rt: HostRuntime) {
+    let alloc = rt.alloc();
+    let found = look_and_elect::<Brand>(&rt, alloc, board_of_two(&rt, alloc));
+    let Ok((elected, seen, version)) = found else {
+        panic!(&rt; "no board");
+    };
+    assert_eq!(rt; (elected, version), (TRIES, TRIES));
+    assert!(rt; seen <= TRIES);
+}
+
+// The word of the record after one election of node 0.
+fn word_after_an_election<B: BoardName>(alloc: Global, opened: Opened) -> Result<u64, Refusal>
+    requires { opened ≡ B.table }
+{
+    let (board, _passes) = Board::<B>::new(alloc, opened)?;
+    let mut pass = board.pass();
+    board.elect(&mut pass, 0)?;
+    Ok(board.record(&mut pass).pack())
+}
+
+#[test]
+fn a_board_shows_the_known_word(rt: HostRuntime) {
+    let alloc = rt.alloc();
+    let found = word_after_an_election::<Brand>(alloc, board_of_two(&rt, alloc));
+    assert_eq!(rt; found, Ok(0x0030_0000_1000_0001));
+}
