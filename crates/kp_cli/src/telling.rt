@@ -1,7 +1,6 @@
 //! What is said on standard error.
 
-ghost use Rattle.std.specs.Prelude.{◌≡◌, ◌+◌, ◌<◌, ◌≤◌, ◌^◌, ◌++◌, [], length, IsTrue, OnOk, OnErr};
-ghost use Rattle.std.specs.List.{flat_map};
+ghost use Rattle.std.specs.Prelude.{◌≡◌, ◌+◌, ◌<◌, ◌≤◌, ◌^◌, ◌++◌, length, OnOk, OnErr};
 ghost use Rattle.arrayvec.specs.ArrayVec.{array_vec_len};
 ghost use Rattle.kp_types.specs.Devices.{IsBegun, IsOut, Tells, faults_of};
 ghost use Rattle.kp_types.specs.Texts.{place_of, place_text};
@@ -21,39 +20,6 @@ const PATH: usize = 1_024;
 
 /// The most bytes that a path is shown by.
 const SHOWN: usize = 4_099;
-
-/// The most bytes that are put together before they are written: those of both lines.
-const LINES: usize = 4_352;
-
-/// Puts these texts together, one behind another, and says whether all have fitted.
-fn join(lines: &mut ArrayVec<u8, LINES>, texts: &[&[u8]]) -> bool
-    requires { lines.old.items ≡ [] }
-    ensures { IsTrue result → lines.new.items ≡ flat_map (λ text. text.now) texts.now }
-{
-    for text in texts {
-        if lines.try_extend_from_slice(text).is_err() {
-            return false;
-        }
-    }
-    true
-}
-
-/// Writes these texts, one behind another: by one call where they have at most [`LINES`] bytes, as a complaint's always have.
-/// F32 where standard error failed, and its count rises by one; a beginning of them is out then. It takes no memory.
-fn write_joined<E: Write>(err: &mut Counted<E>, texts: &[&[u8]]) -> Result<(), Refusal>
-    requires { faults_of err.old + 1 < 2 ^ 64 }
-    ensures ok { OnOk result (IsOut E.contents err.old err.new
-        (flat_map (λ text. text.now) texts.now)) }
-    ensures err { OnErr result (IsBegun E.contents err.old err.new
-        (flat_map (λ text. text.now) texts.now)) }
-{
-    let mut lines: ArrayVec<u8, LINES> = ArrayVec::new();
-    if join(&mut lines, texts) {
-        err.write_all(lines.as_slice())
-    } else {
-        err.write_each(texts)
-    }
-}
 
 fn hex_digit(digit: u8) -> u8
     requires { digit < 16 }
@@ -133,16 +99,13 @@ fn complain<E: Write>(err: &mut Counted<E>, refusal: Refusal) -> Result<(), Refu
 {
     let mut buffer = Buffer::new();
     let (gap, place) = place_in(refusal, &mut buffer);
-    write_joined(
-        err,
-        &[
-            "kpart: ".as_bytes(),
-            refusal.name().as_bytes(),
-            gap.as_bytes(),
-            place.as_bytes(),
-            "\n".as_bytes(),
-        ],
-    )
+    err.write_each(&[
+        "kpart: ".as_bytes(),
+        refusal.name().as_bytes(),
+        gap.as_bytes(),
+        place.as_bytes(),
+        "\n".as_bytes(),
+    ])
 }
 
 /// Says what was refused, and on a second line which file or folder it is, and why, as `kpart: PATH: no such file`, by one
@@ -160,20 +123,17 @@ fn complain_at<E: Write>(
     let mut buffer = Buffer::new();
     let (gap, place) = place_in(refusal, &mut buffer);
     let shown = show(path);
-    write_joined(
-        err,
-        &[
-            "kpart: ".as_bytes(),
-            refusal.name().as_bytes(),
-            gap.as_bytes(),
-            place.as_bytes(),
-            "\nkpart: ".as_bytes(),
-            shown.as_slice(),
-            ": ".as_bytes(),
-            fault.text().as_bytes(),
-            "\n".as_bytes(),
-        ],
-    )
+    err.write_each(&[
+        "kpart: ".as_bytes(),
+        refusal.name().as_bytes(),
+        gap.as_bytes(),
+        place.as_bytes(),
+        "\nkpart: ".as_bytes(),
+        shown.as_slice(),
+        ": ".as_bytes(),
+        fault.text().as_bytes(),
+        "\n".as_bytes(),
+    ])
 }
 
 /// Says on standard error what was refused, as `kpart: F32 Device`, and answers the exit status: 2 for a fault
@@ -235,14 +195,11 @@ fn complain_alone<E: Write>(err: &mut Counted<E>, fault: Fault) -> Result<(), Re
     ensures ok { OnOk result (IsOut E.contents err.old err.new (lone_reason fault)) }
     ensures err { OnErr result (IsBegun E.contents err.old err.new (lone_reason fault)) }
 {
-    write_joined(
-        err,
-        &[
-            "kpart: ".as_bytes(),
-            fault.text().as_bytes(),
-            "\n".as_bytes(),
-        ],
-    )
+    err.write_each(&[
+        "kpart: ".as_bytes(),
+        fault.text().as_bytes(),
+        "\n".as_bytes(),
+    ])
 }
 
 /// Says on standard error why the words couldn't be read, and answers the exit status: 2 where one isn't UTF-8, else 1.
