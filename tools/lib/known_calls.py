@@ -54,45 +54,109 @@ DUMPS["inspect made_example.log --segment 1024 --interval 100"] = \
 
 VALUE, UNKNOWN, MISSING = "ValueValidation", "UnknownArgument", "MissingRequiredArgument"
 
-# Words that are no call, and the kind that clap gives their refusal.
-NO_CALL = {f"kpart{' ' if words else ''}{words}": kind for words, kind in (
-    ("", "MissingSubcommand"),
-    ("walk x.script", "InvalidSubcommand"),
-    ("run", MISSING),
-    ("run a b", UNKNOWN),
-    ("--loud", UNKNOWN),
-    ("--help", "DisplayHelp"),
-    ("--version", "DisplayVersion"),
-    ("-V", "DisplayVersion"),
-    ("run --version", UNKNOWN),
-    ("run --help", "DisplayHelp"),
-    ("help run", "DisplayHelp"),
-    ("inspect --help", "DisplayHelp"),
-    ("inspect x -h", "DisplayHelp"),
-    ("help inspect", "DisplayHelp"),
-    ("inspect x --segment 1023", VALUE),
-    ("inspect x --segment 1073741825", VALUE),
-    ("inspect x --segment 4294968320", VALUE),
-    ("inspect x --segment 18446744073709552640", VALUE),
-    ("inspect x --segment=-1024", VALUE),
-    ("inspect x --segment 1kB", VALUE),
-    ("inspect x --segment=", VALUE),
-    ("inspect x --segment", "InvalidValue"),
-    ("inspect x --segment 1024 --segment 1024", "ArgumentConflict"),
-    ("inspect x --interval 1048577", VALUE),
-    ("run made_1.script --keep", "InvalidValue"),
-    ("run made_1.script --keep a --keep b", "ArgumentConflict"),
-    ("inspect made_example.log --keep kept", UNKNOWN),
-    ("inspect x --interval=-0", VALUE),
-    ("inspect x --interval 0x10", VALUE),
-    ("inspect x --interval -1", UNKNOWN),
-    ("inspect x --intervals 1", UNKNOWN),
-    ("inspect x -s 1024", UNKNOWN),
-    ("inspect x y", UNKNOWN),
-    ("inspect", MISSING),
-    ("inspect --segment 1024", MISSING),
-    ("run x --segment 1024", UNKNOWN),
-    ("--segment 1024 inspect x", UNKNOWN),
+RUN, INSPECT = "run [OPTIONS] <FILE>", "inspect [OPTIONS] <FILE>"
+NUMBER, TOO_LARGE, EMPTY = ("invalid digit found in string", "number too large to fit in target type",
+                            "cannot parse integer from empty string")
+
+HELP = """\
+A replicated partition log with Kafka's replication rules
+
+Usage: kpart <COMMAND>
+
+Commands:
+  run      Runs a script and prints its trace
+  inspect  Reads a log and prints its batches, segments and tables
+  help     Print this message or the help of the given subcommand(s)
+
+Options:
+  -h, --help     Print help
+  -V, --version  Print version
+"""
+HELP_RUN = """\
+Runs a script and prints its trace
+
+Usage: kpart run [OPTIONS] <FILE>
+
+Arguments:
+  <FILE>  the script to run
+
+Options:
+      --keep <FOLDER>  an empty folder, or a new one, to keep the nodes' logs in
+  -h, --help           Print help
+"""
+HELP_INSPECT = """\
+Reads a log and prints its batches, segments and tables
+
+Usage: kpart inspect [OPTIONS] <FILE>
+
+Arguments:
+  <FILE>  the log to read
+
+Options:
+      --segment <S>   the most bytes of a segment [default: 1073741824]
+      --interval <I>  the bytes between two entries of an index [default: 4096]
+  -h, --help          Print help
+"""
+VERSION = "kpart 0.1.0\n"
+
+
+def mistake(message, usage="", tip=""):
+    """clap's text of a mistake in the words."""
+    parts = [f"error: {message}", f"  tip: {tip}" if tip else "", f"Usage: kpart {usage}" if usage else "",
+             "For more information, try '--help'."]
+    return "\n\n".join(part for part in parts if part) + "\n"
+
+
+def unexpected(word, usage, tip=""):
+    """An argument that the command doesn't have; where it could be a value, clap says how."""
+    tip = tip or (f"to pass '{word}' as a value, use '-- {word}'" if word.startswith("-") else "")
+    return mistake(f"unexpected argument '{word}' found", usage, tip)
+
+
+def invalid(word, option, why):
+    """A value that isn't one of the option's."""
+    return mistake(f"invalid value '{word}' for '--{option}': {why}")
+
+
+# Words that are no call, the kind that clap gives their refusal, and its text.
+NO_CALL = {f"kpart{' ' if words else ''}{words}": (kind, text) for words, kind, text in (
+    ("", "MissingSubcommand", mistake("'kpart' requires a subcommand but one was not provided\n  [subcommands: run, inspect, help]", "<COMMAND>")),
+    ("walk x.script", "InvalidSubcommand", mistake("unrecognized subcommand 'walk'", "<COMMAND>")),
+    ("run", MISSING, mistake("the following required arguments were not provided:\n  <FILE>", "run <FILE>")),
+    ("run a b", UNKNOWN, unexpected("b", RUN)),
+    ("--loud", UNKNOWN, mistake("unexpected argument '--loud' found", "<COMMAND>")),
+    ("--help", "DisplayHelp", HELP),
+    ("--version", "DisplayVersion", VERSION),
+    ("-V", "DisplayVersion", VERSION),
+    ("run --version", UNKNOWN, unexpected("--version", RUN)),
+    ("run --help", "DisplayHelp", HELP_RUN),
+    ("help run", "DisplayHelp", HELP_RUN),
+    ("inspect --help", "DisplayHelp", HELP_INSPECT),
+    ("inspect x -h", "DisplayHelp", HELP_INSPECT),
+    ("help inspect", "DisplayHelp", HELP_INSPECT),
+    ("inspect x --segment 1023", VALUE, invalid("1023", "segment <S>", "1023 is not in 1024..=1073741824")),
+    ("inspect x --segment 1073741825", VALUE, invalid("1073741825", "segment <S>", "1073741825 is not in 1024..=1073741824")),
+    ("inspect x --segment 4294968320", VALUE, invalid("4294968320", "segment <S>", "4294968320 is not in 1024..=1073741824")),
+    ("inspect x --segment 18446744073709552640", VALUE, invalid("18446744073709552640", "segment <S>", TOO_LARGE)),
+    ("inspect x --segment=-1024", VALUE, invalid("-1024", "segment <S>", NUMBER)),
+    ("inspect x --segment 1kB", VALUE, invalid("1kB", "segment <S>", NUMBER)),
+    ("inspect x --segment=", VALUE, invalid("", "segment <S>", EMPTY)),
+    ("inspect x --segment", "InvalidValue", mistake("a value is required for '--segment <S>' but none was supplied")),
+    ("inspect x --segment 1024 --segment 1024", "ArgumentConflict", mistake("the argument '--segment <S>' cannot be used multiple times", INSPECT)),
+    ("inspect x --interval 1048577", VALUE, invalid("1048577", "interval <I>", "1048577 is not in 0..=1048576")),
+    ("run made_1.script --keep", "InvalidValue", mistake("a value is required for '--keep <FOLDER>' but none was supplied")),
+    ("run made_1.script --keep a --keep b", "ArgumentConflict", mistake("the argument '--keep <FOLDER>' cannot be used multiple times", RUN)),
+    ("inspect made_example.log --keep kept", UNKNOWN, unexpected("--keep", "inspect <FILE>")),
+    ("inspect x --interval=-0", VALUE, invalid("-0", "interval <I>", NUMBER)),
+    ("inspect x --interval 0x10", VALUE, invalid("0x10", "interval <I>", NUMBER)),
+    ("inspect x --interval -1", UNKNOWN, unexpected("-1", INSPECT)),
+    ("inspect x --intervals 1", UNKNOWN, unexpected("--intervals", "inspect --interval <I> <FILE>", "a similar argument exists: '--interval'")),
+    ("inspect x -s 1024", UNKNOWN, unexpected("-s", INSPECT)),
+    ("inspect x y", UNKNOWN, unexpected("y", INSPECT)),
+    ("inspect", MISSING, mistake("the following required arguments were not provided:\n  <FILE>", "inspect <FILE>")),
+    ("inspect --segment 1024", MISSING, mistake("the following required arguments were not provided:\n  <FILE>", "inspect --segment <S> <FILE>")),
+    ("run x --segment 1024", UNKNOWN, unexpected("--segment", "run <FILE>")),
+    ("--segment 1024 inspect x", UNKNOWN, unexpected("--segment", "<COMMAND>", "'inspect --segment' exists")),
 )}
 
 # Calls whose file isn't there, and its path.

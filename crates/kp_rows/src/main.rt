@@ -3,7 +3,7 @@
 //! Its rows, files and wanted text are made by `tools/rows`; no contract speaks of it, and `docs/TESTS.md` says how to add a row.
 #![tactic(auto)]
 
-ghost use Rattle.std.specs.Prelude.{◌≡◌};
+ghost use Rattle.kp_cli.specs.declared.fault.Fault.TheVariants.{DiskFull, IsAFolder};
 
 use kp_cli::{
     Call, Explained, Fault, KeptFolder, Source, call_of, main_with, perform, run_and_keep,
@@ -59,7 +59,7 @@ impl<'a> GivenFile<'a> {
 }
 
 impl Explained for GivenFile<'_> {
-    ghost fault_is = { λ _. Fault.IsAFolder };
+    ghost fault_is = { λ _. IsAFolder };
 
     fn fault(&self) -> Fault {
         Fault::IsAFolder
@@ -105,7 +105,7 @@ impl GivenFolder {
 }
 
 impl Explained for GivenFolder {
-    ghost fault_is = { λ _. Fault.DiskFull };
+    ghost fault_is = { λ _. DiskFull };
 
     fn fault(&self) -> Fault {
         Fault::DiskFull
@@ -309,8 +309,9 @@ fn number(word: &str) -> u64 {
 }
 
 /// Does one row: a command line; or one behind `fail READ WRITE PUT`; or `each FRONT LINES BACK`; or
-/// `repeat FRONT PIECE COUNT`, or `sum` for `repeat`, which prints a sum; or `keep PUT SCRIPT`, which shows the files in which a
-/// script's logs are kept; or `dump NODE SEGMENT INTERVAL SCRIPT`, which inspects those of a node. A line that begins with `#` is a heading.
+/// `repeat FRONT PIECE COUNT`, or `sum` for `repeat`, which prints a sum; or `keep PUT SCRIPT`, which shows the files in which
+/// a script's logs are kept; or `dump NODE SEGMENT INTERVAL SCRIPT`, which inspects those of a node. A line that begins with
+/// `#` is a heading.
 fn perform_row(rt: &HostRuntime, row: &str) -> io::Result<()> {
     println!(rt; "> {row}")?;
     let words: Vec<&str> = row.split(' ').collect(rt.alloc())?;
