@@ -19,7 +19,8 @@ use Rattle.kp_board.specs.Views.{NodeView, CallerView, View, of_node, of_caller,
 use Rattle.kp_board.specs.Rule.{end_word, mark_word, WasWatermark, NoWatermarkAbove, WasRecord, AreSent, FitsNode, FitsCaller, IsOfRun, Fits, Ruled}
 use Rattle.kp_board.specs.Premises.{Shows}
 use Rattle.kp_board.specs.Plays.{IsRecordOfWord}
-use Rattle.kp_board.proofs.Steps.{told_later, sent_before, keeps_rule, acted, acts_on, moved_same}
+use Rattle.kp_board.proofs.Steps.{told_later, sent_before, keeps_rule, acted, acts_on}
+use Rattle.kp_model.proofs.Raised.{node_moved}
 
 module _ (n : ℕ) where
   -- what the rule says of a node's pass
@@ -73,7 +74,7 @@ module _ (n : ℕ) where
       let y : Node = p'.state in
       let local' : Local (last d.run).controller k ((last d.run).nodes k) act e = subst (λ (x : Node). Local (last d.run).controller k x act e) (sym f.state) local in
       let q : Run n = acted d.run k act e f.inside given local' in
-      let here : (last q).nodes k ≡ y = moved_same (last d.run) k e ∙ sym as_effect in
+      let here : (last q).nodes k ≡ y = node_moved (last d.run) k e ∙ sym as_effect in
       let was = f.word in
       let later = acts_on d.run d.owner s.words words' id k act e f.inside given local' f.own others (omega arith) in
       let carried_over = λ (j : ℕ) (m : ℕ) (b : WasWatermark d.run j m). let c : WasWatermark q j m = (b.0, inr b.1, b.2) in c in

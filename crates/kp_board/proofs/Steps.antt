@@ -1,6 +1,6 @@
 -- Each step keeps the rule.
-use Rattle.std.proofs.Common.{◌≡◌, ◌≢◌, ℕ, zero, suc, ◌<◌, ◌≤◌, max, Bool, List, [], ◌∷◌, ◌++◌, length, get_or, set, Option, Some, None, inr, ⊎_elim, ◌⊎◌, refl, sym, ap, ◌∙◌, subst, arith, eq-eqb, ne_eqb}
-use Rattle.std.specs.Prelude.{if◌then◌else◌, slice_get}
+use Rattle.std.proofs.Common.{◌≡◌, ◌≢◌, ℕ, ◌<◌, ◌≤◌, max, Bool, List, [], ◌∷◌, ◌++◌, length, get_or, set, inr, ⊎_elim, ◌⊎◌, refl, sym, ap, ◌∙◌, subst, arith, ne_eqb}
+use Rattle.std.specs.Prelude.{if◌then◌else◌}
 use mathlib.Core.Logic.{dite}
 use mathlib.Core.Option.{some}
 use native.Mathlib.Decide.{ℕ_discrete}
@@ -15,6 +15,7 @@ use Rattle.kp_model.specs.Local.{Effect, Local}
 use Rattle.kp_model.specs.Step.{IsGiven, moved, answered}
 use Rattle.kp_model.specs.Run.{Run, IsOf, last, extend, WasAppended}
 use Rattle.kp_model.proofs.RunLaws.{last_is_of, count_stays}
+use Rattle.kp_model.proofs.Steps.{get_front}
 use Rattle.kp_control.specs.Word.{packed}
 use Rattle.kp_board.specs.Views.{CallerView, Note, KeptReceipt, View, founder, of_node, of_caller, of_message, of_note, spent}
 use Rattle.kp_board.specs.Rule.{mark_word, WasWatermark, NoWatermarkAbove, WasRecord, BeginsHeld, AreAppended, AreSent, WereRecords, IsOfRun, FitsNote, FitsCaller, Fits, Ruled}
@@ -23,24 +24,8 @@ pub told_later : (messages messages' : List Message) → ((l : Message) → IsSe
 told_later messages messages' h [] t = tt
 told_later messages messages' h (l ∷ ls) t = (h l t.0, told_later messages messages' h ls t.1)
 
-Lacks : Option Message → Type 0
-Lacks None = Unit {0}
-Lacks (Some l) = ⊥
-
-not_there : (l : Message) → None ≡ Some l → ⊥
-unfolding Lacks
-not_there l e = subst Lacks e tt
-
-get_before : (messages sent : List Message) (i : ℕ) (l : Message) → slice_get messages i ≡ Some l → slice_get (messages ++ sent) i ≡ Some l
-get_before [] sent i l e = absurd (not_there l e)
-get_before (x ∷ xs) sent zero l e = e
-get_before (x ∷ xs) sent (suc i) l e = get_before xs sent i l e
-
 pub sent_before : (messages sent : List Message) (l : Message) → IsSent messages l → IsSent (messages ++ sent) l
-sent_before messages sent l s = (s.0, get_before messages sent s.0 l s.1)
-
-pub moved_same : (w : World) (k : ℕ) (e : Effect) → (moved w k e).nodes k ≡ e.node
-moved_same w k e = subst (λ (b : Bool). (if b then e.node else w.nodes k) ≡ e.node) (sym (eq-eqb k k refl)) refl
+sent_before messages sent l s = (s.0, get_front messages sent s.0 l s.1)
 
 pub moved_other : (w : World) (k j : ℕ) (e : Effect) → j ≢ k → (moved w k e).nodes j ≡ w.nodes j
 moved_other w k j e ne = subst (λ (b : Bool). (if b then e.node else w.nodes j) ≡ w.nodes j) (sym (ne_eqb j k ne)) refl

@@ -4,6 +4,7 @@
 #![tactic(auto)]
 
 mod board;
+mod message;
 mod node_steps;
 mod passes;
 mod plays;
@@ -13,6 +14,7 @@ mod views;
 mod word;
 
 pub use board::{Board, Opened};
+pub use message::Message;
 pub use passes::{BoardName, FreshPass, MessagePass, NodePass, Pass};
 pub use plays::{Election, NodeStep, ReceiptFiling, RecordChange, SendingStep, StepUnderRecord};
 pub use rule::{BoardRule, BoardSeat, BoardTable};

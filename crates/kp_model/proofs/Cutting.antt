@@ -94,14 +94,14 @@ reconciling c n x a e =
     reconciles_by n x a x.mode refl (not-false (reconciles n x a.request.from a.request.life a.request.epoch (last_epoch a.request.log) x.mode) own.0)
 
 -- what the letter comes to is said of the answer
-by_answer : (c : LeaderAndIsr) (n : ℕ) (x : Node) (a : Answer) → a.request.fetching ≡ false → cut c n x (letter_of (Answers a)) ≡ cut_by (cut_cause c n x a) c x (place_of x a)
+pub by_answer : (c : LeaderAndIsr) (n : ℕ) (x : Node) (a : Answer) → a.request.fetching ≡ false → cut c n x (letter_of (Answers a)) ≡ cut_by (cut_cause c n x a) c x (place_of x a)
 by_answer c n x a f =
     let r = a.request in
     ap (λ (b : Bool). cut_by
     (cut_cause_for c n x r.from r.life r.epoch (asked_epoch (if b then From (end_of r.log) else ForEpoch (last_epoch r.log))))
     c x (cut_place x.log (answered_end (Some (if b then Batches (piece a.log r) a.watermark else EpochEnd (epoch_answer a.log r)))))) f
 
-cause_is : (c : LeaderAndIsr) (n : ℕ) (x : Node) (a : Answer) → a.request.fetching ≡ false → cause c n x (Receive (Answers a)) ≡ cut_cause c n x a
+pub cause_is : (c : LeaderAndIsr) (n : ℕ) (x : Node) (a : Answer) → a.request.fetching ≡ false → cause c n x (Receive (Answers a)) ≡ cut_cause c n x a
 cause_is c n x a f = ap (λ (b : Bool). if b then take_cause x a else cut_cause c n x a) f
 
 module _ (c : LeaderAndIsr) (n : ℕ) (x : Node) (a : Answer) (f : a.request.fetching ≡ false) (h : IsLog x.log) (g : IsLog a.log) (k : IsKin x.log a.log) where

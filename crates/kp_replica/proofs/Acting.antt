@@ -1,5 +1,5 @@
 -- What comes of what a node did.
-use Rattle.std.proofs.Common.{◌≡◌, ◌≤◌, ℕ, true, [], ◌∷◌, Option, None, Result, Ok, Err, MatchResult, refl, sym, ap, ◌∙◌, subst}
+use Rattle.std.proofs.Common.{◌≡◌, ◌≤◌, true, [], ◌∷◌, None, Result, Ok, Err, MatchResult, refl, sym, ap, ◌∙◌, subst}
 use Rattle.std.specs.Prelude.{IsOkAnd, IfOk, IfErr, is_some}
 use Rattle.std.proofs.lemmas.Bool.{false≢true}
 use Rattle.kp_types.specs.declared.refusal.Refusal.{Refusal}

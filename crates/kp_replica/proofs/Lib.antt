@@ -18,3 +18,4 @@ pub mod ReadingFacts
 pub mod Downs
 pub mod Acting
 pub mod Told
+pub mod Within

@@ -1,5 +1,5 @@
 -- The acts of the definitions that the code's acts are.
-use Rattle.std.proofs.Common.{◌≡◌, ℕ, Result, refl, sym, ap, ◌∙◌, subst}
+use Rattle.std.proofs.Common.{Result, refl, sym, ap, ◌∙◌, subst}
 use Rattle.kp_types.specs.declared.refusal.Refusal.{Refusal}
 use Rattle.kp_batch.specs.Batch.{Body}
 use Rattle.kp_model.specs.Event as model

@@ -7,7 +7,7 @@ use Rattle.kp_batch.specs.Reading.{IsFirstFault}
 use Rattle.kp_model.specs.Log.{Batch, last_offset}
 use Rattle.kp_marker.specs.Marker.{commits}
 use Rattle.kp_marker.specs.declared.parts.Marker.{Marker as HandedMarker}
-use Rattle.kp_model.specs.Event.{Act, Mark, Reply, Refused, NowLeads, NowFollows, At, DuplicateOf, Took, Cut, MarkAt, Shown as StateShown, Lines, Line}
+use Rattle.kp_model.specs.Event.{Act, Mark, Reply, Refused, NowLeads, NowFollows, At, DuplicateOf, Took, Cut, MarkAt, CheckpointAt, Shown as StateShown, Lines, Line}
 use Rattle.kp_model.specs.Local.{marker_body}
 use Rattle.kp_model.specs.Producers.{sequence_after}
 use Rattle.kp_replica.specs.declared.adopting.Role.{Role}
@@ -38,8 +38,16 @@ abbrev pub cut_reply : Result CutBack Refusal → Reply
 cut_reply (Ok cut) = Cut cut.end cut.done
 cut_reply (Err refusal) = Refused refusal
 
+abbrev pub checkpoint_reply : Result ℕ Refusal → Reply
+checkpoint_reply (Ok watermark) = CheckpointAt watermark
+checkpoint_reply (Err refusal) = Refused refusal
+
 abbrev pub shown_reply : Shown → Reply
 shown_reply shown = StateShown shown.life shown.end shown.watermark shown.stable
+
+abbrev pub state_reply : Result Shown Refusal → Reply
+state_reply (Ok shown) = shown_reply shown
+state_reply (Err refusal) = Refused refusal
 
 -- the reply to a read
 abbrev pub lines_reply : Result (List Line) Refusal → Reply

@@ -1,24 +1,12 @@
 //! A node, up or down, as one value: what it is asked, and what comes to it.
 
-ghost use Rattle.std.specs.Prelude.{◌≡◌, IfOk};
-ghost use Rattle.kp_model.specs.Event.{Receive, Restart, Stop};
-ghost use Rattle.kp_model.specs.Letter.{fetch_answer};
-ghost use Rattle.kp_model.specs.Calls.{ForLetter};
-ghost use Rattle.kp_replica.specs.Acts.{IsRestarted, answered_reply};
-ghost use Rattle.kp_replica.specs.declared.act.Answer.TheVariants.{Stopped as IsStopped};
-ghost use Rattle.kp_replica.specs.Broker.{node_at};
-ghost use Rattle.kp_replica.specs.NumberedNode.{Does};
-ghost use Rattle.kp_replica.specs.Replies.{taken_reply};
-
 use crate::act::{Act, Answer, Effect, PlainAct};
 use crate::kept::KeptNode;
 use crate::replica::Replica;
-use crate::taking::Taken;
-use core::mem::replace_with;
 use kp_batch::Handed;
 use kp_control::LeaderAndIsr;
 use kp_log::PartitionLog;
-use kp_model::{FetchAnswer, MessageBody};
+use kp_model::MessageBody;
 use kp_types::{Limits, NodeId, Offset, Refusal};
 use std::alloc::Global;
 
@@ -29,79 +17,20 @@ pub enum Broker {
     Down(KeptNode),
 }
 
-/// What comes of the node to which a fetch answer comes, and what it says of it.
-fn taken(broker: Broker, answer: &FetchAnswer) -> (Broker, Result<Taken, Refusal>)
-    ensures { ForLetter (fetch_answer answer.now) (λ m.
-        Does (node_at broker) (node_at result.0) (Receive m) (taken_reply result.1)) }
-{
-    match broker {
-        Broker::Up(replica) => match replica.take_fetch(answer) {
-            Ok((replica, taken)) => (Broker::Up(replica), taken),
-            Err(kept) => (Broker::Down(kept), Err(Refusal::Memory)),
-        },
-        Broker::Down(kept) => {
-            let refusal = kept.refusal();
-            (Broker::Down(kept), Err(refusal))
-        }
-    }
-}
-
-/// What comes of the node that is to stop, and what it says of it.
-fn stopped(broker: Broker, _: ()) -> (Broker, Result<Answer, Refusal>)
-    ensures event { Does (node_at broker) (node_at result.0) Stop (answered_reply result.1) }
-    ensures fits { IfOk result.1 (λ answer. answer ≡ IsStopped) }
-{
-    match broker {
-        Broker::Up(replica) => (Broker::Down(replica.stop()), Ok(Answer::Stopped)),
-        Broker::Down(kept) => {
-            let refusal = kept.refusal();
-            (Broker::Down(kept), Err(refusal))
-        }
-    }
-}
-
-/// What comes of the node that is to start again, and what it says of it.
-fn restarted(broker: Broker, alloc: Global) -> (Broker, Result<Answer, Refusal>)
-    ensures event { Does (node_at broker) (node_at result.0) Restart (answered_reply result.1) }
-    ensures fits { IfOk result.1 IsRestarted }
-{
-    let kept = match broker {
-        Broker::Up(replica) => {
-            let refusal = replica.refusal();
-            return (Broker::Up(replica), Err(refusal));
-        }
-        Broker::Down(kept) => kept,
-    };
-    match Replica::restart(alloc, kept) {
-        Ok(replica) => {
-            let answer = Answer::Restarted {
-                life: replica.life(),
-                end: replica.log().end_offset(),
-                watermark: replica.watermark(),
-            };
-            (Broker::Up(replica), Ok(answer))
-        }
-        Err((kept, refusal)) => (Broker::Down(kept), Err(refusal)),
-    }
-}
-
 impl Broker {
-    ghost use Rattle.std.specs.Prelude.{◌≡◌, ◌≢◌, IfOk, Result};
+    ghost use Rattle.std.specs.Prelude.{◌≡◌, ◌≢◌, ◌≤◌, IfOk, Result};
     ghost use Rattle.kp_types.specs.declared.refusal.Refusal.{Refusal};
     ghost use Rattle.kp_types.specs.declared.refusal.Refusal.TheVariants.{Memory};
     ghost use Rattle.kp_replica.specs.declared.act.PlainAct.TheVariants.{Ask};
     ghost use Rattle.kp_batch.specs.Batch.{Body};
-    ghost use Rattle.kp_model.specs.Event.{Act as ModelAct, Produce, Receive, Restart, Stop};
-    ghost use Rattle.kp_model.specs.Letter.{fetch_answer, letter, letter_of};
+    ghost use Rattle.kp_model.specs.Event.{Act as ModelAct, Produce, Receive};
+    ghost use Rattle.kp_model.specs.Letter.{letter, letter_of};
     ghost use Rattle.kp_model.specs.Log.{IsBoundary};
-    ghost use Rattle.kp_model.specs.Calls.{ForLetter};
     ghost use Rattle.kp_model.specs.World.{LeaderAndIsr as ModelRecord, Message, fresh};
     ghost use Rattle.kp_control.specs.Set.{record_of};
-    ghost use Rattle.kp_replica.specs.Acts.{Acts, Fits, FitsPlain, IsAct, IsAppended, IsRestarted, TakesNoMemory, answered_reply, plain_act};
-    ghost use Rattle.kp_replica.specs.declared.act.Answer.TheVariants.{Stopped as IsStopped};
+    ghost use Rattle.kp_replica.specs.Acts.{Acts, Fits, FitsPlain, IsAct, IsAppended, TakesNoMemory, plain_act};
     ghost use Rattle.kp_replica.specs.Broker.{node_at};
-    ghost use Rattle.kp_replica.specs.NumberedNode.{Does};
-    ghost use Rattle.kp_replica.specs.Replies.{IsOffer, taken_reply};
+    ghost use Rattle.kp_replica.specs.Replies.{IsOffer};
 
     /// A node that is up and idle, with an empty log. No memory.
     pub fn new(alloc: Global, number: NodeId, limits: &Limits) -> Broker
@@ -125,9 +54,10 @@ impl Broker {
         }
     }
 
-    /// The node's high watermark; of one that is down, that at which it went down. O(1).
+    /// The node's high watermark, which has passed its checkpoint; of one that is down, that at which it went down. O(1).
     pub fn watermark(&self) -> Offset
-        ensures { result ≡ (node_at self.now).state.watermark }
+        ensures value { result ≡ (node_at self.now).state.watermark }
+        ensures passed { (node_at self.now).state.checkpoint ≤ result }
     {
         match self {
             Broker::Up(replica) => replica.watermark(),
@@ -145,33 +75,8 @@ impl Broker {
         }
     }
 
-    /// A fetch answer comes to the node. The cost is that of `Replica::take_fetch`.
-    fn take(&mut self, answer: &FetchAnswer) -> Result<Taken, Refusal>
-        ensures { ForLetter (fetch_answer answer.now) (λ m.
-            Does (node_at self.old) (node_at self.new) (Receive m) (taken_reply result)) }
-    {
-        replace_with(self, answer, taken)
-    }
-
-    /// The node stops, and keeps what it has. The cost is that of `Replica::stop`.
-    fn stop(&mut self) -> Result<Answer, Refusal>
-        ensures event { Does (node_at self.old) (node_at self.new) Stop (answered_reply result) }
-        ensures fits { IfOk result (λ answer. answer ≡ IsStopped) }
-    {
-        replace_with(self, (), stopped)
-    }
-
-    /// The node starts again. F28 where it is up, F24 where its life is at its greatest, and F33: each leaves it as it was.
-    /// The cost is that of `Replica::restart`.
-    fn restart(&mut self, alloc: Global) -> Result<Answer, Refusal>
-        ensures event { Does (node_at self.old) (node_at self.new) Restart (answered_reply result) }
-        ensures fits { IfOk result IsRestarted }
-    {
-        replace_with(self, alloc, restarted)
-    }
-
     /// A client's bytes come to the node. The cost is that of `Replica::produce`.
-    fn produce(&mut self, bytes: Handed) -> Result<Effect, Refusal>
+    fn append(&mut self, bytes: Handed) -> Result<Effect, Refusal>
         ensures acts { (shown : ModelRecord) (offer : Result Body Refusal)
             → IsOffer (node_at self.old).limits.max_batch bytes offer
             → Acts shown (node_at self.old) (node_at self.new) (Produce offer) result }
@@ -180,13 +85,8 @@ impl Broker {
             → TakesNoMemory (node_at self.old).state (Produce offer) → result ≢ Err Memory }
         ensures fits { IfOk result (IsAppended (node_at self.old) (node_at self.new) bytes) }
     {
-        match self {
-            Broker::Up(replica) => {
-                let answered = replica.produce(bytes).map(Answer::Appended);
-                answered.map(Effect::Answers)
-            }
-            Broker::Down(kept) => Err(kept.refusal()),
-        }
+        let answered = self.produce(bytes).map(Answer::Appended);
+        answered.map(Effect::Answers)
     }
 
     /// The node does what is handed no bytes, under this record of the controller.
@@ -201,30 +101,20 @@ impl Broker {
         ensures spared { act ≡ Ask → result ≢ Err Memory }
         ensures fits { IfOk result (FitsPlain act (node_at self.new)) }
     {
-        let replica = match self {
-            Broker::Up(replica) => replica,
-            Broker::Down(kept) => {
-                let refusal = kept.refusal();
-                match act {
-                    PlainAct::Restart => return self.restart(alloc).map(Effect::Answers),
-                    _ => return Err(refusal),
-                }
-            }
-        };
         let answered = match act {
-            PlainAct::Ask => return replica.ask().map(Effect::Sends),
-            PlainAct::Alter { change } => {
-                return replica.alter(change, controller).map(Effect::Changes);
-            }
-            PlainAct::Adopt => replica.adopt(controller).map(Answer::Adopted),
-            PlainAct::Mark { marker } => replica.mark(alloc, &marker).map(Answer::Appended),
-            PlainAct::Raise => replica.raise().map(Answer::Watermark),
-            PlainAct::Checkpoint => Ok(Answer::Checkpoint(replica.checkpoint())),
+            PlainAct::Ask => return self.ask().map(Effect::Sends),
+            PlainAct::Alter { change } => return self
+                .alter(change, controller)
+                .map(Effect::Changes),
+            PlainAct::Adopt => self.adopt(controller).map(Answer::Adopted),
+            PlainAct::Mark { marker } => self.mark(alloc, &marker).map(Answer::Appended),
+            PlainAct::Raise => self.raise().map(Answer::Watermark),
+            PlainAct::Checkpoint => self.checkpoint().map(Answer::Checkpoint),
             PlainAct::Stop => self.stop(),
-            PlainAct::Restart => Err(replica.refusal()),
-            PlainAct::Show => Ok(Answer::Shown(replica.show())),
-            PlainAct::Read { from } => replica.read(alloc, from).map(Answer::Lines),
-            PlainAct::Committed { from } => replica.committed(alloc, from).map(Answer::Lines),
+            PlainAct::Restart => self.restart(alloc),
+            PlainAct::Show => self.show().map(Answer::Shown),
+            PlainAct::Read { from } => self.read(alloc, from).map(Answer::Lines),
+            PlainAct::Committed { from } => self.committed(alloc, from).map(Answer::Lines),
         };
         answered.map(Effect::Answers)
     }
@@ -245,7 +135,7 @@ impl Broker {
         ensures fits { IfOk result (Fits act (node_at self.old) (node_at self.new)) }
     {
         match act {
-            Act::Produce { bytes } => self.produce(bytes),
+            Act::Produce { bytes } => self.append(bytes),
             Act::Plain(act) => self.perform(alloc, controller, act),
         }
     }
@@ -264,25 +154,21 @@ impl Broker {
         ensures spared { (m : Message) → letter_of m ≡ letter body.now
             → TakesNoMemory (node_at self.old).state (Receive m) → result ≢ Err Memory }
     {
-        let replica = match self {
-            Broker::Up(replica) => replica,
-            Broker::Down(kept) => return Err(kept.refusal()),
-        };
         match body {
             MessageBody::FetchRequest(request) => {
-                let answer = replica.serve_fetch(alloc, request)?;
+                let answer = self.serve_fetch(alloc, request)?;
                 Ok(Effect::Sends(MessageBody::FetchAnswer(answer)))
             }
             MessageBody::EpochRequest(request) => {
-                let answer = replica.serve_epoch(request)?;
+                let answer = self.serve_epoch(request)?;
                 Ok(Effect::Sends(MessageBody::EpochAnswer(answer)))
             }
             MessageBody::FetchAnswer(answer) => {
-                let taken = self.take(answer)?;
+                let taken = self.take_fetch(answer)?;
                 Ok(Effect::Answers(Answer::Took(taken)))
             }
             MessageBody::EpochAnswer(answer) => {
-                let cut = replica.take_epoch(answer, controller)?;
+                let cut = self.take_epoch(answer, controller)?;
                 Ok(Effect::Answers(Answer::Cut(cut)))
             }
         }

@@ -82,9 +82,10 @@ impl KeptNode {
         self.kept.log()
     }
 
-    /// The high watermark at which the node went down. O(1).
+    /// The high watermark at which the node went down, which has passed its checkpoint. O(1).
     pub fn watermark(&self) -> Offset
-        ensures { result ≡ self.now.state.watermark }
+        ensures value { result ≡ self.now.state.watermark }
+        ensures passed { self.now.state.checkpoint ≤ result }
     {
         self.watermark
     }

@@ -20,6 +20,7 @@ mod replica;
 mod serving;
 mod stopping;
 mod taking;
+mod up_or_down;
 
 pub use act::{Act, Answer, Effect, PlainAct};
 pub use adopting::Role;

@@ -1,6 +1,5 @@
 -- What a node or the controller does leads on from each run that was reached.
 use Rattle.std.proofs.Common.{◌≡◌, ◌≢◌, ℕ, ◌<◌, ◌≤◌, Bool, true, false, cond, eqb, List, [], ◌∷◌, ◌++◌, length, map, set, get_or, None, Some, Option, Result, Ok, Err, refl, sym, ap, ◌∙◌, subst, arith, inl, inr, length-set}
-use Rattle.std.specs.Prelude.{unwrap_or}
 use Rattle.std.proofs.lemmas.List.{get_or-map, get_or-set_same, get_or-set_other, length-map, map-append, map-set}
 use Rattle.std.proofs.lemmas.Bool.{eq-eqb, ne_eqb, cases_eq}
 use Rattle.kp_types.specs.declared.limits.Limits.{Limits}
@@ -13,11 +12,11 @@ use Rattle.kp_replica.specs.declared.act.Answer.{Answer}
 use Rattle.kp_replica.specs.declared.act.Answer.TheVariants as replies
 use Rattle.kp_replica.specs.declared.adopting.Role.TheVariants as roles
 use Rattle.kp_model.specs.Log.{Batch}
-use Rattle.kp_model.specs.World.{Leader, LeaderAndIsr, Message, Node, World, with_record}
+use Rattle.kp_model.specs.World.{LeaderAndIsr, Message, Node, World, with_record}
 use Rattle.kp_model.specs.Event as model
 use Rattle.kp_model.specs.Event.{Act, Elect, Acts, Changed, Outcome, Refused, Reply}
 use Rattle.kp_model.specs.Laws.{EpochsAreElected}
-use Rattle.kp_model.specs.Local.{Effect as ModelEffect, Local, elected, last_epoch}
+use Rattle.kp_model.specs.Local.{Effect as ModelEffect, Local, elected}
 use Rattle.kp_model.specs.Run.{Run, last}
 use Rattle.kp_model.specs.Letter.{Letter, letter_of}
 use Rattle.kp_model.specs.Step.{ElectsBy, NodeStep, answered, moved, number_after, told, IsGiven, elect_cause}
@@ -36,8 +35,7 @@ use Rattle.kp_world.specs.declared.event.EventAnswer.TheVariants as answers
 use Rattle.kp_world.specs.Plays.{LeadOn}
 use Rattle.kp_world.specs.Shown.{IsNode, IsShown, KeepsReceipt, Stage, next}
 use Rattle.kp_world.proofs.Playing.{reached_more}
-use Rattle.kp_model.proofs.LogEpochs.{last_occurs}
-use Rattle.kp_model.proofs.RunLaws.{last_is_of}
+use Rattle.kp_replica.proofs.Within.{within}
 
 -- ---- what is told
 
@@ -158,18 +156,6 @@ after limits n m members x nodes inside number limits_are state old k d h =
 -- node n itself
 here : (n : ℕ) (x : Node) (nodes : ℕ → Node) → cond (eqb n n) x (nodes n) ≡ x
 here n x nodes = rw (eq-eqb n n refl) refl
-
--- no node's log has an epoch above the record's
-within : EpochsAreElected → (count : ℕ) (r : Run count) (n : ℕ) → IsWithin (last r).controller ((last r).nodes n).log
-within elected_all count r n l is = by_last (last_epoch ((last r).nodes n).log) refl
-  where
-    by_last : (o : Option ℕ) → last_epoch ((last r).nodes n).log ≡ o → unwrap_or o 0 ≤ l.epoch
-    by_last None e = omega arith
-    by_last (Some epoch) e =
-        let log = ((last r).nodes n).log in
-        let by = elected_all count r (last r) (last_is_of count r) log (inl (n, refl)) epoch (last_occurs log epoch e) in
-        let same : by.0 ≡ l = (let both = sym by.1 ∙ is in cc) in
-        subst (λ (k : Leader). epoch ≤ k.epoch) same by.2
 
 -- a step of node n, after which the stage is this one
 pub record Stepped (limits : Limits) (new : Stage) (m : NumberedNode) (w : World) (n : ℕ) (act : Act) (telling : Result EventAnswer Refusal) : Type 0 where

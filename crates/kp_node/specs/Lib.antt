@@ -1,0 +1,4 @@
+pub mod Seated
+pub mod Calls
+pub mod Acks
+pub mod Laws

@@ -1,0 +1,25 @@
+//! A broker node that threads share as std's `Mutex<Node>`, whose `lock` alone waits: each call under the lock is one event of the run.
+//! It stands on kp_replica's node, up or down, and on kp_board, on whose words each call makes its one step.
+//! Its contract says of each call which event it is, and what the caller's pass then shows: receipts kept, one committed list seen.
+#![tactic(auto)]
+
+ghost use Rattle.kp_node.specs.Laws.{SeenBatchesStay};
+
+mod ack;
+mod altering;
+mod asking;
+mod keeping;
+mod node;
+mod producing;
+mod raising;
+mod reading;
+mod stepping;
+mod stopping;
+
+pub use ack::Ack;
+pub use node::Node;
+
+/// A batch that a caller's pass has seen at its offset stands there in each list that the pass sees later. It costs nothing.
+pub fn seen_batches_stay()
+    ensures { SeenBatchesStay }
+{}

@@ -1,0 +1,63 @@
+//! A node with its pass.
+
+ghost use Rattle.std.specs.Prelude.{◌≡◌, ◌+◌, ◌*◌};
+ghost use Rattle.kp_model.specs.World.{fresh};
+ghost use Rattle.kp_node.specs.Seated.{SeatedNode};
+
+use kp_board::{Board, BoardName, FreshPass, NodePass};
+use kp_replica::{Broker, Replica};
+use kp_types::Limits;
+use std::alloc::Global;
+use std::marker::Model;
+use std::sync::Arc;
+
+/// A broker node, up or down, with its own pass of a board, which shows it. A clause sees both. Threads share it in a `Mutex`.
+#[derive(Drop)]
+pub struct Node<B: BoardName> {
+    pub(crate) alloc: Global,
+    pub(crate) board: Arc<Board<B>, Global>,
+    pub(crate) broker: Broker,
+    pub(crate) pass: NodePass<B>,
+}
+
+impl<B: BoardName> Model for Node<B> {
+    ghost use Rattle.std.specs.Prelude.{◌≡◌, ◌+◌, ◌*◌, ◌<◌, ◌≤◌};
+    ghost use Rattle.kp_replica.specs.Broker.{node_at};
+    ghost use Rattle.kp_node.specs.Seated.{SeatedNode};
+
+    ghost Value = { SeatedNode };
+
+    ghost view = { λ n. record { node = node_at n.broker; pass = n.pass } };
+
+    ghost invariant = { λ n. (n.pass.state ≡ (node_at n.broker).state) × (n.pass.number ≡ (node_at n.broker).number) × ((node_at n.broker).state.watermark ≤ n.pass.published) × (2 * n.pass.number + 2 < B.table.words) };
+}
+
+impl<B: BoardName> Node<B> {
+    /// A node that is up and idle, with an empty log: the one whose pass this is. It takes no memory. (Own rule.)
+    pub fn new(
+        alloc: Global,
+        board: Arc<Board<B>, Global>,
+        pass: FreshPass<B>,
+        limits: &Limits,
+    ) -> Node<B>
+        ensures node { result.node ≡ record { number = pass.pass.number; limits = limits.now; state = fresh } }
+        ensures pass { result.pass ≡ pass.pass }
+    {
+        let FreshPass { pass } = pass;
+        let replica = Replica::new(alloc, pass.number(), limits);
+        Node {
+            alloc,
+            board,
+            broker: Broker::Up(replica),
+            pass,
+        }
+    }
+
+    /// The node's board, at which a caller gets a pass, and looks at the record and at watermarks, without the node's lock. O(1).
+    pub fn board(&self) -> &Board<B>
+        ensures { B.table.words ≡ 2 * result.now + 1 }
+    {
+        let _nodes = self.board.nodes();
+        &self.board
+    }
+}

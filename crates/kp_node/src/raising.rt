@@ -1,0 +1,57 @@
+//! How a node adopts the controller's record, raises its high watermark and notes it.
+
+ghost use Rattle.std.specs.Prelude.{◌≡◌, ◌≤◌, max};
+ghost use Rattle.kp_model.specs.Event.{Adopt, Checkpoint, Raise};
+ghost use Rattle.kp_replica.specs.NumberedNode.{Does, DoesUnder};
+ghost use Rattle.kp_replica.specs.Replies.{checkpoint_reply, role_reply, watermark_reply};
+ghost use Rattle.kp_node.specs.Seated.{SeatedNode};
+
+use crate::node::Node;
+use kp_board::BoardName;
+use kp_replica::{Broker, Role};
+use kp_types::{Offset, Refusal};
+use std::marker::Brand;
+
+impl<B: BoardName> Node<B> {
+    /// Takes up the controller's record that a load of word 0 finds, which its pass then shows, of no lower version than the one
+    /// before: the node leads from its log's end on, or follows. F28 where it is down, F22 where the record's leader epoch isn't
+    /// above its own; either leaves the node as it was. O(1), and no memory. (Kafka replication design.)
+    pub fn adopt(&mut self) -> Result<Role, Refusal>
+        ensures event { DoesUnder self.new.pass.shown self.old.node self.new.node Adopt (role_reply result) }
+        ensures later { self.old.pass.shown.version ≤ self.new.pass.shown.version }
+        ensures pass { self.new.pass ≡ record self.old.pass { state = self.new.node.state; shown = self.new.pass.shown } }
+    {
+        let record = self
+            .board
+            .step_under_record::<Brand, ()>(&mut self.pass, &());
+        self.broker.adopt(&record)
+    }
+
+    /// Raises the high watermark, as `Replica::raise` does, and the node's mark word with it. F28 where it is down, F15 where it
+    /// doesn't lead.
+    pub fn raise(&mut self) -> Result<Offset, Refusal>
+        ensures event { Does self.old.node self.new.node Raise (watermark_reply result) }
+        ensures pass { self.new.pass ≡ record self.old.pass {
+          state = self.new.node.state;
+          published = max self.old.pass.published self.new.node.state.watermark;
+        } }
+    {
+        let raised = self.broker.raise();
+        let watermark = self.broker.watermark();
+        self.board
+            .raise_mark::<Brand, Broker>(&mut self.pass, watermark, &self.broker);
+        raised
+    }
+
+    /// Notes the high watermark as the checkpoint, and answers it. F28 where the node is down. O(1), and no memory. (Own rule, after
+    /// Kafka's replication-offset-checkpoint.)
+    pub fn checkpoint(&mut self) -> Result<Offset, Refusal>
+        ensures event { Does self.old.node self.new.node Checkpoint (checkpoint_reply result) }
+        ensures pass { self.new.pass ≡ record self.old.pass { state = self.new.node.state } }
+    {
+        let noted = self.broker.checkpoint();
+        self.board
+            .load_end::<Brand, Broker>(&mut self.pass, &self.broker);
+        noted
+    }
+}

@@ -1,0 +1,20 @@
+use Rattle.std.proofs.Common.{sym, subst}
+use Rattle.kp_model.specs.Event as model
+use Rattle.kp_model.specs.Event.{Refused}
+use Rattle.kp_replica.specs.Broker.{node_at}
+use Rattle.kp_replica.specs.NumberedNode.{Does}
+use Rattle.kp_replica.specs.Replies.{watermark_reply}
+use Rattle.kp_replica.specs.declared.broker.Broker.{Broker}
+use Rattle.kp_replica.proofs.Downs.{refuses_down}
+use Rattle.kp_replica.proofs.broker.Broker.raise.Goals as goal
+
+pub returns-in-Up : goal.returns-in-Up
+returns-in-Up c =
+    subst (λ (b : Broker). Does (node_at b) c.raise.new.self model.Raise (watermark_reply c.raise.result)) (sym c.in-Up.is) c.raise.ensures
+
+pub returns-in-Down : goal.returns-in-Down
+returns-in-Down c =
+    let kept = c.in-Down.kept in
+    let refusal = c.refusal.result in
+    subst (λ (b : Broker). Does (node_at b) kept model.Raise (Refused refusal)) (sym c.in-Down.is)
+    (λ r. refuses_down r kept model.Raise refusal c.refusal.ensures.down c.refusal.ensures.value tt)
