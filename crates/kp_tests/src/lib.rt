@@ -36,6 +36,10 @@ mod restart_tests;
 #[cfg(test)]
 mod script_tests;
 #[cfg(test)]
+mod seat_tests;
+#[cfg(test)]
+mod seated;
+#[cfg(test)]
 mod shown;
 #[cfg(test)]
 mod truncation_tests;

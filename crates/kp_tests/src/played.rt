@@ -58,7 +58,7 @@ fn broker(nodes: &mut Vec<Broker>, node: NodeId) -> Result<&mut Broker, Refusal>
     Err(Refusal::BadCount)
 }
 
-fn push_record(text: &mut String, record: &LeaderAndIsr) -> Result<(), AllocError> {
+pub(crate) fn push_record(text: &mut String, record: &LeaderAndIsr) -> Result<(), AllocError> {
     let version = record.version;
     match record.leader {
         Some(leader) => {
@@ -69,7 +69,7 @@ fn push_record(text: &mut String, record: &LeaderAndIsr) -> Result<(), AllocErro
     }
 }
 
-fn push_role(text: &mut String, role: Role) -> Result<(), AllocError> {
+pub(crate) fn push_role(text: &mut String, role: Role) -> Result<(), AllocError> {
     match role {
         Role::Leads { epoch, start } => write!(text, "leads epoch {epoch} from {start}"),
         Role::Follows {
@@ -83,7 +83,7 @@ fn push_role(text: &mut String, role: Role) -> Result<(), AllocError> {
     }
 }
 
-fn push_body(text: &mut String, body: &MessageBody) -> Result<(), AllocError> {
+pub(crate) fn push_body(text: &mut String, body: &MessageBody) -> Result<(), AllocError> {
     match body {
         MessageBody::FetchRequest(request) => write!(text, "asks from {}", request.offset),
         MessageBody::EpochRequest(request) => match request.last_epoch {
