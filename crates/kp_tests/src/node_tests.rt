@@ -186,7 +186,7 @@ fn seven_nodes_run(rt: HostRuntime) {
     );
 }
 
-const MARKER: Marker = Marker {
+pub(crate) const MARKER: Marker = Marker {
     producer_id: 5,
     producer_epoch: 0,
     coordinator_epoch: 7,

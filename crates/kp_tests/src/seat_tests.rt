@@ -22,7 +22,7 @@ fn a_batch_is_read_back(rt: HostRuntime) {
     ];
     is(
         &rt,
-        seated(rt.alloc(), 1, &turns),
+        seated(rt.alloc(), 1, &[], &turns),
         "F15 NotLeader\nrecord leader 0 epoch 0 version 1\nleads epoch 0 from 0\nat 0\nnot yet\nbatches 0\nmark 1\nyes\n\
          mark 1\nbatches 1, 0 time 10\nF16 OffsetOutOfRange\nmet\n",
     );
@@ -52,7 +52,7 @@ fn a_change_is_shown(rt: HostRuntime) {
     ];
     is(
         &rt,
-        seated(rt.alloc(), 2, &turns),
+        seated(rt.alloc(), 2, &[], &turns),
         "F15 NotLeader\nrecord leader 0 epoch 0 version 1\nleads epoch 0 from 0\nF23 NotCaughtUp\nrecord leader 0 epoch 0 version 2\n\
          record leader 0 epoch 0 version 2\nrecord leader 0 epoch 1 version 3\nF21 NotInSync\nF21 NotInSync\nat 0\nmark 1\n\
          checkpoint 1\nstopped\nF28 Down\nF28 Down\nlife 1 end 1 mark 1\nF28 Down\nmark 1\n",
@@ -81,27 +81,139 @@ const DIVERGED: [Turn; 16] = [
 
 #[test]
 fn a_cut_is_shown(rt: HostRuntime) {
-    let turns = [
+    is(
+        &rt,
+        seated(rt.alloc(), 2, &[], &DIVERGED),
+        "record leader 0 epoch 0 version 1\nleads epoch 0 from 0\nfollows 0 epoch 0 fetching\nat 0\nsent 0 asks from 0\n\
+         sent 1 batches 1 mark 0\ntaken\nat 1\nrecord leader 1 epoch 1 version 2\nleads epoch 1 from 1\n\
+         record leader 1 epoch 1 version 3\nat 1\nmark 2\nfollows 1 epoch 1 reconciling\nsent 2 asks epoch 0\n\
+         sent 3 epoch 0 end 1\n",
+    );
+    let then = [
         Turn::Deliver(3),
         Turn::Alter(1, IsrChange::Join(0)),
         Turn::Ask(0),
         Turn::Deliver(4),
+        Turn::Alter(1, IsrChange::Join(0)),
         Turn::Deliver(5),
         Turn::Deliver(5),
+        Turn::Ask(0),
+        Turn::Deliver(6),
+        Turn::Alter(1, IsrChange::Join(0)),
         Turn::Read(0, 1),
         Turn::Acked(0),
     ];
-    let mut all = [Turn::Record; 24];
-    for (place, turn) in DIVERGED.iter().chain(&turns).enumerate() {
-        all[place.min(23)] = *turn;
-    }
     is(
         &rt,
-        seated(rt.alloc(), 2, &all),
-        "record leader 0 epoch 0 version 1\nleads epoch 0 from 0\nfollows 0 epoch 0 fetching\nat 0\nsent 0 asks from 0\n\
-         sent 1 batches 1 mark 0\ntaken\nat 1\nrecord leader 1 epoch 1 version 2\nleads epoch 1 from 1\n\
-         record leader 1 epoch 1 version 3\nat 1\nmark 2\nfollows 1 epoch 1 reconciling\nsent 2 asks epoch 0\n\
-         sent 3 epoch 0 end 1\ntaken\nF23 NotCaughtUp\nsent 4 asks from 1\nsent 5 batches 1 mark 2\ntaken\nF29 StaleAnswer\n\
-         batches 1, 1 time 30\nyes\n",
+        seated(rt.alloc(), 2, &DIVERGED, &then),
+        "taken\nF23 NotCaughtUp\nsent 4 asks from 1\nsent 5 batches 1 mark 2\nF23 NotCaughtUp\ntaken\nF29 StaleAnswer\n\
+         sent 6 asks from 2\nsent 7 batches 0 mark 2\nrecord leader 1 epoch 1 version 4\nbatches 1, 1 time 30\nyes\n",
+    );
+}
+
+// The record has left the epoch in which node 0 asked.
+#[test]
+fn a_cut_of_an_older_record_is_refused(rt: HostRuntime) {
+    let then = [Turn::Elect(1), Turn::Deliver(3), Turn::Ask(0)];
+    is(
+        &rt,
+        seated(rt.alloc(), 2, &DIVERGED, &then),
+        "record leader 1 epoch 2 version 4\nF22 StaleRecord\nsent 4 asks epoch 0\n",
+    );
+}
+
+// Node 0 leads and has a batch, which node 1 takes.
+const FOLLOWED: [Turn; 7] = [
+    Turn::Elect(0),
+    Turn::Adopt(0),
+    Turn::Adopt(1),
+    Turn::Append(0, "p10"),
+    Turn::Ask(1),
+    Turn::Deliver(0),
+    Turn::Deliver(1),
+];
+
+#[test]
+fn an_answer_of_an_earlier_life_is_refused(rt: HostRuntime) {
+    let then = [
+        Turn::Stop(1),
+        Turn::Restart(1),
+        Turn::Adopt(1),
+        Turn::Ask(1),
+        Turn::Deliver(2),
+        Turn::Stop(1),
+        Turn::Restart(1),
+        Turn::Adopt(1),
+        Turn::Deliver(3),
+    ];
+    is(
+        &rt,
+        seated(rt.alloc(), 2, &FOLLOWED, &then),
+        "stopped\nlife 1 end 1 mark 0\nfollows 0 epoch 0 reconciling\nsent 2 asks epoch 0\nsent 3 epoch 0 end 1\nstopped\n\
+         life 2 end 1 mark 0\nfollows 0 epoch 0 reconciling\nF29 StaleAnswer\n",
+    );
+}
+
+#[test]
+fn a_message_comes_twice(rt: HostRuntime) {
+    let then = [
+        Turn::Deliver(1),
+        Turn::Raise(0),
+        Turn::Ask(1),
+        Turn::Deliver(2),
+        Turn::Raise(0),
+        Turn::Deliver(3),
+        Turn::Watermark(0),
+        Turn::Watermark(1),
+    ];
+    is(
+        &rt,
+        seated(rt.alloc(), 2, &FOLLOWED, &then),
+        "F29 StaleAnswer\nmark 0\nsent 2 asks from 1\nsent 3 batches 0 mark 0\nmark 1\ntaken\nmark 1\nmark 0\n",
+    );
+}
+
+#[test]
+fn leader_epochs_fence(rt: HostRuntime) {
+    let turns = [
+        Turn::Elect(0),
+        Turn::Adopt(0),
+        Turn::Adopt(1),
+        Turn::Ask(1),
+        Turn::Elect(0),
+        Turn::Adopt(1),
+        Turn::Ask(1),
+        Turn::Append(0, "p10"),
+        Turn::Deliver(1),
+        Turn::Adopt(0),
+        Turn::Deliver(0),
+    ];
+    is(
+        &rt,
+        seated(rt.alloc(), 2, &[], &turns),
+        "record leader 0 epoch 0 version 1\nleads epoch 0 from 0\nfollows 0 epoch 0 fetching\nsent 0 asks from 0\n\
+         record leader 0 epoch 1 version 2\nfollows 0 epoch 1 fetching\nsent 1 asks from 0\nat 0\nF18 UnknownLeaderEpoch\n\
+         leads epoch 1 from 1\nF17 FencedLeaderEpoch\n",
+    );
+}
+
+#[test]
+fn a_batch_that_comes_twice_is_kept_once(rt: HostRuntime) {
+    let turns = [
+        Turn::Elect(0),
+        Turn::Adopt(0),
+        Turn::Append(0, "d9.0.0.1"),
+        Turn::Append(0, "d9.0.0.1"),
+        Turn::Append(0, "d9.0.2.1"),
+        Turn::Mark(0),
+        Turn::Acked(0),
+        Turn::Raise(0),
+        Turn::Acked(0),
+    ];
+    is(
+        &rt,
+        seated(rt.alloc(), 1, &[], &turns),
+        "record leader 0 epoch 0 version 1\nleads epoch 0 from 0\nat 0\nduplicate 0\nF12 OutOfOrderSequence\nat 1\nnot yet\n\
+         mark 2\nyes\n",
     );
 }

@@ -3,10 +3,11 @@
 ghost use Rattle.std.specs.Prelude.{◌≡◌};
 
 use crate::logs::LIMITS;
-use crate::node_tests::bytes_of;
+use crate::node_tests::{MARKER, bytes_of};
 use crate::played::{push_body, push_record, push_role};
 use kp_batch::Batch;
 use kp_board::{Board, BoardName, FreshPass, Message, Opened, Pass};
+use kp_marker::HandedMarker;
 use kp_node::{Ack, Node};
 use kp_replica::{Answer, IsrChange, Receipt};
 use kp_types::{NodeId, Offset, Refusal};
@@ -25,6 +26,8 @@ pub(crate) enum Turn {
     Adopt(NodeId),
     /// A client hands the node the batch of a word.
     Append(NodeId, &'static str),
+    /// A transaction coordinator hands the node a marker.
+    Mark(NodeId),
     /// Whether the batch of the newest receipt is committed.
     Acked(NodeId),
     Read(NodeId, Offset),
@@ -72,11 +75,7 @@ fn push_restarted(text: &mut String, answer: &Answer) -> Result<(), AllocError> 
 }
 
 impl<B: BoardName> Seats<B> {
-    fn new(
-        alloc: Global,
-        board: Board<B>,
-        passes: Vec<FreshPass<B>>,
-    ) -> Result<Seats<B>, Refusal> {
+    fn new(alloc: Global, board: Board<B>, passes: Vec<FreshPass<B>>) -> Result<Seats<B>, Refusal> {
         let board = Arc::new(alloc, board)?;
         let mut nodes = Vec::new(alloc);
         for pass in passes {
@@ -137,6 +136,14 @@ impl<B: BoardName> Seats<B> {
         let bytes = bytes_of(self.alloc, word)?;
         let receipt = self.node(node)?.produce(pass, bytes)?;
         self.receipt = Some(receipt);
+        let how = if receipt.duplicate { "duplicate" } else { "at" };
+        Ok(write!(text, "{how} {}", receipt.base)?)
+    }
+
+    fn mark(&mut self, text: &mut String, pass: &mut Pass<B>, node: NodeId) -> Result<(), Refusal> {
+        let marker = HandedMarker::new(MARKER).ok_or(Refusal::BadCount)?;
+        let receipt = self.node(node)?.mark(pass, &marker)?;
+        self.receipt = Some(receipt);
         Ok(write!(text, "at {}", receipt.base)?)
     }
 
@@ -158,7 +165,7 @@ impl<B: BoardName> Seats<B> {
     }
 
     fn meet(&mut self, text: &mut String, pass: &mut Pass<B>, node: NodeId) -> Result<(), Refusal> {
-        let mut other = self.board.pass();
+        let mut other = self.node(node)?.board().pass();
         self.node(node)?.meet(pass, &mut other);
         Ok(text.push_str("met")?)
     }
@@ -185,6 +192,7 @@ impl<B: BoardName> Seats<B> {
             Turn::Elect(_) | Turn::Record | Turn::Watermark(_) => self.look(text, pass, turn),
             Turn::Adopt(node) => Ok(push_role(text, self.node(*node)?.adopt()?)?),
             Turn::Append(node, word) => self.append(text, pass, *node, word),
+            Turn::Mark(node) => self.mark(text, pass, *node),
             Turn::Acked(node) => self.tell_ack(text, pass, *node),
             Turn::Read(node, from) => {
                 let batches = self.node(*node)?.read(pass, *from)?;
@@ -209,11 +217,27 @@ impl<B: BoardName> Seats<B> {
     }
 }
 
-// What the calls answer, a line for each.
+// What these calls answer, a line for each.
+fn push_answers<B: BoardName>(
+    text: &mut String,
+    seats: &mut Seats<B>,
+    pass: &mut Pass<B>,
+    turns: &[Turn],
+) -> Result<(), Refusal> {
+    for turn in turns {
+        if let Err(refusal) = seats.answer(text, pass, turn) {
+            write!(text, "{refusal}")?;
+        }
+        text.push('\n')?;
+    }
+    Ok(())
+}
+
 fn answers<B: BoardName>(
     alloc: Global,
     opened: Opened,
-    turns: &[Turn],
+    first: &[Turn],
+    then: &[Turn],
 ) -> Result<String, Refusal>
     requires { opened ≡ B.table }
 {
@@ -221,17 +245,19 @@ fn answers<B: BoardName>(
     let mut pass = board.pass();
     let mut seats = Seats::new(alloc, board, passes)?;
     let mut text = String::with_capacity(alloc, 4096)?;
-    for turn in turns {
-        if let Err(refusal) = seats.answer(&mut text, &mut pass, turn) {
-            write!(text, "{refusal}")?;
-        }
-        text.push('\n')?;
-    }
+    push_answers(&mut text, &mut seats, &mut pass, first)?;
+    text.clear();
+    push_answers(&mut text, &mut seats, &mut pass, then)?;
     Ok(text)
 }
 
-/// What the calls answer of so many nodes, a line for each.
-pub(crate) fn seated(alloc: Global, count: NodeId, turns: &[Turn]) -> Result<String, Refusal> {
+/// What the second calls answer of so many nodes, a line for each, once the first were made.
+pub(crate) fn seated(
+    alloc: Global,
+    count: NodeId,
+    first: &[Turn],
+    then: &[Turn],
+) -> Result<String, Refusal> {
     let opened = Opened::new(alloc, count.min(7))?;
-    answers::<Brand>(alloc, opened, turns)
+    answers::<Brand>(alloc, opened, first, then)
 }

@@ -20,7 +20,9 @@ use std::thread::Threads;
 
 /// Nodes, producers, and how many batches each of these hands in.
 const NODES: u8 = 3;
+
 const PRODUCERS: usize = 2;
+
 const BATCHES: u64 = 50;
 
 /// What the threads leave: how many batches were acknowledged, and how many each node holds below its high watermark.

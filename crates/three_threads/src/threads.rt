@@ -115,7 +115,12 @@ fn work<B: BoardName, R: Wait>(
 ) -> Result<u64, Refusal> {
     if place >= producers {
         return {
-            serve(rt, cluster, place - producers, batches.wrapping_mul(producers as u64));
+            serve(
+                rt,
+                cluster,
+                place - producers,
+                batches.wrapping_mul(producers as u64),
+            );
             Ok(0)
         };
     }
@@ -132,9 +137,12 @@ pub(crate) fn run<B: BoardName + Send + Sync, R: Threads + Wait + Sync>(
 ) -> Result<u64, Refusal> {
     let nodes = usize::from(cluster.board().nodes());
     let threads = producers.saturating_add(nodes);
-    let made = map_indices(rt, alloc, threads, &|place| {
-        work(rt, alloc, cluster, place, (producers, batches))
-    })?;
+    let made = map_indices(
+        rt,
+        alloc,
+        threads,
+        &|place| { work(rt, alloc, cluster, place, (producers, batches)) },
+    )?;
     let mut acknowledged = 0u64;
     for count in &made {
         acknowledged = acknowledged.wrapping_add((*count)?);

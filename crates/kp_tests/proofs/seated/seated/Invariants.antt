@@ -1,4 +1,4 @@
 use Rattle.kp_tests.proofs.seated.seated.Given as goal
 
 abbrev pub ghosts-answers : goal.ghosts-answers
-ghosts-answers g a = record { table = a.opened }
+ghosts-answers a = record { table = a.opened }
