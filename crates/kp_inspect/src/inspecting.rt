@@ -3,9 +3,10 @@
 ghost use Rattle.std.specs.Prelude.{◌≡◌, ◌+◌, ◌<◌, ◌^◌, IfOk, IfErr, OnErr, string_bytes};
 ghost use Rattle.kp_types.specs.declared.refusal.Refusal.TheVariants.{Memory};
 ghost use Rattle.kp_types.specs.Devices.{CountsOne, device_of, faults_of, IsDeviceFault};
+ghost use Rattle.kp_inspect.specs.Scanned.{IsScan};
 ghost use Rattle.kp_inspect.specs.Inspected.{IsDump, Writes, WritesFront};
 
-use crate::scan::scan_bytes;
+use crate::scan::{Scan, scan_bytes};
 use crate::text::{push_batches, push_fault, push_tables};
 use bytes::Bytes;
 use kp_types::{Counted, Limits, Refusal};
@@ -19,6 +20,22 @@ struct Dump {
     fault: Option<Refusal>,
 }
 
+/// What is printed of what was found in the bytes. F33.
+fn text_of(alloc: Global, bytes: &Bytes, limits: &Limits, found: &Scan) -> Result<String, Refusal>
+    requires found { IsScan limits.now bytes.now found.now }
+    ensures told { IfOk result (λ text. IsDump limits.now bytes.now (string_bytes text) found.now.fault) }
+    ensures only { IfErr result (λ refusal. refusal ≡ Memory) }
+{
+    let _size = bytes.len(); // a size of memory
+    let mut text = String::new(alloc);
+    let position = push_batches(&mut text, found.log.batches())?;
+    match found.fault {
+        Some(refusal) => push_fault(&mut text, refusal, position)?,
+        None => push_tables(&mut text, &found.log)?,
+    }
+    Ok(text)
+}
+
 /// The dump of the bytes. F33.
 fn dump_of(alloc: Global, input: Vec<u8>, limits: &Limits) -> Result<Dump, Refusal>
     ensures told { IfOk result (λ dump.
@@ -27,12 +44,7 @@ fn dump_of(alloc: Global, input: Vec<u8>, limits: &Limits) -> Result<Dump, Refus
 {
     let bytes = Bytes::from_vec(input)?;
     let found = scan_bytes(alloc, &bytes, limits)?;
-    let mut text = String::new(alloc);
-    let position = push_batches(&mut text, found.log.batches())?;
-    match found.fault {
-        Some(refusal) => push_fault(&mut text, refusal, position)?,
-        None => push_tables(&mut text, &found.log)?,
-    }
+    let text = text_of(alloc, &bytes, limits, &found)?;
     Ok(Dump {
         text,
         fault: found.fault,
