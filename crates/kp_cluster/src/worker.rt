@@ -1,0 +1,92 @@
+//! A worker's steps.
+
+ghost use Rattle.std.specs.Prelude.{◌≡◌};
+ghost use Rattle.kp_cluster.specs.Turn.{Handles};
+
+use crate::gate::Gate;
+use crate::turn::take_turn;
+use kp_board::{BoardName, Message};
+use kp_node::Node;
+use kp_transport::{Carry, Parcel};
+use kp_types::{NodeId, Refusal};
+use std::sync::{Mutex, Wait};
+use std::thread;
+
+/// What became of a worker's step.
+#[derive(Debug, Clone, Copy, PartialEq, Eq)]
+pub enum Done {
+    /// There was no parcel.
+    Idle,
+    /// One parcel was handled.
+    Stepped,
+    /// The worker is to end.
+    Ended,
+}
+
+// A message goes to the node that it names.
+fn send_on<B: BoardName, C: Carry<Parcel<B>>>(
+    carrier: &C,
+    message: Option<Message<B>>,
+) -> Result<Done, Refusal> {
+    if let Some(message) = message {
+        let place = message.body.addressee();
+        carrier.send(place, Parcel::Message(message))?;
+    }
+    Ok(Done::Stepped)
+}
+
+/// What the node does with a message that came, or at its turn where none did. It answers the message that is to be sent. The
+/// refusals, and the cost, are those of `Node::step` and of `take_turn`.
+pub fn handle<B: BoardName>(
+    node: &mut Node<B>,
+    message: Option<Message<B>>,
+) -> Result<Option<Message<B>>, Refusal>
+    ensures { Handles (λ m. m.pass) (λ m. m.body) message node.old node.new result }
+{
+    match message {
+        Some(message) => node.step(message),
+        None => take_turn(node),
+    }
+}
+
+/// Handles one parcel of the place: receives it, calls the gate, handles it under the node's lock, sends the message that comes of it
+/// once the lock is given up, and calls the gate again. A refusal, of the node or of the carrier, ends this step alone. (Own rule.)
+pub fn worker_step<B: BoardName, R: Wait, C: Carry<Parcel<B>>, G: Gate>(
+    rt: &R,
+    place: NodeId,
+    node: &Mutex<Node<B>>,
+    carrier: &C,
+    gate: &G,
+) -> Result<Done, Refusal> {
+    let message = match carrier.receive(place) {
+        Some(Parcel::Message(message)) => Some(message),
+        Some(Parcel::Turn) => None,
+        Some(Parcel::Stop) => return Ok(Done::Ended),
+        None => return Ok(Done::Idle),
+    };
+    gate.before(place);
+    let answer = handle(&mut node.lock(rt), message);
+    let done = match answer {
+        Ok(answer) => send_on(carrier, answer),
+        Err(refusal) => Err(refusal),
+    };
+    gate.after(place);
+    done
+}
+
+// Steps until it is told to stop.
+pub(crate) fn work<B: BoardName, R: Wait, C: Carry<Parcel<B>>, G: Gate>(
+    rt: &R,
+    place: NodeId,
+    node: &Mutex<Node<B>>,
+    carrier: &C,
+    gate: &G,
+) {
+    for _ in rt.forever() {
+        match worker_step(rt, place, node, carrier, gate) {
+            Ok(Done::Ended) => return,
+            Ok(Done::Idle) => thread::yield_now(),
+            Ok(Done::Stepped) | Err(_) => {}
+        }
+    }
+}
