@@ -4,7 +4,7 @@
 use crate::shown::{batch_text, hex, is, unhex};
 use bytes::Bytes;
 use kp_batch::{Batch, Fields, HeaderParts, Parts, Speller};
-use kp_marker::{Kind, marker, read_marker};
+use kp_marker::{Kind, marker};
 use kp_types::{Limits, Refusal};
 use std::alloc::Global;
 
@@ -240,38 +240,6 @@ fn batches_are_stamped_and_shared(rt: HostRuntime) {
     is(&rt, stamped(rt.alloc()), stamped_hex());
 }
 
-// The batch of one record whose value has one bit flipped.
-fn flipped() -> &'static str {
-    "000000000000000000000039ffffffff02ebf1884b00000000000000000000000003e800000000000003e8ffffffffffffffffffffffffffff000000010e00000001026000"
-}
-
-// The same with its record's length, 7, as `8e00` in place of `0e`.
-fn longer_length() -> &'static str {
-    "00000000000000000000003affffffff02290ef1ef00000000000000000000000003e800000000000003e8ffffffffffffffffffffffffffff000000018e0000000001026100"
-}
-
-// The batch's head alone.
-fn head() -> &'static str {
-    "000000000000000000000039ffffffff02ebf1884b00000000000000000000000003e800000000000003e8ffffffffffffffffffffffffffff00000001"
-}
-
-#[test]
-fn bytes_have_their_first_fault(rt: HostRuntime) {
-    for (digits, max_batch, refusal) in [
-        ("", 69, Refusal::Truncated),
-        (head(), 69, Refusal::Truncated),
-        (one_hex(), 68, Refusal::TooLarge),
-        (flipped(), 69, Refusal::BadCrc),
-        (longer_length(), 70, Refusal::BadRecord(61)),
-        (epochless(), 68, Refusal::TooLarge),
-        (epochless(), 69, Refusal::BadProducerFields),
-        (numbered_marker(), 78, Refusal::BadProducerFields),
-    ] {
-        let found = read(rt.alloc(), digits, max_batch).err();
-        assert_eq!(rt; found, Some(refusal));
-    }
-}
-
 // The marker that aborts: another type, and so another checksum.
 fn abort_hex() -> &'static str {
     "000000000000000000000042ffffffff02d06a0aab0030000000000000000000000014000000000000001400000000000000050000ffffffff000000012000000008000000000c00000000000700"
@@ -287,31 +255,4 @@ fn marked(alloc: Global, kind: Kind) -> Result<String, Refusal> {
 fn markers_have_the_known_bytes(rt: HostRuntime) {
     is(&rt, marked(rt.alloc(), Kind::Commit), commit_hex());
     is(&rt, marked(rt.alloc(), Kind::Abort), abort_hex());
-}
-
-// Data of a transaction, with the key and the value of the marker that commits.
-fn data_hex() -> &'static str {
-    "000000000000000000000042ffffffff025fb2d79f001000000000000000000000001400000000000000140000000000000005000000000000000000012000000008000000010c00000000000700"
-}
-
-// The marker that the batch is that these digits spell.
-fn marker_text(alloc: Global, digits: &str) -> Result<String, Refusal> {
-    let bytes = Bytes::from_vec(unhex(alloc, digits)?)?;
-    let batch = Batch::read(bytes, &LIMITS)?;
-    Ok(format!(in alloc; "{:?}", read_marker(&batch))?)
-}
-
-#[test]
-fn markers_are_told_from_data(rt: HostRuntime) {
-    let commits =
-        "Some(Marker { producer_id: 5, producer_epoch: 0, coordinator_epoch: 7, kind: Commit, timestamp: 20 })";
-    let aborts =
-        "Some(Marker { producer_id: 5, producer_epoch: 0, coordinator_epoch: 7, kind: Abort, timestamp: 20 })";
-    for (digits, text) in [
-        (commit_hex(), commits),
-        (abort_hex(), aborts),
-        (data_hex(), "None"),
-    ] {
-        is(&rt, marker_text(rt.alloc(), digits), text);
-    }
 }

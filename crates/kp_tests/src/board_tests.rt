@@ -1,6 +1,6 @@
 //! A board by itself: threads look and elect on it.
 
-ghost use Rattle.std.specs.Prelude.{◌≡◌};
+ghost use Rattle.std.specs.Prelude.{◌≡◌, ◌≤◌};
 
 use kp_board::{Board, BoardName, Opened};
 use kp_types::{NodeId, Refusal};
@@ -11,9 +11,11 @@ use std::thread::{Threads, join};
 
 const TRIES: u32 = 100;
 
-// A board of two nodes, at the start.
-fn board_of_two(rt: &impl Abort, alloc: Global) -> Opened {
-    match Opened::new(alloc, 2) {
+// A board of so many nodes, at the start.
+pub(crate) fn board_of(rt: &impl Abort, alloc: Global, nodes: NodeId) -> Opened
+    requires { nodes ≤ 7 }
+{
+    match Opened::new(alloc, nodes) {
         Ok(opened) => opened,
         Err(refusal) => panic!(rt; "{refusal} in place of a board"),
     }
@@ -58,7 +60,7 @@ fn elect_by_two<B: BoardName + Send + Sync>(
 #[test]
 fn elections_add_up(rt: HostRuntime) {
     let alloc = rt.alloc();
-    let found = elect_by_two::<Brand>(&rt, alloc, board_of_two(&rt, alloc));
+    let found = elect_by_two::<Brand>(&rt, alloc, board_of(&rt, alloc, 2));
     let Ok((elected, version)) = found else {
         panic!(&rt; "no board");
     };
@@ -83,7 +85,7 @@ fn look_and_elect<B: BoardName + Send + Sync>(
 #[test]
 fn one_looks_while_another_elects(rt: HostRuntime) {
     let alloc = rt.alloc();
-    let found = look_and_elect::<Brand>(&rt, alloc, board_of_two(&rt, alloc));
+    let found = look_and_elect::<Brand>(&rt, alloc, board_of(&rt, alloc, 2));
     let Ok((elected, seen, version)) = found else {
         panic!(&rt; "no board");
     };
@@ -104,6 +106,6 @@ fn word_after_an_election<B: BoardName>(alloc: Global, opened: Opened) -> Result
 #[test]
 fn a_board_shows_the_known_word(rt: HostRuntime) {
     let alloc = rt.alloc();
-    let found = word_after_an_election::<Brand>(alloc, board_of_two(&rt, alloc));
+    let found = word_after_an_election::<Brand>(alloc, board_of(&rt, alloc, 2));
     assert_eq!(rt; found, Ok(0x0030_0000_1000_0001));
 }

@@ -61,14 +61,10 @@ fn there_and_back(alloc: Global, epoch: Epoch, offset: Offset) -> Result<String,
 
 #[test]
 fn an_undone_batch_takes_its_own_epoch_along(rt: HostRuntime) {
-    is(
-        &rt,
-        there_and_back(rt.alloc(), 4, 7),
-        "1@0 2@3 4@5 last 4@5 undone 1@0 2@3 4@5 last 4@5",
-    );
-    is(
-        &rt,
-        there_and_back(rt.alloc(), 9, 7),
-        "1@0 2@3 4@5 9@7 last 9@7 undone 1@0 2@3 4@5 last 4@5",
-    );
+    for (epoch, want) in [
+        (4, "1@0 2@3 4@5 last 4@5 undone 1@0 2@3 4@5 last 4@5"),
+        (9, "1@0 2@3 4@5 9@7 last 9@7 undone 1@0 2@3 4@5 last 4@5"),
+    ] {
+        is(&rt, there_and_back(rt.alloc(), epoch, 7), want);
+    }
 }

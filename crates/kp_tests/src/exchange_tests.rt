@@ -5,54 +5,6 @@ use crate::shown::is;
 use kp_types::Refusal;
 use std::process::Abort;
 
-// Three nodes of one epoch; a request that comes late is served again, and its answer is refused.
-const OF_ONE_EPOCH: [Call; 29] = [
-    Call::Elect(0),
-    Call::Adopt(0),
-    Call::Adopt(1),
-    Call::Adopt(2),
-    Call::Append(0, "p10"),
-    Call::Append(0, "p20"),
-    Call::Ask(1),
-    Call::Deliver(0),
-    Call::Deliver(1),
-    Call::Ask(1),
-    Call::Deliver(2),
-    Call::Raise(0),
-    Call::Ask(2),
-    Call::Deliver(4),
-    Call::Raise(0),
-    Call::Deliver(5),
-    Call::Ask(2),
-    Call::Deliver(6),
-    Call::Raise(0),
-    Call::Deliver(7),
-    Call::Deliver(0),
-    Call::Deliver(8),
-    Call::Append(1, "p30"),
-    Call::Ask(0),
-    Call::Ask(1),
-    Call::Deliver(9),
-    Call::Deliver(10),
-    Call::Show(1),
-    Call::Show(2),
-];
-
-#[test]
-fn followers_fetch_from_one_leader(rt: HostRuntime) {
-    is(
-        &rt,
-        played(rt.alloc(), 3, &[], &OF_ONE_EPOCH),
-        "record leader 0 epoch 0 version 1\nleads epoch 0 from 0\nfollows 0 epoch 0 fetching\n\
-         follows 0 epoch 0 fetching\nat 0\nat 1\nsent 0 asks from 0\nsent 1 batches 2 mark 0\nend 2 mark 0\n\
-         sent 2 asks from 2\nsent 3 batches 0 mark 0\nmark 0\nsent 4 asks from 0\nsent 5 batches 2 mark 0\nmark 0\n\
-         end 2 mark 0\nsent 6 asks from 2\nsent 7 batches 0 mark 0\nmark 2\nend 2 mark 0\nsent 8 batches 2 mark 2\n\
-         F29 StaleAnswer\nF15 NotLeader\nF15 NotLeader\nsent 9 asks from 2\nsent 10 batches 0 mark 2\nend 2 mark 2\n\
-         end 2 mark 2 life 0, 0 epoch 0 time 10, 1 epoch 0 time 20\n\
-         end 2 mark 0 life 0, 0 epoch 0 time 10, 1 epoch 0 time 20\n",
-    );
-}
-
 // Two nodes lead in turn, and each appends what the other never gets. Node 0 then has batches of the epochs 0 and 2, and
 // node 1 of 0, 1 and 3.
 const APART: [Call; 19] = [
@@ -76,58 +28,6 @@ const APART: [Call; 19] = [
     Call::Show(0),
     Call::Show(1),
 ];
-
-const APART_TOLD: &str =
-    "record leader 0 epoch 0 version 1\nleads epoch 0 from 0\nfollows 0 epoch 0 fetching\nat 0\n\
-     sent 0 asks from 0\nsent 1 batches 1 mark 0\nend 1 mark 0\nat 1\n\
-     record leader 1 epoch 1 version 2\nleads epoch 1 from 1\nat 1\n\
-     record leader 0 epoch 2 version 3\nleads epoch 2 from 2\nat 2\n\
-     record leader 1 epoch 3 version 4\nleads epoch 3 from 2\nat 2\n\
-     end 3 mark 0 life 0, 0 epoch 0 time 10, 1 epoch 0 time 20, 2 epoch 2 time 40\n\
-     end 3 mark 0 life 0, 0 epoch 0 time 10, 1 epoch 1 time 30, 2 epoch 3 time 50\n";
-
-#[test]
-fn two_leaders_part(rt: HostRuntime) {
-    is(&rt, played(rt.alloc(), 2, &[], &APART), APART_TOLD);
-}
-
-// Node 0 follows node 1, and takes its log back to what both have; then it fetches.
-const TOGETHER: [Call; 20] = [
-    Call::Adopt(0),
-    Call::Ask(0),
-    Call::Deliver(2),
-    Call::Deliver(3),
-    Call::Show(0),
-    Call::Ask(0),
-    Call::Deliver(4),
-    Call::Deliver(5),
-    Call::Deliver(3),
-    Call::Show(0),
-    Call::Ask(0),
-    Call::Deliver(6),
-    Call::Deliver(7),
-    Call::Raise(1),
-    Call::Show(0),
-    Call::Ask(0),
-    Call::Deliver(8),
-    Call::Deliver(9),
-    Call::Raise(1),
-    Call::Deliver(5),
-];
-
-#[test]
-fn a_follower_reconciles_in_two_rounds(rt: HostRuntime) {
-    is(
-        &rt,
-        played(rt.alloc(), 2, &APART, &TOGETHER),
-        "follows 1 epoch 3 reconciling\nsent 2 asks epoch 2\nsent 3 epoch 1 end 2\ncut 2 again\n\
-         end 2 mark 0 life 0, 0 epoch 0 time 10, 1 epoch 0 time 20\n\
-         sent 4 asks epoch 0\nsent 5 epoch 0 end 1\ncut 1 done\nF29 StaleAnswer\n\
-         end 1 mark 0 life 0, 0 epoch 0 time 10\nsent 6 asks from 1\nsent 7 batches 2 mark 0\nend 3 mark 0\n\
-         mark 1\nend 3 mark 0 life 0, 0 epoch 0 time 10, 1 epoch 1 time 30, 2 epoch 3 time 50\n\
-         sent 8 asks from 3\nsent 9 batches 0 mark 1\nend 3 mark 1\nmark 3\nF29 StaleAnswer\n",
-    );
-}
 
 // Records that are no news to a node, and answers that come under a record that has moved on: node 0 reconciles in the
 // epoch 3 when node 1 is elected anew, then in the epoch 4, where the record of the epoch 3 comes late, and leads in the
@@ -160,21 +60,15 @@ const MOVED_ON: [Call; 25] = [
     Call::Show(0),
 ];
 
-#[test]
-fn records_and_answers_go_stale(rt: HostRuntime) {
-    is(
-        &rt,
-        played(rt.alloc(), 2, &APART, &MOVED_ON),
-        "F22 StaleRecord\nfollows 1 epoch 3 reconciling\nF22 StaleRecord\nsent 2 asks epoch 2\n\
-         sent 3 epoch 1 end 2\nrecord leader 1 epoch 4 version 5\nF22 StaleRecord\nsent 4 asks epoch 2\n\
-         leads epoch 4 from 3\nF17 FencedLeaderEpoch\nF17 FencedLeaderEpoch\nfollows 1 epoch 4 reconciling\n\
-         F29 StaleAnswer\nsent 5 asks epoch 2\nsent 6 epoch 1 end 2\nrecord leader 1 epoch 3 version 4\n\
-         F22 StaleRecord\nF22 StaleRecord\nF22 StaleRecord\nrecord leader 1 epoch 4 version 5\n\
-         record leader 0 epoch 5 version 6\n\
-         leads epoch 5 from 3\nF29 StaleAnswer\nF17 FencedLeaderEpoch\n\
-         end 3 mark 0 life 0, 0 epoch 0 time 10, 1 epoch 0 time 20, 2 epoch 2 time 40\n",
-    );
-}
+const MOVED_ON_TOLD: &str =
+    "F22 StaleRecord\nfollows 1 epoch 3 reconciling\nF22 StaleRecord\nsent 2 asks epoch 2\n\
+     sent 3 epoch 1 end 2\nrecord leader 1 epoch 4 version 5\nF22 StaleRecord\nsent 4 asks epoch 2\n\
+     leads epoch 4 from 3\nF17 FencedLeaderEpoch\nF17 FencedLeaderEpoch\nfollows 1 epoch 4 reconciling\n\
+     F29 StaleAnswer\nsent 5 asks epoch 2\nsent 6 epoch 1 end 2\nrecord leader 1 epoch 3 version 4\n\
+     F22 StaleRecord\nF22 StaleRecord\nF22 StaleRecord\nrecord leader 1 epoch 4 version 5\n\
+     record leader 0 epoch 5 version 6\n\
+     leads epoch 5 from 3\nF29 StaleAnswer\nF17 FencedLeaderEpoch\n\
+     end 3 mark 0 life 0, 0 epoch 0 time 10, 1 epoch 0 time 20, 2 epoch 2 time 40\n";
 
 // Node 1 fetches from node 0 in the epoch 2.
 const FETCHING: [Call; 4] = [
@@ -211,19 +105,13 @@ const FORGERIES: [Call; 22] = [
     Call::Show(1),
 ];
 
-#[test]
-fn forged_answers_change_nothing(rt: HostRuntime) {
-    is(
-        &rt,
-        played(rt.alloc(), 2, &FETCHING, &FORGERIES),
-        "F29 StaleAnswer\nF29 StaleAnswer\nF26 NotNext\nF26 NotNext\nF27 EpochBack\nF19 NotBoundary\n\
-         end 0 mark 0 life 0\nend 3 mark 0\nF29 StaleAnswer\nF26 NotNext\nF26 NotNext\nF27 EpochBack\n\
-         F27 EpochBack\nF19 NotBoundary\nF19 NotBoundary\nend 3 mark 0 life 0, 0 epoch 1 time 10\n\
-         end 6 mark 5\nend 6 mark 5\nF19 NotBoundary\n\
-         end 6 mark 5 life 0, 0 epoch 1 time 10, 3 epoch 2 time 10, 5 epoch 2 time 20\n\
-         end 6 mark 6\nend 6 mark 6 life 0, 0 epoch 1 time 10, 3 epoch 2 time 10, 5 epoch 2 time 20\n",
-    );
-}
+const FORGERIES_TOLD: &str =
+    "F29 StaleAnswer\nF29 StaleAnswer\nF26 NotNext\nF26 NotNext\nF27 EpochBack\nF19 NotBoundary\n\
+     end 0 mark 0 life 0\nend 3 mark 0\nF29 StaleAnswer\nF26 NotNext\nF26 NotNext\nF27 EpochBack\n\
+     F27 EpochBack\nF19 NotBoundary\nF19 NotBoundary\nend 3 mark 0 life 0, 0 epoch 1 time 10\n\
+     end 6 mark 5\nend 6 mark 5\nF19 NotBoundary\n\
+     end 6 mark 5 life 0, 0 epoch 1 time 10, 3 epoch 2 time 10, 5 epoch 2 time 20\n\
+     end 6 mark 6\nend 6 mark 6 life 0, 0 epoch 1 time 10, 3 epoch 2 time 10, 5 epoch 2 time 20\n";
 
 // Node 0 leads two nodes in the epoch 1, with three records in one batch and one in the next.
 const LEADING: [Call; 6] = [
@@ -259,17 +147,23 @@ const REQUESTS: [Call; 20] = [
     Call::Raise(1),
 ];
 
+const REQUESTS_TOLD: &str =
+    "F16 OffsetOutOfRange\nF16 OffsetOutOfRange\nF16 OffsetOutOfRange\nF17 FencedLeaderEpoch\n\
+     F18 UnknownLeaderEpoch\nF17 FencedLeaderEpoch\nF18 UnknownLeaderEpoch\nF17 FencedLeaderEpoch\n\
+     F18 UnknownLeaderEpoch\nmark 0\nend 4 mark 0 life 0, 0 epoch 1 time 10, 3 epoch 1 time 20\n\
+     sent 0 no epoch\nsent 1 no epoch\nsent 2 epoch 1 end 4\nsent 3 batches 1 mark 0\nmark 3\n\
+     sent 4 batches 0 mark 3\nsent 5 batches 2 mark 3\nmark 4\nF15 NotLeader\n";
+
+// Records and answers go stale, forged answers change nothing, and refused requests report nothing.
 #[test]
-fn refused_requests_report_nothing(rt: HostRuntime) {
-    is(
-        &rt,
-        played(rt.alloc(), 2, &LEADING, &REQUESTS),
-        "F16 OffsetOutOfRange\nF16 OffsetOutOfRange\nF16 OffsetOutOfRange\nF17 FencedLeaderEpoch\n\
-         F18 UnknownLeaderEpoch\nF17 FencedLeaderEpoch\nF18 UnknownLeaderEpoch\nF17 FencedLeaderEpoch\n\
-         F18 UnknownLeaderEpoch\nmark 0\nend 4 mark 0 life 0, 0 epoch 1 time 10, 3 epoch 1 time 20\n\
-         sent 0 no epoch\nsent 1 no epoch\nsent 2 epoch 1 end 4\nsent 3 batches 1 mark 0\nmark 3\n\
-         sent 4 batches 0 mark 3\nsent 5 batches 2 mark 3\nmark 4\nF15 NotLeader\n",
-    );
+fn what_no_script_can_say_is_refused(rt: HostRuntime) {
+    for (before, calls, want) in [
+        (APART.as_slice(), MOVED_ON.as_slice(), MOVED_ON_TOLD),
+        (&FETCHING, &FORGERIES, FORGERIES_TOLD),
+        (&LEADING, &REQUESTS, REQUESTS_TOLD),
+    ] {
+        is(&rt, played(rt.alloc(), 2, before, calls), want);
+    }
 }
 
 // The text is the first of these, or where memory was refused another of them, or none.

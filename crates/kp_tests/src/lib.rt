@@ -10,13 +10,13 @@ mod board_tests;
 #[cfg(test)]
 mod cli_tests;
 #[cfg(test)]
+mod cluster_tests;
+#[cfg(test)]
 mod device_tests;
 #[cfg(test)]
 mod epoch_tests;
 #[cfg(test)]
 mod exchange_tests;
-#[cfg(test)]
-mod file_tests;
 #[cfg(test)]
 mod index_tests;
 #[cfg(test)]
@@ -33,8 +33,6 @@ mod producer_tests;
 mod record_tests;
 #[cfg(test)]
 mod restart_tests;
-#[cfg(test)]
-mod script_tests;
 #[cfg(test)]
 mod seat_tests;
 #[cfg(test)]

@@ -1,6 +1,6 @@
 //! Logs, their segments and what is found in them.
 
-use crate::logs::{log_of, there_and_back, told_of};
+use crate::logs::{log_of, there_and_back};
 use crate::shown::is;
 use kp_log::PartitionLog;
 use kp_types::{Limits, MAX_BATCH, Refusal};
@@ -53,65 +53,64 @@ fn found_in(alloc: Global, words: &str) -> Result<String, Refusal> {
     Ok(text)
 }
 
-#[test]
-fn an_empty_log_has_nothing_to_find(rt: HostRuntime) {
-    is(&rt, told_of(rt.alloc(), &SMALL, "", ""), "stable 0\n");
-    let nowhere = "0 nowhere 1 nowhere 2 nowhere 3 nowhere 0 none 10 none 15 none 30 none 31 none ";
-    is(&rt, found_in(rt.alloc(), ""), nowhere);
-}
-
-// The example log of docs/FORMATS.md, whose batches have 69, 69 and 78 bytes: only in front of the third lie more than
-// 100. An entry's last number is how many batches stand before it, or how many a look-up may pass over.
-#[test]
-fn the_example_log_has_its_tables(rt: HostRuntime) {
-    let found = there_and_back(rt.alloc(), &SPACED, "t5.0.0 p30", "a5.0.7", "");
-    is(
-        &rt,
-        found,
-        "00000000000000000000.log 216 at 2 138 2 time 30 1 0\nproducer 5 0 7 0-0@0\naborted 5 0 2 3\nstable 3 1=62\n\
-         undone\n00000000000000000000.log 138\nproducer 5 0 - 0-0@0\nopen 5 0\nstable 0\n",
-    );
-}
-
-// Times 10, 30 and 20, in one segment and in three.
+// Nothing; times 10, 30 and 20, in one segment and in three.
 #[test]
 fn look_ups_find_offsets_and_times(rt: HostRuntime) {
-    let together = found_in(rt.alloc(), "t5.0.0 p30 a5.0.7");
-    is(
-        &rt,
-        together,
-        "00000000000000000000.log \
-         0 in 0 1 in 1 2 in 2 3 nowhere 0 at 0 10 10 at 0 10 15 at 1 30 30 at 1 30 31 none ",
-    );
-    let apart = found_in(rt.alloc(), "p10.443 p30.443 p20.443");
-    is(
-        &rt,
-        apart,
-        "00000000000000000000.log 00000000000000000001.log 00000000000000000002.log \
-         0 in 0 1 in 1 2 in 2 3 nowhere 0 at 0 10 10 at 0 10 15 at 1 30 30 at 1 30 31 none ",
-    );
+    for (words, want) in [
+        (
+            "",
+            "0 nowhere 1 nowhere 2 nowhere 3 nowhere 0 none 10 none 15 none 30 none 31 none ",
+        ),
+        (
+            "t5.0.0 p30 a5.0.7",
+            "00000000000000000000.log \
+             0 in 0 1 in 1 2 in 2 3 nowhere 0 at 0 10 10 at 0 10 15 at 1 30 30 at 1 30 31 none ",
+        ),
+        (
+            "p10.443 p30.443 p20.443",
+            "00000000000000000000.log 00000000000000000001.log 00000000000000000002.log \
+             0 in 0 1 in 1 2 in 2 3 nowhere 0 at 0 10 10 at 0 10 15 at 1 30 30 at 1 30 31 none ",
+        ),
+    ] {
+        is(&rt, found_in(rt.alloc(), words), want);
+    }
 }
 
-// A value of 442 bytes makes a batch of 512: a head of 61, the record's length in 2 (449 is the number 898, 8207) and 449
-// more, of which 7 are no value.
-#[test]
-fn a_batch_that_fills_the_segment_belongs_to_it(rt: HostRuntime) {
-    let found = there_and_back(rt.alloc(), &SMALL, "p10.442", "p20.442", "");
-    is(
-        &rt,
-        found,
+// A log, its last batch, and what is told with it and once it was undone. The example log of docs/FORMATS.md has batches of 69,
+// 69 and 78 bytes: only in front of the third lie more than 100. An entry's last number is how many batches stand before it, or
+// how many a look-up may pass over. A value of 442 bytes makes a batch of 512: a head of 61, the record's length in 2 (449 is
+// the number 898, 8207) and 449 more, of which 7 are no value. Two such batches fill a segment; one byte more rolls the log.
+const UNDONE: [(Limits, &str, &str, &str); 3] = [
+    (
+        SPACED,
+        "t5.0.0 p30",
+        "a5.0.7",
+        "00000000000000000000.log 216 at 2 138 2 time 30 1 0\nproducer 5 0 7 0-0@0\naborted 5 0 2 3\nstable 3 1=62\n\
+         undone\n00000000000000000000.log 138\nproducer 5 0 - 0-0@0\nopen 5 0\nstable 0\n",
+    ),
+    (
+        SMALL,
+        "p10.442",
+        "p20.442",
         "00000000000000000000.log 1024 at 1 512 1 time 20 1 0\nstable 2 0=62 1=62\n\
          undone\n00000000000000000000.log 512\nstable 1 0=62\n",
-    );
-}
-
-#[test]
-fn one_byte_more_rolls_the_log_until_it_is_undone(rt: HostRuntime) {
-    let found = there_and_back(rt.alloc(), &SMALL, "p10.442", "p20.443", "");
-    is(
-        &rt,
-        found,
+    ),
+    (
+        SMALL,
+        "p10.442",
+        "p20.443",
         "00000000000000000000.log 512 time 10 0 0\n00000000000000000001.log 513\nstable 2 0=62 1=62\n\
          undone\n00000000000000000000.log 512\nstable 1 0=62\n",
-    );
+    ),
+];
+
+#[test]
+fn a_log_has_the_tables_of_its_batches(rt: HostRuntime) {
+    for (limits, before, last, want) in UNDONE {
+        is(
+            &rt,
+            there_and_back(rt.alloc(), &limits, before, last, ""),
+            want,
+        );
+    }
 }

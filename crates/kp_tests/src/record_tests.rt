@@ -2,7 +2,7 @@
 //! attributes, timestamp delta, offset delta, key, value, number of headers, headers.
 
 use crate::shown::{hex, is, push_bytes, push_record, unhex};
-use kp_record::{HeaderParts, Parts, Place, is_text, read_record, record_size, write_record};
+use kp_record::{HeaderParts, Parts, Place, read_record, record_size, write_record};
 use kp_types::Refusal;
 use std::alloc::Global;
 
@@ -141,19 +141,4 @@ fn records_are_read_back(rt: HostRuntime) {
     ] {
         is(&rt, found(rt.alloc(), digits, &place), known);
     }
-}
-
-// A length in more bytes than it needs, another place, cut off, a header's key that is no text.
-#[test]
-fn other_spellings_are_refused(rt: HostRuntime) {
-    for (digits, place) in [
-        ("8e0000000001026100", FIRST),
-        ("0e00000001026100", place_of(1000, 1)),
-        ("0e000000010261", FIRST),
-        ("1200000001010202ff01", FIRST),
-    ] {
-        let refusal = found(rt.alloc(), digits, &place).err();
-        assert_eq!(rt; refusal, Some(Refusal::BadRecord(61)), "{digits}");
-    }
-    assert!(rt; is_text("é".as_bytes()) && !is_text(&[0xff]));
 }

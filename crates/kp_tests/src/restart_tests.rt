@@ -8,34 +8,6 @@ use kp_replica::{IsrChange, KeptNode, Replica};
 use kp_types::{Limits, MAX_BATCH, Refusal};
 use std::alloc::Global;
 
-const STOPPED: [Call; 14] = [
-    Call::Elect(0),
-    Call::Adopt(0),
-    Call::Append(0, "p10"),
-    Call::Raise(0),
-    Call::Append(0, "p20"),
-    Call::Checkpoint(0),
-    Call::Stop(0),
-    Call::Raise(0),
-    Call::Restart(0),
-    Call::Restart(0),
-    Call::Raise(0),
-    Call::Adopt(0),
-    Call::Alter(0, IsrChange::Leave(0)),
-    Call::Raise(0),
-];
-
-#[test]
-fn a_node_starts_again_at_its_checkpoint(rt: HostRuntime) {
-    is(
-        &rt,
-        played(rt.alloc(), 1, &[], &STOPPED),
-        "record leader 0 epoch 0 version 1\nleads epoch 0 from 0\nat 0\nmark 1\nat 1\ncheckpoint 1\nstopped\n\
-         F28 Down\nend 2 mark 1 life 1, 0 epoch 0 time 10, 1 epoch 0 time 20\nF28 Down\nF15 NotLeader\n\
-         leads epoch 0 from 2\nF21 NotInSync\nmark 2\n",
-    );
-}
-
 // A leader whose high watermark is 7, and which began to lead at 10.
 const CAUGHT_UP: [Call; 12] = [
     Call::Elect(0),

@@ -102,22 +102,6 @@ fn all_told(alloc: Global, log: &PartitionLog) -> Result<String, Refusal> {
     Ok(text)
 }
 
-// Of an empty log: its truncation to 0, where its epoch 0 ends, where its time 0 is, and its tables.
-fn of_nothing(alloc: Global) -> Result<String, Refusal> {
-    let mut text = outcome(alloc, "", 0, 0)?;
-    let log = log_of(alloc, &SMALL, "")?;
-    let ends = log.tables().epochs().end_for(0, log.end_offset()).is_some();
-    let found = log.offset_for_time(0).is_some();
-    write!(text, "{ends} {found}\n{}", all_told(alloc, &log)?)?;
-    Ok(text)
-}
-
-#[test]
-fn an_empty_log_is_truncated_to_itself(rt: HostRuntime) {
-    let nothing = "0 undone, end 0\nfalse false\n\nstable 0\n";
-    is(&rt, of_nothing(rt.alloc()), nothing);
-}
-
 // What is told of a log that had more batches behind these, and was truncated to their end.
 fn truncated(alloc: Global, kept: &str, cut: &str) -> Result<String, Refusal> {
     let mut log = Undoable::new(alloc);
