@@ -2,11 +2,15 @@
 //!
 //!     board PROGRAM CALLS RUNS        the tables, with so many elections and 16 times as many looks of either kind by each thread,
 //!                                      of one thread and of as many as there are processors
-//!     board one THREADS CALLS         nanoseconds of the clock for each kind of call of the plain side, and the sum of the answers
+//!     board one THREADS CALLS NODE    nanoseconds of the clock for each kind of call of the plain side, and the sum of the answers
 //!
-//! PROGRAM is what `board.rt.in` is built to: it takes the words THREADS and CALLS, and prints the same. Both make a board of one
+//! PROGRAM is what `board.rt.in` is built to: it takes the words THREADS, CALLS and NODE, and prints the same. Both make a board of one
 //! node, and time elections first, then looks at the record, then looks at the watermark, from before the first thread to after the
 //! last. Each run is a process of its own.
+//!
+//! What is compared is a call: each is made by its number, by a function that isn't inlined, so that neither side's loop is unrolled
+//! round it or does without what isn't used of an answer. The node is a word of the program, so no compiler knows it; the plain board
+//! tests that it has such a word, where the other one has that proved.
 
 #[path = "../shared/pairs.rs"]
 mod pairs;
@@ -111,6 +115,22 @@ impl Board {
     }
 }
 
+// Each kind of call, by itself.
+#[inline(never)]
+fn elect(board: &Board, node: u8) -> Result<Record, Refusal> {
+    board.elect(node)
+}
+
+#[inline(never)]
+fn record(board: &Board) -> Record {
+    board.record()
+}
+
+#[inline(never)]
+fn watermark(board: &Board, node: u8) -> u64 {
+    board.watermark(node)
+}
+
 // So many calls of a kind by each thread: the sum of their answers, and the nanoseconds.
 fn timed(threads: usize, calls: u32, call: impl Fn() -> u64 + Sync) -> (u64, u64) {
     let began = Instant::now();
@@ -123,12 +143,12 @@ fn timed(threads: usize, calls: u32, call: impl Fn() -> u64 + Sync) -> (u64, u64
     (began.elapsed().as_nanos() as u64, sum)
 }
 
-fn one(threads: usize, calls: u32) {
+fn one(threads: usize, calls: u32, node: u8) {
     let board = Board::new();
     let print = |(spent, sum)| println!("{spent} {sum}");
-    print(timed(threads, EACH[0] * calls, || u64::from(board.elect(0).is_ok())));
-    print(timed(threads, EACH[1] * calls, || u64::from(board.record().version)));
-    print(timed(threads, EACH[2] * calls, || board.watermark(0)));
+    print(timed(threads, EACH[0] * calls, || u64::from(elect(&board, node).is_ok())));
+    print(timed(threads, EACH[1] * calls, || u64::from(record(&board).version)));
+    print(timed(threads, EACH[2] * calls, || watermark(&board, node)));
 }
 
 // What a side prints: nanoseconds of each kind of call.
@@ -142,7 +162,7 @@ fn side(program: &str, words: &[String]) -> [f64; 3] {
 
 fn table(program: &str, threads: usize, calls: u32, runs: usize) {
     let own = std::env::current_exe().expect("the program");
-    let words = [threads.to_string(), calls.to_string()];
+    let words = [threads.to_string(), calls.to_string(), "0".to_string()];
     let plain: Vec<String> = ["one".to_string()].into_iter().chain(words.clone()).collect();
     let mut pairs: Pairs<3> = Pairs::new();
     for _ in 0..runs {
@@ -161,7 +181,7 @@ fn main() {
     let words: Vec<String> = std::env::args().skip(1).collect();
     let number = |place: usize| words[place].parse::<u32>().expect("a number");
     if words[0] == "one" {
-        return one(number(1) as usize, number(2));
+        return one(number(1) as usize, number(2), number(3) as u8);
     }
     let cores = std::thread::available_parallelism().map_or(1, usize::from);
     println!("threads  call         rattle      rust   ratio   (nanoseconds of the clock for one call of each thread)");

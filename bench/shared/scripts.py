@@ -3,6 +3,7 @@
 
     bench/shared/scripts.py KIND EVENTS
     bench/shared/scripts.py diverge TAIL EVENTS
+    bench/shared/scripts.py rounds EACH EVENTS
 
 Of one node, with exactly so many events, KIND is `plain` (appends of one record of ten bytes, a raise every ten, a read of the last
 hundred offsets every hundred), `producers` (the same with 1,000 idempotent producers, one retry every fifty appends and no reads)
@@ -16,6 +17,8 @@ Of several nodes, with plain appends, KIND is
   appends TAIL others; the old one adopts, asks, takes its own tail back, and fetches. It asks once more, so that both high watermarks
   rise. In every other round both are elected twice and append TAIL batches each time before the old one learns of it, so that
   it takes two tails back, by two answers. Exactly so many events.
+- `rounds EACH`, three nodes: node 0 appends EACH batches of one record of 100 bytes, then each other node asks, its request comes,
+  then the answer; then a raise. Exactly so many events.
 - `catchup`, two nodes: node 0 appends nine tenths as many batches as events, of one record of one byte; then node 1 asks until it
   has them all.
 """
@@ -25,7 +28,9 @@ import sys
 from bisect import bisect_right
 
 LETTERS = "abcdefghijklmnopqrstuvwxyz0123456789"
-NODES = {"plain": 1, "producers": 1, "transactions": 1, "replicate": 3, "diverge": 2, "catchup": 2}
+NODES = {"plain": 1, "producers": 1, "transactions": 1, "replicate": 3, "diverge": 2, "catchup": 2, "rounds": 3}
+# Which kinds have a number of their own.
+NUMBERED = ("diverge", "rounds")
 # What a batch has besides its one short value, and what an answer has room for.
 FRAME, ANSWER = 68, 1_048_576
 
@@ -167,6 +172,15 @@ class Cluster(Script):
             yield from self.fetch(follower, 0)
             yield "raise 0"
 
+    def rounds(self, each):
+        yield from self.elect(0)
+        yield from ("adopt 1", "adopt 2")
+        while True:
+            yield from self.appends(0, each)
+            yield from self.fetch(1, 0)
+            yield from self.fetch(2, 0)
+            yield "raise 0"
+
     def diverge(self, tail):
         yield from self.elect(0)
         yield from self.appends(0, tail)
@@ -202,12 +216,14 @@ def lines(kind, tail, events):
         return Cluster(kind, 1).catchup(events * 9 // 10)
     if kind == "diverge":
         return itertools.islice(Cluster(kind).diverge(tail), events)
+    if kind == "rounds":
+        return itertools.islice(Cluster(kind, 100).rounds(tail), events)
     return itertools.islice(getattr((Cluster if NODES[kind] > 1 else Script)(kind), kind)(), events)
 
 
 def main(words):
     kind, *numbers = words
-    if kind not in NODES or len(numbers) != (2 if kind == "diverge" else 1):
+    if kind not in NODES or len(numbers) != (2 if kind in NUMBERED else 1):
         sys.exit(__doc__)
     tail, events = map(int, [0, *numbers][-2:])
     print(f"nodes {NODES[kind]} segment 1048576 interval 4096")
