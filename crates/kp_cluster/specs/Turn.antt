@@ -4,7 +4,7 @@ use Rattle.std.specs.Prelude.{◌≡◌, ◌≤◌, ◌∷◌, ℕ, max, Option,
 use Rattle.kp_types.specs.declared.refusal.Refusal.{Refusal}
 use Rattle.kp_types.specs.declared.refusal.Refusal.TheVariants.{Down, NotLeader, StaleRecord}
 use Rattle.kp_model.specs.World.{Message}
-use Rattle.kp_model.specs.Event.{Act, Adopt, Ask, Raise, Receive, Refused, Restart}
+use Rattle.kp_model.specs.Event.{Adopt, Ask, Raise, Receive, Refused, Restart}
 use Rattle.kp_model.specs.Letter.{letter}
 use Rattle.kp_model.specs.declared.message.MessageBody.{MessageBody}
 use Rattle.kp_replica.specs.NumberedNode.{Does, DoesUnder}

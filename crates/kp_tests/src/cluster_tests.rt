@@ -7,6 +7,7 @@ use crate::node_tests::bytes_of;
 use kp_board::{Board, BoardName, Opened, Pass};
 use kp_cluster::{Cluster, Gate, Open, start};
 use kp_node::Node;
+use kp_race::{Outcome, Plan, nodes_of, race_over_channels, run_race, stop_all};
 use kp_transport::{Carry, Channels, Choice, Parcel, Rough, Waiting, Watched};
 use kp_types::{Limits, MAX_BATCH, NodeId, Refusal};
 use std::alloc::Global;
@@ -38,34 +39,12 @@ fn led<B: BoardName, R: Wait>(
 ) -> Result<(Arc<Board<B>, Global>, Vec<Shared<B>>), Refusal>
     requires { opened ≡ B.table }
 {
-    let (board, passes) = Board::<B>::new(alloc, opened)?;
-    let board = Arc::new(alloc, board)?;
-    let mut nodes = Vec::new(alloc);
-    for pass in passes {
-        let node = Node::new(alloc, Arc::try_clone(&board)?, pass, &LIMITS);
-        nodes.push(Arc::new(alloc, Mutex::new(node))?)?;
-    }
+    let (board, nodes) = nodes_of::<B>(alloc, opened, &LIMITS)?;
     board.elect(&mut board.pass(), 0)?;
     if let Some(first) = nodes.first() {
         first.lock(rt).adopt()?;
     }
     Ok((board, nodes))
-}
-
-// Ends all workers.
-fn stop_all<B: BoardName, R: Threads + Wait, C: Carry<Parcel<B>> + Drop>(
-    rt: &R,
-    cluster: Cluster<B, C>,
-) {
-    let mut left = cluster;
-    for _ in rt.forever() {
-        match left.stop(rt) {
-            Ok(()) => return,
-            Err((again, _)) => left = again,
-        }
-        thread::yield_now();
-    }
-    unreachable!()
 }
 
 // Starts a worker for each of at most seven nodes; none are left where that is refused.
@@ -245,4 +224,67 @@ fn a_batch_comes_to_all_nodes(rt: HostRuntime) {
         let found = read_back::<Brand, HostRuntime>(&rt, alloc, board_of(&rt, alloc, 3), choices);
         assert_eq!(rt; found, Ok(true));
     }
+}
+
+// Two producers of ten batches each, and five elections.
+const PLAN: Plan = Plan {
+    producers: 2,
+    batches: 10,
+    moves: 5,
+};
+
+// What comes of a race of three nodes, where messages fare so.
+fn raced<
+    B: BoardName + Send + Sync + 'static,
+    R: Threads + Wait + Copy + Drop + Send + Sync + 'static,
+>(rt: &R, alloc: Global, opened: Opened, choices: &[Choice]) -> Result<Outcome, Refusal>
+    requires { opened ≡ B.table }
+{
+    let (board, nodes) = nodes_of::<B>(alloc, opened, &LIMITS)?;
+    let waiting = Arc::new(alloc, Waiting::new())?;
+    let watched = Watched::new(Channels::new(*rt, alloc, 3)?, Arc::try_clone(&waiting)?);
+    let choices = Vec::from_slice(alloc, choices)?;
+    let carrier = Rough::new(*rt, alloc, Arc::try_clone(&board)?, watched, choices);
+    let carrier = Arc::new(alloc, carrier)?;
+    let gate = Arc::new(alloc, Open)?;
+    run_race(rt, alloc, &*board, &nodes, &carrier, &*waiting, gate, &PLAN)
+}
+
+// They agree, and no more is acknowledged than was handed in, or stands.
+fn holds(outcome: &Outcome) -> bool {
+    outcome.agree
+        && outcome.receipts <= 20
+        && outcome.acknowledged <= outcome.receipts
+        && outcome.acknowledged <= outcome.committed
+}
+
+#[test]
+fn all_nodes_agree(rt: HostRuntime) {
+    let alloc = rt.alloc();
+    for choices in FARES {
+        let found = raced::<Brand, HostRuntime>(&rt, alloc, board_of(&rt, alloc, 3), choices);
+        let Ok(outcome) = found else {
+            panic!(&rt; "a refused race");
+        };
+        assert!(rt; holds(&outcome));
+    }
+}
+
+// Without an election, one node acknowledges all.
+#[test]
+fn one_node_acknowledges_all(rt: HostRuntime) {
+    let plan = Plan {
+        producers: 1,
+        batches: 3,
+        moves: 0,
+    };
+    let wanted = Outcome {
+        nodes: 1,
+        receipts: 3,
+        acknowledged: 3,
+        committed: 3,
+        agree: true,
+    };
+    let found = race_over_channels(&rt, rt.alloc(), 1, &plan);
+    assert_eq!(rt; found, Ok(wanted));
 }

@@ -1,4 +1,4 @@
-use Rattle.std.proofs.Common.{◌≡◌, ◌+◌, ◌<◌, ◌≤◌, IfOk, IfErr, OnOk, OnErr, vec_len, ℕ, ◌-◌, ◌*◌, length}
+use Rattle.std.proofs.Common.{◌≡◌}
 use Rattle.kp_cluster.proofs.cluster.start_on.Given as goal
 
 abbrev pub invariant-loop-node : goal.invariant-loop-node

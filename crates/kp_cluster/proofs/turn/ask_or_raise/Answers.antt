@@ -1,4 +1,4 @@
-use Rattle.std.proofs.Common.{rules, of_calls, ◌≡◌, refl, sym, subst, Err}
+use Rattle.std.proofs.Common.{of_calls, subst, Err}
 use Rattle.kp_types.specs.declared.refusal.Refusal.{Refusal}
 use Rattle.kp_types.specs.declared.refusal.Refusal.TheVariants.{NotLeader}
 use Rattle.kp_model.specs.Event.{Ask, Refused}

@@ -1,4 +1,4 @@
-use Rattle.std.proofs.Common.{rules, of_calls, ◌≡◌, refl, sym, subst, Err}
+use Rattle.std.proofs.Common.{of_calls}
 use Rattle.kp_cluster.proofs.turn.take_turn.Goals as goal
 
 pub returns-in_err-bring_up : goal.returns-in_err-bring_up
