@@ -146,6 +146,17 @@ impl<B: BoardName> Board<B> {
         self.table.shared.load::<Looks>(&mut pass.seat, 0)
     }
 
+    // The word of the record that is then the one shown, and that record.
+    fn found(&self, pass: &mut Pass<B>) -> (u64, LeaderAndIsr)
+        ensures shown { pass.new ≡ record pass.old { shown = record_of result.1 } }
+        ensures later { pass.old.shown.version ≤ (record_of result.1).version }
+        ensures of_run { ShowsLastRecord pass.new }
+        ensures word { result.0 ≡ packed (record_of result.1) }
+    {
+        let word = self.look(pass);
+        (word, record_of_word(word))
+    }
+
     /// The controller's record, which is then the one shown: some run has all that the pass shows, and this is its last record.
     /// Its version is not below the one shown before. One load, without memory or waiting. (Own rule.)
     pub fn record(&self, pass: &mut Pass<B>) -> LeaderAndIsr
@@ -153,8 +164,8 @@ impl<B: BoardName> Board<B> {
         ensures later { pass.old.shown.version ≤ (record_of result).version }
         ensures of_run { ShowsLastRecord pass.new }
     {
-        let word = self.look(pass);
-        record_of_word(word)
+        let found = self.found(pass);
+        found.1
     }
 
     /// A watermark that this node had in the run, which is then the one shown for it, not below the one before. The pass has then
@@ -201,9 +212,9 @@ impl<B: BoardName> Board<B> {
         ensures later { pass.old.shown.version ≤ pass.new.shown.version }
         ensures pass { OnErr result ((pass.new ≡ record pass.old { shown = pass.new.shown }) × ShowsLastRecord pass.new) }
     {
-        let shown = self.record(pass);
-        let next = shown.elected(node)?;
-        if self.exchange::<Brand>(pass, node, shown.pack(), next.pack()) {
+        let shown = self.found(pass);
+        let next = shown.1.elected(node)?;
+        if self.exchange::<Brand>(pass, node, shown.0, next.pack()) {
             Ok(next)
         } else {
             Err(Refusal::StaleRecord)

@@ -28,23 +28,23 @@ handed_on (Err e) f P h p = subst P (sym h) p
 pub returns-in_err-next-clause-refused : goal.returns-in_err-next-clause-refused
 returns-in_err-next-clause-refused g c =
     let old = c.args.pass.now in
-    let now = c.record-shown.new.pass in
+    let now = c.found-shown.new.pass in
     let node = c.args.node in
-    let r = c.record-shown.ensures in
+    let r = c.found-shown.ensures in
     let f = c.in_err-next.field-0.0 in
-    let same : now.shown ≡ record_of c.record-shown.result = ap (λ (x : CallerView). x.shown) r.shown in
-    let cause : elect_cause now.shown node ≡ Some f = ap (λ (s : LeaderAndIsr). elect_cause s node) same ∙ refused_by (elect_cause (record_of c.record-shown.result) node) f c.in_err-next.ensures.refused in
+    let same : now.shown ≡ record_of c.found-shown.result.1 = ap (λ (x : CallerView). x.shown) r.shown in
+    let cause : elect_cause now.shown node ≡ Some f = ap (λ (s : LeaderAndIsr). elect_cause s node) same ∙ refused_by (elect_cause (record_of c.found-shown.result.1) node) f c.in_err-next.ensures.refused in
     handed_on c.from_residual.result f _ c.from_residual.ensures.1 (inr cause)
 
 pub returns-then-exchange-clause-elected : goal.returns-then-exchange-clause-elected
 returns-then-exchange-clause-elected g c =
     let old = c.args.pass.now in
-    let now = c.record-shown.new.pass in
-    let r = c.record-shown.ensures in
+    let now = c.found-shown.new.pass in
+    let r = c.found-shown.ensures in
     let e = c.if-exchange.ensures in
     let node = c.args.node in
-    let same : now.shown ≡ record_of c.record-shown.result = ap (λ (x : CallerView). x.shown) r.shown in
-    let free : elect_cause (record_of c.record-shown.result) node ≡ None = free_of (elect_cause (record_of c.record-shown.result) node) c.in_ok-next.next c.in_ok-next.ensures.refused in
+    let same : now.shown ≡ record_of c.found-shown.result.1 = ap (λ (x : CallerView). x.shown) r.shown in
+    let free : elect_cause (record_of c.found-shown.result.1) node ≡ None = free_of (elect_cause (record_of c.found-shown.result.1) node) c.in_ok-next.next c.in_ok-next.ensures.refused in
     let next : record_of c.in_ok-next.next ≡ elected now.shown node = c.in_ok-next.ensures.elected ∙ ap (λ (s : LeaderAndIsr). elected s node) (sym same) in (
       now.shown,
       subst (λ (s : LeaderAndIsr). old.shown.version ≤ s.version) (sym same) r.later,
@@ -57,11 +57,11 @@ returns-then-exchange-clause-elected g c =
 pub returns-else-exchange-clause-refused : goal.returns-else-exchange-clause-refused
 returns-else-exchange-clause-refused g c =
     let old = c.args.pass.now in
-    let now = c.record-shown.new.pass in
-    let r = c.record-shown.ensures in
+    let now = c.found-shown.new.pass in
+    let r = c.found-shown.ensures in
     let node = c.args.node in
-    let same : now.shown ≡ record_of c.record-shown.result = ap (λ (x : CallerView). x.shown) r.shown in
-    let free : elect_cause (record_of c.record-shown.result) node ≡ None = free_of (elect_cause (record_of c.record-shown.result) node) c.in_ok-next.next c.in_ok-next.ensures.refused in
+    let same : now.shown ≡ record_of c.found-shown.result.1 = ap (λ (x : CallerView). x.shown) r.shown in
+    let free : elect_cause (record_of c.found-shown.result.1) node ≡ None = free_of (elect_cause (record_of c.found-shown.result.1) node) c.in_ok-next.next c.in_ok-next.ensures.refused in
     inl (
       refl,
       record {

@@ -1,7 +1,8 @@
 use Rattle.std.proofs.Common.{◌≤◌, sym, subst, ◌∙◌}
 use Rattle.kp_model.specs.World.{LeaderAndIsr}
+use Rattle.kp_control.specs.Word.{packed}
 use Rattle.kp_board.specs.Rule.{ShowsLastRecord}
-use Rattle.kp_board.proofs.board.Board.record.Goals as goal
+use Rattle.kp_board.proofs.board.Board.found.Goals as goal
 
 pub record_of_word-requires : goal.record_of_word-requires
 record_of_word-requires g c = let l = c.look-word.ensures in (l.0, l.1.is)
@@ -20,3 +21,9 @@ returns-clause-later g c =
 
 pub returns-clause-of_run : goal.returns-clause-of_run
 returns-clause-of_run g c = let l = c.look-word.ensures in subst ShowsLastRecord (sym l.2) l.3
+
+pub returns-clause-word : goal.returns-clause-word
+returns-clause-word g c =
+    let l = c.look-word.ensures in
+    let same = c.record_of_word.ensures l.0 l.1.is in
+    sym l.1.is.word_is ∙ (λ i. packed (sym same i))
