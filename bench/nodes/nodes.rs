@@ -20,6 +20,8 @@ mod log;
 mod node;
 #[path = "../shared/pairs.rs"]
 mod pairs;
+#[path = "../plain/record.rs"]
+mod record;
 #[path = "../plain/segments.rs"]
 mod segments;
 #[path = "../plain/senders.rs"]

@@ -55,6 +55,26 @@ impl Record {
         }
     }
 
+    /// The record as one word, for the nodes that threads share.
+    #[allow(dead_code)]
+    pub fn pack(&self) -> u64 {
+        let leader = self.leader.map_or(15, |leader| leader as u64);
+        let epoch = (self.epoch + 1) as u64;
+        leader << 60 | u64::from(self.isr) << 52 | epoch << 28 | self.version
+    }
+
+    /// The record whose word this is.
+    #[allow(dead_code)]
+    pub fn unpack(word: u64) -> Record {
+        let leader = (word >> 60) as usize;
+        Record {
+            leader: (leader < 7).then_some(leader),
+            epoch: (word >> 28 & 0xff_ffff) as i32 - 1,
+            isr: (word >> 52 & 0xff) as u8,
+            version: word & 0xfff_ffff,
+        }
+    }
+
     pub fn print(&self, out: &mut Vec<u8>) {
         let leader = self.leader.expect("an elected leader");
         push(out, "record leader ", leader as u64);

@@ -10,5 +10,5 @@ mod worker;
 
 pub use cluster::{Cluster, start, start_on};
 pub use gate::{Gate, Open};
-pub use turn::take_turn;
+pub use turn::{bring_up, take_turn};
 pub use worker::{Done, handle, worker_step};

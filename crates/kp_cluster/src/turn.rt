@@ -7,8 +7,8 @@ use kp_board::{BoardName, Message};
 use kp_node::Node;
 use kp_types::Refusal;
 
-// F28 says that it is up already.
-fn bring_up<B: BoardName>(node: &mut Node<B>) -> Result<(), Refusal>
+/// The node restarts if it is down: by `Node::restart`, whose F28 says that it is up, and no fault. (Own rule.)
+pub fn bring_up<B: BoardName>(node: &mut Node<B>) -> Result<(), Refusal>
     ensures { BringsUp node.old node.new result }
 {
     match node.restart() {

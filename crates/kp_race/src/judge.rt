@@ -1,10 +1,11 @@
 //! What the nodes say once their workers have ended.
 
-ghost use Rattle.std.specs.Prelude.{◌≤◌, IfOk, length, vec_len};
+ghost use Rattle.std.specs.Prelude.{◌≡◌, ◌≤◌, IfOk, length, vec_len};
 
 use crate::outcome::Outcome;
 use crate::racer::{Reached, Shared};
 use kp_board::{Board, BoardName, Pass};
+use kp_cluster::bring_up;
 use kp_node::{Ack, Node};
 use kp_replica::Receipt;
 use kp_types::{Epoch, NodeId, Offset, Refusal};
@@ -135,6 +136,14 @@ fn counted<B: BoardName, R: Wait>(
     Ok((receipts, acknowledged))
 }
 
+// A node that a refused growth brought down is started again, so that it can be asked. F33.
+fn bring_all_up<B: BoardName, R: Wait>(rt: &R, nodes: &Vec<Shared<B>>) -> Result<(), Refusal> {
+    for node in nodes {
+        bring_up(&mut node.lock(rt))?;
+    }
+    Ok(())
+}
+
 /// Asks the nodes, whose workers have ended.
 pub(crate) fn judge<B: BoardName, R: Wait>(
     rt: &R,
@@ -143,8 +152,10 @@ pub(crate) fn judge<B: BoardName, R: Wait>(
     nodes: &Vec<Shared<B>>,
     reached: Vec<Reached<B>>,
 ) -> Result<Outcome, Refusal>
-    ensures { IfOk result (λ o. o.acknowledged ≤ o.receipts) }
+    ensures nodes { IfOk result (λ o. o.nodes ≡ board.now) }
+    ensures acknowledged { IfOk result (λ o. o.acknowledged ≤ o.receipts) }
 {
+    bring_all_up(rt, nodes)?;
     let (receipts, acknowledged) = counted(rt, nodes, reached)?;
     let mut pass = board.pass();
     let committed = greatest_watermark(board, &mut pass);

@@ -1,6 +1,6 @@
 //! A race over channels, of nodes of its own.
 
-ghost use Rattle.std.specs.Prelude.{◌≡◌, ◌≤◌, IfOk};
+ghost use Rattle.std.specs.Prelude.{◌≡◌, ◌≤◌, ◌+◌, ◌*◌, IfOk};
 ghost use Rattle.kp_model.specs.World.{most_nodes};
 
 use crate::outcome::{Outcome, Plan};
@@ -25,8 +25,10 @@ fn race_named<
     B: BoardName + Send + Sync + 'static,
     R: Threads + Wait + Copy + Drop + Send + Sync + 'static,
 >(rt: &R, alloc: Global, opened: Opened, nodes: NodeId, plan: &Plan) -> Result<Outcome, Refusal>
-    requires { opened ≡ B.table }
-    ensures { IfOk result (λ o. o.acknowledged ≤ o.receipts) }
+    requires opened { opened ≡ B.table }
+    requires nodes { opened.words ≡ 2 * nodes + 1 }
+    ensures nodes { IfOk result (λ o. o.nodes ≡ nodes) }
+    ensures acknowledged { IfOk result (λ o. o.acknowledged ≤ o.receipts) }
 {
     let (board, all) = nodes_of::<B>(alloc, opened, &LIMITS)?;
     let waiting = Arc::new(alloc, Waiting::new())?;
@@ -44,7 +46,8 @@ pub fn race_over_channels<R: Threads + Wait + Copy + Drop + Send + Sync + 'stati
     plan: &Plan,
 ) -> Result<Outcome, Refusal>
     requires { nodes ≤ most_nodes }
-    ensures { IfOk result (λ o. o.acknowledged ≤ o.receipts) }
+    ensures nodes { IfOk result (λ o. o.nodes ≡ nodes) }
+    ensures acknowledged { IfOk result (λ o. o.acknowledged ≤ o.receipts) }
 {
     let opened = Opened::new(alloc, nodes)?;
     race_named::<Brand, R>(rt, alloc, opened, nodes, plan)

@@ -1,6 +1,6 @@
 //! A race from its start to what came of it.
 
-ghost use Rattle.std.specs.Prelude.{◌≡◌, ◌≤◌, IfOk};
+ghost use Rattle.std.specs.Prelude.{◌≡◌, ◌≤◌, ◌+◌, ◌*◌, IfOk};
 
 use crate::judge::judge;
 use crate::outcome::{Outcome, Plan};
@@ -28,6 +28,7 @@ pub fn nodes_of<B: BoardName>(
     limits: &Limits,
 ) -> Result<(Arc<Board<B>, Global>, Vec<Arc<Mutex<Node<B>>, Global>>), Refusal>
     requires { opened ≡ B.table }
+    ensures { IfOk result (λ r. 2 * r.0.value + 1 ≡ opened.words) }
 {
     let (board, passes) = Board::<B>::new(alloc, opened)?;
     let board = Arc::new(alloc, board)?;
@@ -111,6 +112,19 @@ fn run_all<B: BoardName + Send + Sync, C: Carry<Parcel<B>> + Sync, R: Threads + 
     Ok(thread::map_vec(field.rt, jobs, &|job: Job<B>| field.run(job))?)
 }
 
+// Room for a parcel at each place, while no worker takes one: so that each worker's end can be told even where no more memory is
+// found. F33.
+fn make_room<B: BoardName, C: Carry<Parcel<B>>>(
+    carrier: &C,
+    nodes: &Vec<Shared<B>>,
+) -> Result<(), Refusal> {
+    for (place, _node) in (0..NODE_PLACES as u8).zip(nodes) {
+        carrier.send(place, Parcel::Turn)?;
+        let _turn = carrier.receive(place);
+    }
+    Ok(())
+}
+
 // A worker for each node; none is left where that is refused.
 fn started<
     B: BoardName + Send + Sync + 'static,
@@ -131,6 +145,7 @@ fn started<
     if shares.len() > NODE_PLACES {
         return Err(Refusal::BadCount);
     }
+    make_room(&**carrier, nodes)?;
     match start(rt, alloc, shares, Arc::try_clone(carrier)?, gate) {
         Ok(cluster) => Ok(cluster),
         Err((cluster, refusal)) => {
@@ -143,8 +158,8 @@ fn started<
 /// Runs a race over these nodes, the board's, to its end. They have no worker before and none afterwards. Node 0 is elected and takes
 /// the record up; then each producer tries the nodes in turn, at most 100 times for a batch, and ends where none took it; meanwhile
 /// the leadership moves; last each node has 100 turns. The carrier counts into `waiting`, by which turns are paced, so that memory
-/// grows with the logs and not with the turns. F33; what the board and node 0 refuse at the election, and a node that is down at the
-/// end; F7 where there are more than seven nodes, which no board has. (Own rule.)
+/// grows with the logs and not with the turns. A node that is down at the end is started again, to be asked. F33; what the board and
+/// node 0 refuse at the election; F7 where there are more than seven nodes, which no board has. (Own rule.)
 pub fn run_race<
     B: BoardName + Send + Sync + 'static,
     R: Threads + Wait + Copy + Send + Sync + 'static,
@@ -160,7 +175,8 @@ pub fn run_race<
     gate: Arc<G, Global>,
     plan: &Plan,
 ) -> Result<Outcome, Refusal>
-    ensures { IfOk result (λ o. o.acknowledged ≤ o.receipts) }
+    ensures nodes { IfOk result (λ o. o.nodes ≡ board.now) }
+    ensures acknowledged { IfOk result (λ o. o.acknowledged ≤ o.receipts) }
 {
     let cluster = started(rt, alloc, nodes, carrier, gate)?;
     let field = Field {

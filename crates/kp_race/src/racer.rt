@@ -9,7 +9,7 @@ use kp_types::{NodeId, Refusal};
 use std::alloc::Global;
 use std::sync::{Arc, Mutex, Wait};
 
-// How often a producer tries to hand in one batch.
+// How often a producer tries to hand in one batch, and how many tries it has for each batch of its plan.
 const TRIES: u32 = 100;
 
 // How many parcels may be under way to a place before a thread that gives turns waits.
@@ -95,6 +95,51 @@ fn batch_of(speller: &mut Speller, number: u8, sequence: u16) -> Result<Handed, 
     speller.spell(&fields, &[record])
 }
 
+// What a try to hand in a batch came to.
+#[derive(Drop)]
+enum Tried {
+    // A node took it.
+    Took(Receipt),
+    // The leader lacks the batch before it, or has so many later ones that it doesn't know it any more.
+    OutOfOrder,
+    // None of so many tries found a leader.
+    NoLeader,
+}
+
+// A producer's batches: the receipt of each that was handed in, and which batch is next. That is the first without a receipt, or one
+// before it that a new leader lacks.
+#[derive(Drop)]
+struct HandedIn {
+    batches: u16,
+    receipts: Vec<Receipt>,
+    next: u16,
+    seeks: bool,
+}
+
+impl HandedIn {
+    // A node took the next batch. F33.
+    fn took(&mut self, receipt: Receipt) -> Result<(), Refusal> {
+        match self.receipts.get_mut(usize::from(self.next)) {
+            Some(former) => *former = receipt,
+            None => self.receipts.push(receipt)?,
+        }
+        self.next = self.next.saturating_add(1);
+        self.seeks = false;
+        Ok(())
+    }
+
+    // Seeks the batch behind the leader's last one: from the first without a receipt down, one a try.
+    fn seek(&mut self) {
+        let last = self.batches.saturating_sub(1);
+        let front = last.min(u16::try_from(self.receipts.len()).unwrap_or(last));
+        self.next = match self.next.checked_sub(1) {
+            Some(before) if self.seeks || self.next == front => before,
+            _ => front,
+        };
+        self.seeks = true;
+    }
+}
+
 impl<B: BoardName, C: Carry<Parcel<B>>, R: Wait> Field<'_, B, C, R> {
     // It is each node's turn. Waits for a while where much is under way.
     fn turn(&self) -> Result<(), Refusal> {
@@ -103,13 +148,13 @@ impl<B: BoardName, C: Carry<Parcel<B>>, R: Wait> Field<'_, B, C, R> {
         Ok(())
     }
 
-    // Tries the nodes in turn, from the one that took the last batch on. None where none of so many tries took it.
+    // Tries the nodes in turn, from the one that took the last batch on. F33.
     fn produce_one(
         &self,
         pass: &mut Pass<B>,
         at: &mut usize,
         bytes: &Handed,
-    ) -> Result<Option<Receipt>, Refusal> {
+    ) -> Result<Tried, Refusal> {
         for _ in 0..TRIES {
             let Some(node) = self.nodes.get(*at) else {
                 *at = 0;
@@ -118,30 +163,35 @@ impl<B: BoardName, C: Carry<Parcel<B>>, R: Wait> Field<'_, B, C, R> {
             let tried = node.lock(self.rt).produce(pass, bytes.share()?);
             self.turn()?;
             match tried {
-                Ok(receipt) => return Ok(Some(receipt)),
+                Ok(receipt) => return Ok(Tried::Took(receipt)),
+                Err(Refusal::OutOfOrderSequence) => return Ok(Tried::OutOfOrder),
                 Err(Refusal::Memory) => return Err(Refusal::Memory),
                 Err(_) => {
                     *at = at.saturating_add(1);
                 }
             }
         }
-        Ok(None)
+        Ok(Tried::NoLeader)
     }
 
+    // Hands all batches in, in their order, and again those that a new leader lacks.
     fn produce_all(
         &self,
         pass: &mut Pass<B>,
-        receipts: &mut Vec<Receipt>,
+        handed: &mut HandedIn,
         number: u8,
-        batches: u16,
     ) -> Result<(), Refusal> {
         let mut speller = Speller::new(self.alloc);
         let mut at = 0;
-        for sequence in 0..batches {
-            let bytes = batch_of(&mut speller, number, sequence)?;
+        for _ in 0..TRIES * u32::from(handed.batches) {
+            if handed.next >= handed.batches {
+                return Ok(());
+            }
+            let bytes = batch_of(&mut speller, number, handed.next)?;
             match self.produce_one(pass, &mut at, &bytes)? {
-                Some(receipt) => receipts.push(receipt)?,
-                None => return Ok(()),
+                Tried::Took(receipt) => handed.took(receipt)?,
+                Tried::OutOfOrder => handed.seek(),
+                Tried::NoLeader => return Ok(()),
             }
         }
         Ok(())
@@ -162,14 +212,26 @@ impl<B: BoardName, C: Carry<Parcel<B>>, R: Wait> Field<'_, B, C, R> {
     }
 
     pub(crate) fn run(&self, job: Job<B>) -> Reached<B> {
-        let mut receipts = Vec::new(self.alloc);
+        let receipts = Vec::new(self.alloc);
         match job {
             Job::Produce {
                 number,
                 batches,
                 mut pass,
             } => {
-                let ended = self.produce_all(&mut pass, &mut receipts, number, batches);
+                let mut handed = HandedIn {
+                    batches,
+                    receipts,
+                    next: 0,
+                    seeks: false,
+                };
+                let ended = self.produce_all(&mut pass, &mut handed, number);
+                let HandedIn {
+                    batches: _,
+                    receipts,
+                    next: _,
+                    seeks: _,
+                } = handed;
                 Reached {
                     pass,
                     receipts,
