@@ -55,6 +55,7 @@ DUMPS["inspect made_example.log --segment 1024 --interval 100"] = \
 VALUE, UNKNOWN, MISSING = "ValueValidation", "UnknownArgument", "MissingRequiredArgument"
 
 RUN, INSPECT = "run [OPTIONS] <FILE>", "inspect [OPTIONS] <FILE>"
+RACE = "race --nodes <N> --producers <P> --batches <B> --moves <M>"
 NUMBER, TOO_LARGE, EMPTY = ("invalid digit found in string", "number too large to fit in target type",
                             "cannot parse integer from empty string")
 
@@ -66,6 +67,7 @@ Usage: kpart <COMMAND>
 Commands:
   run      Runs a script and prints its trace
   inspect  Reads a log and prints its batches, segments and tables
+  race     Runs nodes, producers and elections in threads, and prints whether all nodes agree
   help     Print this message or the help of the given subcommand(s)
 
 Options:
@@ -97,6 +99,18 @@ Options:
       --interval <I>  the bytes between two entries of an index [default: 4096]
   -h, --help          Print help
 """
+HELP_RACE = """\
+Runs nodes, producers and elections in threads, and prints whether all nodes agree
+
+Usage: kpart race --nodes <N> --producers <P> --batches <B> --moves <M>
+
+Options:
+      --nodes <N>      how many nodes, from 1 to 7
+      --producers <P>  how many producers, from 1 to 8
+      --batches <B>    how many batches of one record by each producer, from 0 to 10000
+      --moves <M>      how many elections meanwhile, from 0 to 1000
+  -h, --help           Print help
+"""
 VERSION = "kpart 0.1.0\n"
 
 
@@ -118,9 +132,14 @@ def invalid(word, option, why):
     return mistake(f"invalid value '{word}' for '--{option}': {why}")
 
 
+def not_provided(*options):
+    """A race without these options."""
+    return mistake("the following required arguments were not provided:" + "".join(f"\n  {it}" for it in options), RACE)
+
+
 # Words that are no call, the kind that clap gives their refusal, and its text.
 NO_CALL = {f"kpart{' ' if words else ''}{words}": (kind, text) for words, kind, text in (
-    ("", "MissingSubcommand", mistake("'kpart' requires a subcommand but one was not provided\n  [subcommands: run, inspect, help]", "<COMMAND>")),
+    ("", "MissingSubcommand", mistake("'kpart' requires a subcommand but one was not provided\n  [subcommands: run, inspect, race, help]", "<COMMAND>")),
     ("walk x.script", "InvalidSubcommand", mistake("unrecognized subcommand 'walk'", "<COMMAND>")),
     ("run", MISSING, mistake("the following required arguments were not provided:\n  <FILE>", "run <FILE>")),
     ("run a b", UNKNOWN, unexpected("b", RUN)),
@@ -157,6 +176,20 @@ NO_CALL = {f"kpart{' ' if words else ''}{words}": (kind, text) for words, kind, 
     ("inspect --segment 1024", MISSING, mistake("the following required arguments were not provided:\n  <FILE>", "inspect --segment <S> <FILE>")),
     ("run x --segment 1024", UNKNOWN, unexpected("--segment", "run <FILE>")),
     ("--segment 1024 inspect x", UNKNOWN, unexpected("--segment", "<COMMAND>", "'inspect --segment' exists")),
+    ("race", MISSING, not_provided("--nodes <N>", "--producers <P>", "--batches <B>", "--moves <M>")),
+    ("race --nodes 3 --producers 2 --batches 1", MISSING, not_provided("--moves <M>")),
+    ("race --producers 2 --batches 1 --moves 0", MISSING, not_provided("--nodes <N>")),
+    ("race --help", "DisplayHelp", HELP_RACE),
+    ("help race", "DisplayHelp", HELP_RACE),
+    ("race --nodes 0 --producers 1 --batches 0 --moves 0", VALUE, invalid("0", "nodes <N>", "0 is not in 1..=7")),
+    ("race --nodes 8 --producers 1 --batches 0 --moves 0", VALUE, invalid("8", "nodes <N>", "8 is not in 1..=7")),
+    ("race --nodes 257 --producers 1 --batches 0 --moves 0", VALUE, invalid("257", "nodes <N>", "257 is not in 1..=7")),
+    ("race --nodes 1 --producers 0 --batches 0 --moves 0", VALUE, invalid("0", "producers <P>", "0 is not in 1..=8")),
+    ("race --nodes 1 --producers 9 --batches 0 --moves 0", VALUE, invalid("9", "producers <P>", "9 is not in 1..=8")),
+    ("race --nodes 1 --producers 1 --batches 10001 --moves 0", VALUE, invalid("10001", "batches <B>", "10001 is not in 0..=10000")),
+    ("race --nodes 1 --producers 1 --batches 0 --moves 1001", VALUE, invalid("1001", "moves <M>", "1001 is not in 0..=1000")),
+    ("race --nodes one --producers 1 --batches 0 --moves 0", VALUE, invalid("one", "nodes <N>", NUMBER)),
+    ("race x --nodes 1 --producers 1 --batches 0 --moves 0", UNKNOWN, unexpected("x", RACE)),
 )}
 
 # Calls whose file isn't there, and its path.
@@ -170,4 +203,19 @@ NO_FILE = {f"kpart {words}": path for words, path in (
 # Rows whose folder isn't empty
 NO_FOLDER = {f"kpart {words}": path for words, path in (
     ("run made_example_first.script --keep full", "full"),
+)}
+
+
+def outcome(nodes, receipts, acknowledged, committed, agree):
+    """The five lines of a race."""
+    return (f"nodes {nodes}\nreceipts {receipts}\nacknowledged {acknowledged}\ncommitted {committed}\n"
+            f"agree {agree}\n")
+
+
+# Races whose lines are the same in any schedule: of one node, and without a batch.
+RACES = {f"kpart race {words}": lines for words, lines in (
+    ("--nodes 1 --producers 1 --batches 3 --moves 0", outcome(1, 3, 3, 3, "yes")),
+    ("--nodes 1 --producers 2 --batches 5 --moves 4", outcome(1, 10, 10, 10, "yes")),
+    ("--moves=0 --batches=0 --producers=2 --nodes=3", outcome(3, 0, 0, 0, "yes")),
+    ("--nodes +7 --producers 8 --batches 00 --moves 1", outcome(7, 0, 0, 0, "yes")),
 )}

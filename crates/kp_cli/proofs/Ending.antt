@@ -1,5 +1,5 @@
 -- What a run and an inspection have written.
-use Rattle.std.proofs.Common.{◌≡◌, ℕ, List, [], ◌++◌, Option, None, Some, IfSome, Result, Ok, Err, inl, inr, ◌+◌, zero, suc, arith, nat_lt, sym, refl, ap, subst}
+use Rattle.std.proofs.Common.{◌≡◌, ◌⊎◌, ◌≤◌, IsSomeAnd, ℕ, List, [], ◌++◌, Option, None, Some, IfSome, Result, Ok, Err, inl, inr, ◌+◌, zero, suc, arith, nat_lt, sym, refl, ap, subst}
 use Rattle.std.proofs.lemmas.Bool.{lt-ltb}
 use mir.Val.{bool_byte}
 use Rattle.std.proofs.KnownBytes.{Keeps-refl}
@@ -13,14 +13,18 @@ use Rattle.kp_types.specs.declared.refusal.Refusal.{Refusal}
 use Rattle.kp_types.specs.declared.refusal.Refusal.TheVariants as refusals
 use Rattle.kp_types.specs.declared.limits.Limits.{Limits}
 use Rattle.kp_types.specs.Devices.{CountsFault, CountsOne, IsDeviceFault, device_of, faults_of}
-use Rattle.kp_types.specs.Folders.{Entry}
 use Rattle.kp_inspect.specs.Inspected.{WritesFront}
-use Rattle.kp_cli.specs.Line.{path_of}
-use Rattle.kp_cli.specs.Perform.{Complains, CountsOneOfThree, Inspects, Performs, RunsKeeping, RunsScript, status_of}
-use Rattle.kp_cli.specs.Program.{Around, EndsCall, EndsKeeping, IsLeft, Known}
-use Rattle.kp_cli.specs.Told.{reason_of}
-use Rattle.kp_cli.specs.declared.call.Call.{Call}
+use Rattle.clap.specs.Words.{IsUnsignedIn, Row, Text}
+use Rattle.std.specs.Str.Parse.{digits_value, without_leading_plus}
+use Rattle.kp_race.specs.declared.outcome.Outcome.{Outcome}
+use Rattle.kp_race.specs.declared.outcome.Plan.{Plan}
+use Rattle.kp_types.specs.Folders.{Entry}
 use Rattle.kp_cli.specs.declared.fault.Fault.{Fault}
+use Rattle.kp_cli.specs.Line.{IsCallOf, file_of, keep_of}
+use Rattle.kp_cli.specs.Program.{Around, Asks, Ends, EndsAsked, EndsOpened, EndsUnopened, Known}
+use Rattle.kp_cli.specs.declared.call.Call.{Call}
+use Rattle.kp_cli.specs.declared.call.Call.TheVariants.{Race}
+use Rattle.kp_cli.specs.Perform.{CountsOneOfThree, Inspects, RunsScript, status_of}
 
 pub inspects_front : (limits : Limits) (input old new : Option (List ℕ)) (refusal : Refusal) → IsDeviceFault refusal → WritesFront limits input old new
     → Inspects limits input old new (Err refusal)
@@ -59,17 +63,31 @@ kept_counted refusals.Device only read read_new written written_new put put_new 
 kept_counted refusals.Memory only read read_new written written_new put put_new same counted = inl (same, counted)
 kept_counted _ only read read_new written written_new put put_new same counted = absurd only
 
-abbrev pub known_of : {F K W E : Type 0} → (F → List ℕ → Result (Unit {0}) Fault → F → Type 0) → (F → Option (List ℕ)) → (F → Fault)
-    → (K → List ℕ → Result (Unit {0}) Fault → K → Type 0) → (K → Option (List Entry)) → (K → Fault) → (W → Option (List ℕ)) → (E → Option (List ℕ)) → Known F K W E
-known_of opens remaining file_fault takes entries folder_fault held told = record {
+-- a number that a word gives is within its bounds
+number_most : (found : Option Text) (least greatest number : ℕ)
+    → IsSomeAnd found (λ text. IsUnsignedIn least greatest text × (digits_value 10 (without_leading_plus text) ≡ number)) → number ≤ greatest
+number_most None least greatest number has = absurd has
+number_most (Some text) least greatest number has = subst (λ (n : ℕ). n ≤ greatest) has.1 has.0.3
+
+-- a race that the words ask for has no more nodes than there may be
+pub may_race : (asked : Option (Text × List Row)) (call : Call) (may : ℕ → Plan → Type 0) → IsCallOf asked call
+    → ((nodes : ℕ) (plan : Plan) → nodes ≤ 7 → may nodes plan) → (nodes : ℕ) (plan : Plan) → call ≡ Race nodes plan → may nodes plan
+may_race asked call may asks each nodes plan is =
+    go asked (subst (λ (x : Call). IsCallOf asked x) is asks)
+  where
+    go : (entered : Option (Text × List Row)) → IsCallOf entered (Race nodes plan) → may nodes plan
+    go None asks = absurd asks
+    go (Some entered) asks = each nodes plan (number_most _ 1 7 nodes asks.1.0)
+
+abbrev pub known_of : {F K W E : Type 0} → (F → List ℕ → Result (Unit {0}) Fault → F → Type 0) → (K → List ℕ → Result (Unit {0}) Fault → K → Type 0)
+    → (ℕ → Plan → Result Outcome Refusal → Type 0) → (F → Option (List ℕ)) → (F → Fault) → (K → Option (List Entry)) → (K → Fault) → (W → Option (List ℕ))
+    → (E → Option (List ℕ)) → Known F K W E
+known_of opens takes races remaining file_fault entries folder_fault held told = record {
   opens = opens;
-  remaining = remaining;
-  file_fault = file_fault;
   takes = takes;
-  entries = entries;
-  folder_fault = folder_fault;
-  held = held;
-  told = told;
+  races = races;
+  streams = record { remaining = remaining; file_fault = file_fault; held = held; told = told };
+  shelf = record { entries = entries; folder_fault = folder_fault };
 }
 
 abbrev pub around_of : {F K W E : Type 0} → F → Counted F → K → Counted K → (out out_left : Counted W) → (err err_left : Counted E) → Around F K W E
@@ -84,59 +102,7 @@ around_of file file_left folder folder_left out out_left err err_left = record {
   err_left = err_left;
 }
 
--- what a call leaves whose counts begin at none
-pub ends_call : {F K W E : Type 0} (known : Known F K W E) (call : Call) (around : Around F K W E) (status : ℕ) (opened : F) (reader : Counted F)
-    → device_of reader ≡ opened → faults_of reader ≡ 0 → known.opens around.file (path_of call) (Ok tt) opened → IsLeft around.folder around.folder_left
-    → ((outcome : Result ℕ Refusal)
-    × Performs call (known.remaining (device_of reader)) (known.held (device_of around.out)) (known.held (device_of around.out_left)) outcome
-    × CountsOne outcome (faults_of reader) (faults_of around.file_left) (faults_of around.out) (faults_of around.out_left)
-    × Complains known.told around.err around.err_left outcome (reason_of known.file_fault (path_of call) (faults_of reader) around.file_left)
-    × (status ≡ status_of outcome))
-    → EndsCall known call around status
-ends_call known call around status opened reader is_file no_fault opens same (outcome, performs, counted, complains, status_is) =
-    record {
-      opened = opened;
-      opens = opens;
-      folder_same = same;
-      outcome = outcome;
-      performs =
-          subst (λ (f : _). Performs call (known.remaining f) (known.held (device_of around.out)) (known.held (device_of around.out_left)) outcome) is_file performs;
-      counted = subst (λ (n : ℕ). CountsOne outcome n (faults_of around.file_left) (faults_of around.out) (faults_of around.out_left)) no_fault counted;
-      complains =
-          subst (λ (n : ℕ). Complains known.told around.err around.err_left outcome (reason_of known.file_fault (path_of call) n around.file_left)) no_fault
-          complains;
-      status_is = status_is;
-    }
-
--- and a run whose logs are kept
-pub ends_keeping : {F K W E : Type 0} (known : Known F K W E) (call : Call) (keep : List ℕ) (around : Around F K W E) (status : ℕ) (opened : F) (taken : K)
-    (reader : Counted F) (put : Counted K) (file : List ℕ)
-    → device_of reader ≡ opened → faults_of reader ≡ 0 → device_of put ≡ taken → faults_of put ≡ 0 → file ≡ path_of call
-    → known.opens around.file (path_of call) (Ok tt) opened → known.takes around.folder keep (Ok tt) taken → IfSome (known.entries taken) (λ all. all ≡ [])
-    → ((outcome : Result ℕ Refusal)
-    × RunsKeeping (known.remaining (device_of reader)) (known.held (device_of around.out)) (known.held (device_of around.out_left)) (known.entries (device_of put)) (known.entries (device_of around.folder_left)) outcome
-    × CountsOneOfThree outcome (faults_of reader) (faults_of around.file_left) (faults_of around.out) (faults_of around.out_left) (faults_of put) (faults_of around.folder_left)
-    × Complains known.told around.err around.err_left outcome
-    (reason_of known.file_fault file (faults_of reader) around.file_left ++ reason_of known.folder_fault keep (faults_of put) around.folder_left)
-    × (status ≡ status_of outcome))
-    → EndsKeeping known call keep around status
-ends_keeping known call keep around status opened taken reader put file is_file no_fault is_folder none_there is_path opens takes empty (outcome, runs, counted, complains, status_is) =
-    record {
-      opened = opened;
-      opens = opens;
-      taken = taken;
-      takes = takes;
-      empty = empty;
-      outcome = outcome;
-      runs =
-          subst (λ (f : _). RunsKeeping (known.remaining f) (known.held (device_of around.out)) (known.held (device_of around.out_left)) (known.entries taken) (known.entries (device_of around.folder_left)) outcome) is_file
-          (subst (λ (k : _). RunsKeeping (known.remaining (device_of reader)) (known.held (device_of around.out)) (known.held (device_of around.out_left)) (known.entries k) (known.entries (device_of around.folder_left)) outcome) is_folder runs);
-      counted =
-          subst (λ (n : ℕ). CountsOneOfThree outcome n (faults_of around.file_left) (faults_of around.out) (faults_of around.out_left) 0 (faults_of around.folder_left)) no_fault
-          (subst (λ (n : ℕ). CountsOneOfThree outcome (faults_of reader) (faults_of around.file_left) (faults_of around.out) (faults_of around.out_left) n (faults_of around.folder_left)) none_there counted);
-      complains =
-          subst (λ (p : List ℕ). Complains known.told around.err around.err_left outcome (reason_of known.file_fault p 0 around.file_left ++ reason_of known.folder_fault keep 0 around.folder_left)) is_path
-          (subst (λ (n : ℕ). Complains known.told around.err around.err_left outcome (reason_of known.file_fault file n around.file_left ++ reason_of known.folder_fault keep 0 around.folder_left)) no_fault
-          (subst (λ (n : ℕ). Complains known.told around.err around.err_left outcome (reason_of known.file_fault file (faults_of reader) around.file_left ++ reason_of known.folder_fault keep n around.folder_left)) none_there complains));
-      status_is = status_is;
-    }
+-- what a call that reads a file leaves is what it leaves
+pub read_call : {F K W E : Type 0} (known : Known F K W E) (call : Call) (path : List ℕ) (around : Around F K W E) (status : ℕ) → Some path ≡ file_of call
+    → EndsUnopened known path around status ⊎ EndsOpened known call path (keep_of call) around status → Ends known (Asks call) around status
+read_call known call path around status is ends = subst (λ (p : Option (List ℕ)). EndsAsked known call p around status) is ends

@@ -8,9 +8,8 @@ use Rattle.kp_types.specs.Devices.{AppendsFront, CountsFault, IsBegun, IsOut, Te
 use Rattle.kp_types.specs.declared.refusal.Refusal.{Refusal}
 use Rattle.kp_types.specs.declared.refusal.Refusal.TheVariants as refusals
 use Rattle.kp_cli.specs.Faults.{refusal_of}
-use Rattle.kp_cli.specs.Perform.{status_of_refusal}
-use Rattle.kp_cli.specs.Program.{Explains, Helps, words_complaint, words_status}
-use Rattle.kp_cli.specs.Told.{complaint, escaped, is_plain, reason_of, reason, shown_byte, shown_bytes}
+use Rattle.kp_cli.specs.Program.{Explains, words_complaint, words_status}
+use Rattle.kp_cli.specs.Told.{Prints, complaint, escaped, is_plain, reason_of, reason, shown_byte, shown_bytes, status_of_refusal}
 use Rattle.kp_cli.specs.declared.fault.Fault.{Fault}
 use Rattle.kp_cli.specs.declared.fault.Fault.TheVariants as faults
 
@@ -75,12 +74,12 @@ pub tells : {T X Y : Type 0} (contents : T → Option (List ℕ)) (a b : Counted
 tells contents a b text (Ok x) out begun = inl out
 tells contents a b text (Err y) out begun = inr begun
 
--- help, or the version, of which a beginning is out
-pub help_failed : {W E : Type 0} (held : W → Option (List ℕ)) (told : E → Option (List ℕ)) (text bytes : List ℕ) (out out_new : Counted W) (err err_new : Counted E)
+-- a text of which a beginning is out
+pub print_failed : {W E : Type 0} (held : W → Option (List ℕ)) (told : E → Option (List ℕ)) (text bytes : List ℕ) (wanted : ℕ) (out out_new : Counted W) (err err_new : Counted E)
     (refusal : Refusal) (status : ℕ) → bytes ≡ text → refusal ≡ refusals.Device
     → AppendsFront (held (device_of out)) (held (device_of out_new)) bytes → CountsFault refusal (faults_of out) (faults_of out_new)
-    → Tells told err err_new (complaint refusal) → status ≡ status_of_refusal refusal → Helps held told text out out_new err err_new status
-help_failed held told text bytes out out_new err err_new refusal status same device front counted complains is =
+    → Tells told err err_new (complaint refusal) → status ≡ status_of_refusal refusal → Prints held told text wanted out out_new err err_new status
+print_failed held told text bytes wanted out out_new err err_new refusal status same device front counted complains is =
     inr (
       (
         subst (AppendsFront (held (device_of out)) (held (device_of out_new))) same front,
@@ -92,9 +91,15 @@ help_failed held told text bytes out out_new err err_new refusal status same dev
 
 -- what help and the version leave is what their kinds do
 pub helps : {W E : Type 0} (held : W → Option (List ℕ)) (told : E → Option (List ℕ)) (kind : ErrorKind) (text : List ℕ) (out out_new : Counted W) (err err_new : Counted E)
-    (status : ℕ) → (kind ≡ kinds.DisplayHelp) ⊎ (kind ≡ kinds.DisplayVersion) → Helps held told text out out_new err err_new status
+    (status : ℕ) → (kind ≡ kinds.DisplayHelp) ⊎ (kind ≡ kinds.DisplayVersion) → Prints held told text 0 out out_new err err_new status
     → Explains held told kind text out out_new err err_new status
 helps held told kind text out out_new err err_new status (inl is) said =
     subst (λ (k : ErrorKind). Explains held told k text out out_new err err_new status) (sym is) said
 helps held told kind text out out_new err err_new status (inr is) said =
     subst (λ (k : ErrorKind). Explains held told k text out out_new err err_new status) (sym is) said
+
+-- a text, piece by piece
+pub by_pieces : (P : List ℕ → Type 0) (a b c d e f g h i j a2 b2 c2 d2 e2 f2 g2 h2 i2 j2 : List ℕ) → a ≡ a2 → b ≡ b2 → c ≡ c2 → d ≡ d2 → e ≡ e2 → f ≡ f2 → g ≡ g2 → h ≡ h2 → i ≡ i2 → j ≡ j2
+    → P (a ++ (b ++ (c ++ (d ++ (e ++ (f ++ (g ++ (h ++ (i ++ (j ++ ([]))))))))))) → P (a2 ++ (b2 ++ (c2 ++ (d2 ++ (e2 ++ (f2 ++ (g2 ++ (h2 ++ (i2 ++ (j2))))))))))
+by_pieces P a b c d e f g h i j a2 b2 c2 d2 e2 f2 g2 h2 i2 j2 is-a is-b is-c is-d is-e is-f is-g is-h is-i is-j holds =
+    subst P (λ at. is-a at ++ (is-b at ++ (is-c at ++ (is-d at ++ (is-e at ++ (is-f at ++ (is-g at ++ (is-h at ++ (is-i at ++ ((append-nil j ∙ is-j) at)))))))))) holds

@@ -1,10 +1,11 @@
 -- Where nothing refuses the words, they name a call.
 use Rattle.std.proofs.Common.{◌≡◌, ◌∙◌, ◌||◌, ℕ, Bool, cond, true, false, not, refl, sym, List, [], ◌∷◌, length, Option, Some, None, IsSomeAnd, codes, inl, inr, true≢false}
-use Rattle.std.specs.List.{find, fold, slice_index_or}
+use Rattle.std.specs.List.{find, fold, list_any, slice_index_or}
 use Rattle.std.specs.Option.{is_some, option_map, option_map_or}
 use Rattle.std.specs.Prelude.{option_and_then, slice_get}
 use Rattle.std.specs.Str.{bytes_eq}
 use Rattle.std.proofs.lemmas.Bool.Decides.{Decides-like, same_from_decides}
+use Rattle.std.proofs.lemmas.Bool.{false≢true}
 use Rattle.std.proofs.lemmas.Slice.Eq.{bytes_eq-Decides}
 use Rattle.clap.specs.Facts.{explicit_source}
 use Rattle.clap.specs.Takes.{is_given}
@@ -17,7 +18,7 @@ use Rattle.clap.specs.Walk.{Names, Row, Rule, Text, Walk, finished, has_row, not
 use Rattle.clap.specs.declared.builder.value_parser.ValueParser.TheVariants.{Unsigned}
 use Rattle.clap.specs.declared.parser.matches.ValueSource.TheVariants.{CommandLine, DefaultValue}
 use Rattle.clap.proofs.ValueTestLemmas.{accepts-Accepts}
-use Rattle.kp_cli.specs.Line.{HasFile, HasNumber, NamesCall, file_rule, kpart}
+use Rattle.kp_cli.specs.Line.{HasFile, HasNumber, NamesCall, NamesRace, file_rule, kpart}
 use Rattle.kp_cli.proofs.Aside.{StopsAside, walk_aside}
 use Rattle.kp_cli.proofs.Filled.{EachRule, Filled, FillsByDefault, FillsItself, first_empty, found_filled, level_checked, level_filled, next_empty, refuses}
 use Rattle.kp_cli.proofs.Suits.{HasOne, Suits, given_suits, row_by_default, row_stays, text_there, used_suits, values_passed}
@@ -166,6 +167,103 @@ inspect_has_interval words e =
     (level_filled (Suits interval) inspect_shape interval_uses interval_defaults words e)
     (has_interval (settled inspect_shape.rules (walk inspect_shape.rules [] nothing_held words).held).rows))
 
+-- ---- `race`
+
+abbrev race_shape : Shape
+race_shape = slice_index_or (built kpart).subs 2 kpart.top
+
+abbrev nodes : Rule
+nodes = slice_index_or race_shape.rules 0 file_rule
+
+abbrev producers : Rule
+producers = slice_index_or race_shape.rules 1 file_rule
+
+abbrev batches : Rule
+batches = slice_index_or race_shape.rules 2 file_rule
+
+abbrev moves : Rule
+moves = slice_index_or race_shape.rules 3 file_rule
+
+nodes_uses : EachRule (FillsItself (Suits nodes) false) race_shape.rules
+nodes_uses = (
+  takes_one nodes nodes (λ e. refl),
+  (
+    takes_one nodes producers (λ e. absurd cc),
+    (takes_one nodes batches (λ e. absurd cc), (takes_one nodes moves (λ e. absurd cc), ((λ values rows e filled. filled), tt))),
+  ),
+)
+
+producers_uses : EachRule (FillsItself (Suits producers) false) race_shape.rules
+producers_uses = (
+  takes_one producers nodes (λ e. absurd cc),
+  (
+    takes_one producers producers (λ e. refl),
+    (takes_one producers batches (λ e. absurd cc), (takes_one producers moves (λ e. absurd cc), ((λ values rows e filled. filled), tt))),
+  ),
+)
+
+batches_uses : EachRule (FillsItself (Suits batches) false) race_shape.rules
+batches_uses = (
+  takes_one batches nodes (λ e. absurd cc),
+  (
+    takes_one batches producers (λ e. absurd cc),
+    (takes_one batches batches (λ e. refl), (takes_one batches moves (λ e. absurd cc), ((λ values rows e filled. filled), tt))),
+  ),
+)
+
+moves_uses : EachRule (FillsItself (Suits moves) false) race_shape.rules
+moves_uses = (
+  takes_one moves nodes (λ e. absurd cc),
+  (
+    takes_one moves producers (λ e. absurd cc),
+    (takes_one moves batches (λ e. absurd cc), (takes_one moves moves (λ e. refl), ((λ values rows e filled. filled), tt))),
+  ),
+)
+
+-- no rule of a race has a default
+no_defaults : (P : Row → Type 0) → EachRule (FillsByDefault P) race_shape.rules
+no_defaults P = (
+  (λ rows filled. filled),
+  ((λ rows filled. filled), ((λ rows filled. filled), ((λ rows filled. filled), ((λ rows filled. filled), tt)))),
+)
+
+-- what was given has a row
+row_given : (id : Text) (rows : List Row) → is_given id rows ≡ true → has_row id rows ≡ true
+row_given id [] e = absurd (false≢true e)
+row_given id (r ∷ rows) e = go (bytes_eq r.id id) e (row_given id rows)
+  where
+    go : (b : Bool) → option_map_or (λ r. explicit_source r.source) (cond b (Some r) (find (λ r. bytes_eq r.id id) rows)) false ≡ true
+        → (is_given id rows ≡ true → has_row id rows ≡ true) → (b || has_row id rows) ≡ true
+    go true h later = refl
+    go false h later = later h
+
+-- all four are given
+all_given : (a b c d : Bool) → check_kinds false false (not a || (not b || (not c || (not d || false)))) ≡ []
+    → (a ≡ true) × (b ≡ true) × (c ≡ true) × (d ≡ true)
+all_given true true true true e = (refl, refl, refl, refl)
+all_given false b c d e = refuses _ _ _ e
+all_given true false c d e = refuses _ _ _ e
+all_given true true false d e = refuses _ _ _ e
+all_given true true true false e = refuses _ _ _ e
+
+race_is_there : (words : List Text) → level_fault race_shape [] nothing_held words false [] ≡ [] → NamesRace (rows_after race_shape.rules [] words)
+race_is_there words e =
+    let rows : List Row = rows_after race_shape.rules [] words in
+    let given =
+    all_given (is_given (codes "nodes") rows) (is_given (codes "producers") rows) (is_given (codes "batches") rows) (is_given (codes "moves") rows)
+    (level_checked race_shape words e) in (
+      number_there _ 1 7 (text_there nodes refl rows (level_filled (Suits nodes) race_shape nodes_uses (no_defaults (Suits nodes)) words e)
+          (row_given (codes "nodes") rows given.0)),
+      number_there _ 1 8 (text_there producers refl rows
+          (level_filled (Suits producers) race_shape producers_uses (no_defaults (Suits producers)) words e)
+          (row_given (codes "producers") rows given.1)),
+      number_there _ 0 10000 (text_there batches refl rows
+          (level_filled (Suits batches) race_shape batches_uses (no_defaults (Suits batches)) words e)
+          (row_given (codes "batches") rows given.2)),
+      number_there _ 0 1000 (text_there moves refl rows (level_filled (Suits moves) race_shape moves_uses (no_defaults (Suits moves)) words e)
+          (row_given (codes "moves") rows given.3)),
+    )
+
 -- ---- the whole command
 
 is_used : (rows : List Row) (has : Bool) → check_fault (built kpart).top rows has ≡ [] → has ≡ true
@@ -173,28 +271,32 @@ is_used rows true e = refl
 is_used rows false e = refuses _ _ _ e
 
 abbrev help_shape : Shape
-help_shape = slice_index_or (built kpart).subs 2 kpart.top
+help_shape = slice_index_or (built kpart).subs 3 kpart.top
 
 swapped : (xs ys : Text) → bytes_eq xs ys ≡ bytes_eq ys xs
 swapped xs ys = same_from_decides _ _ (bytes_eq-Decides xs ys) (Decides-like _ sym sym (bytes_eq-Decides ys xs))
 
--- the subcommand of which the tests say that it is `run`, `inspect` or `help`
-abbrev chosen : Bool → Bool → Bool → Option Shape
-chosen b d h = cond (b || false) (Some run_shape) (cond (d || false) (Some inspect_shape) (cond (h || false) (Some help_shape) None))
+-- the subcommand of which the tests say that it is `run`, `inspect`, `race` or `help`
+abbrev chosen : (run inspect race help : Bool) → Option Shape
+chosen b d r h =
+    cond (b || false) (Some run_shape)
+    (cond (d || false) (Some inspect_shape) (cond (r || false) (Some race_shape) (cond (h || false) (Some help_shape) None)))
 
 answered : (stop : Option (Text × List Text)) → StopsAside stop → is_some (entered (built kpart) stop) ≡ true
     → entered_fault (built kpart) stop ≡ [] → NamesCall (entered (built kpart) stop)
 answered None aside has e = absurd (true≢false (sym has))
 answered (Some p) aside has e =
-    go (bytes_eq (codes "run") p.0) (bytes_eq (codes "inspect") p.0) (bytes_eq (codes "help") p.0) (swapped (codes "help") p.0 ∙ aside) has e
+    go (bytes_eq (codes "run") p.0) (bytes_eq (codes "inspect") p.0) (bytes_eq (codes "race") p.0) (bytes_eq (codes "help") p.0)
+    (swapped (codes "help") p.0 ∙ aside) has e
   where
-    go : (b d h : Bool) → h ≡ false → is_some (option_map (λ s. rows_at s p.1) (chosen b d h)) ≡ true
-        → option_map_or (λ s. level_fault s [] nothing_held p.1 false []) (chosen b d h) [] ≡ []
-        → NamesCall (option_map (λ s. rows_at s p.1) (chosen b d h))
-    go true d h n some f = inl (refl, run_has_file p.1 f)
-    go false true h n some f = inr (refl, inspect_has_file p.1 f, inspect_has_segment p.1 f, inspect_has_interval p.1 f)
-    go false false true n some f = absurd (true≢false n)
-    go false false false n some f = absurd (true≢false (sym some))
+    go : (b d r h : Bool) → h ≡ false → is_some (option_map (λ s. rows_at s p.1) (chosen b d r h)) ≡ true
+        → option_map_or (λ s. level_fault s [] nothing_held p.1 false []) (chosen b d r h) [] ≡ []
+        → NamesCall (option_map (λ s. rows_at s p.1) (chosen b d r h))
+    go true d r h n some f = inl (refl, run_has_file p.1 f)
+    go false true r h n some f = inr (inl (refl, inspect_has_file p.1 f, inspect_has_segment p.1 f, inspect_has_interval p.1 f))
+    go false false true h n some f = inr (inr (refl, race_is_there p.1 f))
+    go false false false true n some f = absurd (true≢false n)
+    go false false false false n some f = absurd (true≢false (sym some))
 
 pub taken : (words : List Text) → fault_of kpart words ≡ [] → NamesCall (subcommand_of kpart words)
 taken words e =

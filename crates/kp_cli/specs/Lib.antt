@@ -2,4 +2,5 @@ pub mod Faults
 pub mod Line
 pub mod Perform
 pub mod Program
+pub mod Raced
 pub mod Told

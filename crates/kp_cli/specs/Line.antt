@@ -5,7 +5,8 @@ use Rattle.std.specs.Str.Parse.{digits_value, without_leading_plus}
 use Rattle.clap.specs.Words.{App, IsUnsignedIn, Row, Rule, Text, first_of, new_app, new_rule, one_of, with_rule, with_subcommand}
 use Rattle.clap.specs.declared.builder.value_parser.ValueParser.TheVariants.{Unsigned}
 use Rattle.kp_cli.specs.declared.call.Call.{Call}
-use Rattle.kp_cli.specs.declared.call.Call.TheVariants.{Inspect, Run}
+use Rattle.kp_cli.specs.declared.call.Call.TheVariants.{Inspect, Race, Run}
+use Rattle.kp_race.specs.declared.outcome.Plan.{Plan}
 
 -- the path of a file, a required word
 abbrev pub file_rule : Rule
@@ -40,17 +41,41 @@ interval_rule = number_rule (codes "interval") 0 1048576 (codes "4096")
 abbrev pub inspect_app : App
 inspect_app = with_rule (with_rule (with_rule (new_app (codes "inspect")) file_rule) segment_rule) interval_rule
 
+-- `--NAME NUMBER`, a number from `least` to `greatest` that has to be given
+abbrev pub race_rule : (name : Text) → (least greatest : ℕ) → Rule
+race_rule name least greatest = record (new_rule name) {
+  long = Some name;
+  value_names = 1;
+  parser = Some (Unsigned least greatest);
+  required = true;
+}
+
+-- `race --nodes N --producers P --batches B --moves M`
+abbrev pub race_app : App
+race_app =
+    with_rule
+    (with_rule
+    (with_rule
+    (with_rule (new_app (codes "race")) (race_rule (codes "nodes") 1 7))
+    (race_rule (codes "producers") 1 8))
+    (race_rule (codes "batches") 0 10000))
+    (race_rule (codes "moves") 0 1000)
+
 -- `kpart`, of which a subcommand has to be used; it can be asked for its version
 abbrev pub kpart_app : App
 kpart_app =
     let app = new_app (codes "kpart") in
     record app { top = record app.top { subcommand_required = true; has_version = true } }
 
--- the whole command line
-abbrev pub kpart : App
-kpart = with_subcommand
+-- with the subcommands that read a file
+abbrev pub kpart_reading : App
+kpart_reading = with_subcommand
     (with_subcommand kpart_app run_app.top)
     inspect_app.top
+
+-- the whole command line
+abbrev pub kpart : App
+kpart = with_subcommand kpart_reading race_app.top
 
 -- the text of this name is a decimal numeral from `least` to `greatest`
 abbrev pub HasNumber : (name : Text) → (least greatest : ℕ) → List Row → Type 0
@@ -60,6 +85,15 @@ HasNumber name least greatest rows = IsSomeAnd (one_of name rows) (IsUnsignedIn 
 abbrev pub HasTheNumber : (name : Text) → (least greatest : ℕ) → List Row → ℕ → Type 0
 HasTheNumber name least greatest rows number = IsSomeAnd (one_of name rows) (λ text.
     IsUnsignedIn least greatest text × (digits_value 10 (without_leading_plus text) ≡ number))
+
+-- the call is the race that these matches are
+abbrev pub IsRaceOf : List Row → Call → Type 0
+IsRaceOf rows (Race nodes plan) =
+    HasTheNumber (codes "nodes") 1 7 rows nodes
+    × HasTheNumber (codes "producers") 1 8 rows plan.producers
+    × HasTheNumber (codes "batches") 0 10000 rows plan.batches
+    × HasTheNumber (codes "moves") 0 1000 rows plan.moves
+IsRaceOf rows _ = ⊥
 
 -- the call is the one that the used subcommand and its matches are
 abbrev pub IsCallOf : Option (Text × List Row) → Call → Type 0
@@ -71,25 +105,36 @@ IsCallOf (Some entered) (Inspect file segment_bytes index_interval) =
     (entered.0 ≡ codes "inspect") × (first_of (codes "FILE") entered.1 ≡ Some (string_bytes file))
     × HasTheNumber (codes "segment") 1024 1073741824 entered.1 segment_bytes
     × HasTheNumber (codes "interval") 0 1048576 entered.1 index_interval
+IsCallOf (Some entered) (Race nodes plan) = (entered.0 ≡ codes "race") × IsRaceOf entered.1 (Race nodes plan)
 
 -- the matches have a file
 abbrev pub HasFile : List Row → Type 0
 HasFile rows = is_some (first_of (codes "FILE") rows) ≡ true
 
+-- the matches are a race
+abbrev pub NamesRace : List Row → Type 0
+NamesRace rows =
+    HasNumber (codes "nodes") 1 7 rows
+    × HasNumber (codes "producers") 1 8 rows
+    × HasNumber (codes "batches") 0 10000 rows
+    × HasNumber (codes "moves") 0 1000 rows
+
 -- the used subcommand and its matches are a call
 abbrev pub NamesCall : Option (Text × List Row) → Type 0
 NamesCall None = ⊥
 NamesCall (Some entered) = ((entered.0 ≡ codes "run") × HasFile entered.1)
-    ⊎ ((entered.0 ≡ codes "inspect") × HasFile entered.1
+    ⊎ (((entered.0 ≡ codes "inspect") × HasFile entered.1
     × HasNumber (codes "segment") 1024 1073741824 entered.1
     × HasNumber (codes "interval") 0 1048576 entered.1)
+    ⊎ ((entered.0 ≡ codes "race") × NamesRace entered.1))
 
--- the path of the file that a call reads
-abbrev pub path_of : Call → List ℕ
-path_of (Run file keep) = string_bytes file
-path_of (Inspect file segment_bytes index_interval) = string_bytes file
+-- the path of the file that a call reads, if it reads one
+abbrev pub file_of : Call → Option (List ℕ)
+file_of (Run file keep) = Some (string_bytes file)
+file_of (Inspect file segment_bytes index_interval) = Some (string_bytes file)
+file_of (Race nodes plan) = None
 
 -- the path of the folder that the logs of its run are kept in, if they are
 abbrev pub keep_of : Call → Option (List ℕ)
 keep_of (Run file keep) = option_map string_bytes keep
-keep_of (Inspect file segment_bytes index_interval) = None
+keep_of _ = None

@@ -1,10 +1,10 @@
 -- What the program does once its command line is read.
-use Rattle.std.specs.Prelude.{◌⊎◌, ◌+◌, ◌++◌, ℕ, zero, suc, List, [], Option, Some, None, Result, Ok, Err, IfSome, ◌≡◌}
+use Rattle.std.specs.Prelude.{◌⊎◌, ◌+◌, ◌++◌, ℕ, zero, suc, List, [], Option, Some, None, Result, Ok, Err, IfSome, ◌≡◌, string_bytes}
 use Rattle.std.specs.Io.KnownBytes.{Keeps}
 use Rattle.kp_types.specs.declared.refusal.Refusal.{Refusal}
 use Rattle.kp_types.specs.declared.refusal.Refusal.TheVariants as refusals
 use Rattle.kp_types.specs.declared.limits.Limits.{Limits}
-use Rattle.kp_types.specs.Devices.{CountsOne, IsDeviceFault, Tells}
+use Rattle.kp_types.specs.Devices.{CountsOne, IsDeviceFault, Tells, device_of, faults_of}
 use Rattle.kp_types.specs.Folders.{Entry, Puts}
 use Rattle.kp_types.specs.declared.counted.Counted.{Counted}
 use Rattle.kp_script.specs.Ended.{RunEnd, WritesTo}
@@ -12,9 +12,13 @@ use Rattle.kp_script.specs.Kept.{KeepsLogs, KeepsLogsFront}
 use Rattle.kp_script.specs.Script.{IsFaultAt}
 use Rattle.kp_script.specs.Transcript.{largest_batch, Writes, WritesFirst, WritesFront}
 use Rattle.kp_inspect.specs.Inspected.{Writes as WritesDump, WritesFront as WritesDumpFront}
-use Rattle.kp_cli.specs.Told.{complaint}
+use Rattle.kp_race.specs.declared.outcome.Outcome.{Outcome}
+use Rattle.kp_race.specs.declared.outcome.Plan.{Plan}
+use Rattle.kp_cli.specs.Raced.{EndsRace}
+use Rattle.kp_cli.specs.Told.{complaint, reason_of, status_of_refusal}
 use Rattle.kp_cli.specs.declared.call.Call.{Call}
-use Rattle.kp_cli.specs.declared.call.Call.TheVariants.{Run, Inspect}
+use Rattle.kp_cli.specs.declared.call.Call.TheVariants.{Run, Inspect, Race}
+use Rattle.kp_cli.specs.declared.fault.Fault.{Fault}
 
 -- What running a script leaves on standard output, where the input is known: with an answer the trace, with a
 -- fault of the script nothing, a beginning of the trace where a device failed, and where a growth was refused the lines of
@@ -59,25 +63,66 @@ Inspects limits input old new (Err refusals.Device) = WritesDumpFront limits inp
 Inspects limits input old new (Err refusals.Memory) = WritesDumpFront limits input old new
 Inspects limits input old new (Err _) = ⊥
 
--- what the call leaves on standard output, with how many events were refused or faults were found
-abbrev pub Performs : Call → Option (List ℕ) → Option (List ℕ) → Option (List ℕ) → Result ℕ Refusal → Type 0
-Performs (Run file keep) input old new outcome = RunsScript input old new outcome
-Performs (Inspect file segment_bytes index_interval) input old new outcome =
-    Inspects (record { segment_bytes = segment_bytes; index_interval = index_interval; max_batch = largest_batch }) input old new outcome
-
 -- Nothing has happened to standard error without a refusal. With one its complaint is out, and this second line, or a call of
 -- standard error failed, and a beginning of them is.
 abbrev pub Complains : {E : Type 0} → (E → Option (List ℕ)) → (old new : Counted E) → Result ℕ Refusal → (second : List ℕ) → Type 0
 Complains contents old new (Ok refused) second = new ≡ old
 Complains contents old new (Err refusal) second = Tells contents old new (complaint refusal ++ second)
 
--- 2 for a fault of the script, and 1 else
-abbrev pub status_of_refusal : Refusal → ℕ
-status_of_refusal (refusals.BadScript line) = 2
-status_of_refusal _ = 1
-
 -- 0 where no event was refused and no fault was found, and 1 where one or more were
 abbrev pub status_of : Result ℕ Refusal → ℕ
 status_of (Ok zero) = 0
 status_of (Ok (suc refused)) = 1
 status_of (Err refusal) = status_of_refusal refusal
+
+-- what is known of a file and of the two outputs: what is left to read, why the last call of the file that failed did, and what
+-- stands on each output
+pub record Streams (F W E : Type 0) : Type 0 where
+  pub remaining : F → Option (List ℕ)
+  pub file_fault : F → Fault
+  pub held : W → Option (List ℕ)
+  pub told : E → Option (List ℕ)
+
+-- what is known of a folder: what stands in it, and why the last of its calls that failed did
+pub record Shelf (K : Type 0) : Type 0 where
+  pub entries : K → Option (List Entry)
+  pub folder_fault : K → Fault
+
+-- What a call leaves that reads the file at this path, by what it writes: that on standard output, and on standard error the
+-- refusal, if the whole call is refused, with the reason where the file failed.
+abbrev pub PerformsReading : {F W E : Type 0} → Streams F W E → (path : List ℕ)
+    → (Written : (input old new : Option (List ℕ)) → Result ℕ Refusal → Type 0)
+    → (file file_new : Counted F) → (out out_new : Counted W) → (err err_new : Counted E) → (status : ℕ) → Type 0
+PerformsReading streams path Written file file_new out out_new err err_new status =
+    (outcome : Result ℕ Refusal)
+    × Written (streams.remaining (device_of file)) (streams.held (device_of out)) (streams.held (device_of out_new)) outcome
+    × CountsOne outcome (faults_of file) (faults_of file_new) (faults_of out) (faults_of out_new)
+    × Complains streams.told err err_new outcome (reason_of streams.file_fault path (faults_of file) file_new)
+    × (status ≡ status_of outcome)
+
+-- What a call leaves, but for logs that it keeps: the trace of its script, the dump of its log, or the lines of its race, whatever
+-- that may answer. A race leaves the file alone.
+abbrev pub PerformsCall : {F W E : Type 0} → Streams F W E → (races : ℕ → Plan → Result Outcome Refusal → Type 0) → Call
+    → (file file_new : Counted F) → (out out_new : Counted W) → (err err_new : Counted E) → (status : ℕ) → Type 0
+PerformsCall streams races (Run path keep) file file_new out out_new err err_new status =
+    PerformsReading streams (string_bytes path) RunsScript file file_new out out_new err err_new status
+PerformsCall streams races (Inspect path segment_bytes index_interval) file file_new out out_new err err_new status =
+    PerformsReading streams (string_bytes path)
+    (Inspects (record { segment_bytes = segment_bytes; index_interval = index_interval; max_batch = largest_batch }))
+    file file_new out out_new err err_new status
+PerformsCall streams races (Race nodes plan) file file_new out out_new err err_new status =
+    (file_new ≡ file) × EndsRace streams.held streams.told (races nodes plan) out out_new err err_new status
+
+-- What a run leaves whose script is the file at this path, and whose logs are kept in the folder at that one.
+abbrev pub RunsAndKeeps : {F K W E : Type 0} → Streams F W E → Shelf K → (path keep : List ℕ)
+    → (file file_new : Counted F) → (folder folder_new : Counted K) → (out out_new : Counted W) → (err err_new : Counted E)
+    → (status : ℕ) → Type 0
+RunsAndKeeps streams shelf path keep file file_new folder folder_new out out_new err err_new status =
+    (outcome : Result ℕ Refusal)
+    × RunsKeeping (streams.remaining (device_of file)) (streams.held (device_of out)) (streams.held (device_of out_new))
+    (shelf.entries (device_of folder)) (shelf.entries (device_of folder_new)) outcome
+    × CountsOneOfThree outcome (faults_of file) (faults_of file_new) (faults_of out) (faults_of out_new)
+    (faults_of folder) (faults_of folder_new)
+    × Complains streams.told err err_new outcome
+    (reason_of streams.file_fault path (faults_of file) file_new ++ reason_of shelf.folder_fault keep (faults_of folder) folder_new)
+    × (status ≡ status_of outcome)

@@ -1,8 +1,9 @@
 -- What is said on standard error (own rule).
-use Rattle.std.specs.Prelude.{◌≡◌, ℕ, ◌+◌, ◌/◌, ◌%◌, ◌==◌, Bool, not, ◌&&◌, nat_lt, List, [], ◌∷◌, ◌++◌, take, length, codes, if◌then◌else◌}
+use Rattle.std.specs.Prelude.{◌≡◌, ◌⊎◌, ℕ, ◌+◌, ◌/◌, ◌%◌, ◌==◌, Bool, not, ◌&&◌, nat_lt, List, [], ◌∷◌, ◌++◌, Option, take, length, codes, if◌then◌else◌}
 use Rattle.kp_types.specs.declared.counted.Counted.{Counted}
 use Rattle.kp_types.specs.declared.refusal.Refusal.{Refusal}
-use Rattle.kp_types.specs.Devices.{device_of, faults_of}
+use Rattle.kp_types.specs.declared.refusal.Refusal.TheVariants as refusals
+use Rattle.kp_types.specs.Devices.{IsBegun, IsOut, Tells, device_of, faults_of}
 use Rattle.kp_types.specs.Texts.{refusal_text}
 use Rattle.kp_cli.specs.Faults.{fault_text, refusal_of}
 use Rattle.kp_cli.specs.declared.fault.Fault.{Fault}
@@ -38,6 +39,18 @@ shown path =
 -- what stands on standard error for a refusal
 abbrev pub complaint : Refusal → List ℕ
 complaint refusal = codes "kpart: " ++ (refusal_text refusal ++ codes "\n")
+
+-- the exit status for a refusal: 2 for a fault of the script, and 1 else
+abbrev pub status_of_refusal : Refusal → ℕ
+status_of_refusal (refusals.BadScript line) = 2
+status_of_refusal _ = 1
+
+-- A text on standard output, with this exit status. Where that failed a beginning of it stands there, F32 stands on standard error, and
+-- the exit status is 1.
+abbrev pub Prints : {W E : Type 0} → (W → Option (List ℕ)) → (E → Option (List ℕ)) → (text : List ℕ) → (wanted : ℕ) → (out out_new : Counted W) → (err err_new : Counted E) → ℕ → Type 0
+Prints held told text wanted out out_new err err_new status =
+    (IsOut held out out_new text × (err_new ≡ err) × (status ≡ wanted))
+    ⊎ (IsBegun held out out_new text × Tells told err err_new (complaint refusals.Device) × (status ≡ 1))
 
 -- a reason by itself
 abbrev pub lone_reason : Fault → List ℕ

@@ -2,7 +2,10 @@
 
 ghost use Rattle.std.specs.Prelude.{◌≡◌};
 ghost use Rattle.std.specs.Option.{option_map};
-ghost use Rattle.kp_cli.specs.Line.{keep_of, path_of};
+ghost use Rattle.kp_cli.specs.Line.{file_of, keep_of};
+
+use kp_race::Plan;
+use kp_types::NodeId;
 
 /// What the command line asks for.
 #[derive(Debug, Drop)]
@@ -23,15 +26,23 @@ pub enum Call {
         /// How many bytes lie between two entries of an index, up to 1,048,576.
         index_interval: u32,
     },
+    /// Run a race of nodes, producers and elections, each in a thread of its own, and print what came of it.
+    Race {
+        /// How many nodes there are, from 1 to 7.
+        nodes: NodeId,
+        /// From 1 to 8 producers, of 0 to 10,000 batches each, and 0 to 1,000 elections.
+        plan: Plan,
+    },
 }
 
 impl Call {
-    /// The path of the file that it reads, as it was written. O(1).
-    pub fn file(&self) -> &str
-        ensures { result.now ≡ path_of self.now }
+    /// The path of the file that it reads, as it was written; a race reads none. O(1).
+    pub fn file(&self) -> Option<&str>
+        ensures { option_map (λ path. path.now) result ≡ file_of self.now }
     {
         match self {
-            Call::Run { file, .. } | Call::Inspect { file, .. } => file.as_str(),
+            Call::Run { file, .. } | Call::Inspect { file, .. } => Some(file.as_str()),
+            Call::Race { .. } => None,
         }
     }
 

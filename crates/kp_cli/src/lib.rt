@@ -8,6 +8,7 @@ mod devices;
 mod fault;
 mod line;
 mod program;
+mod racing;
 mod running;
 mod telling;
 

@@ -5,14 +5,15 @@ ghost use Rattle.std.specs.Prelude.{map, string_bytes, true};
 ghost use Rattle.std.specs.Option.{option_map};
 ghost use Rattle.std.specs.Str.Parse.{IsNumeral, digits_value, without_leading_plus};
 ghost use Rattle.clap.specs.Words.{FailsBy, app_of, fault_of, first_of, found_of, one_of, rows_of, rule_of};
-ghost use Rattle.clap.specs.Words.{subcommand_of, subcommand_rows_of};
+ghost use Rattle.clap.specs.Words.{subcommand_of, subcommand_rows_of, with_rule};
 ghost use Rattle.clap.specs.declared.builder.command.Command.TheViews.{out-Command};
-ghost use Rattle.kp_cli.specs.Line.{IsCallOf, NamesCall, file_rule, inspect_app, interval_rule, keep_rule, kpart, run_app};
-ghost use Rattle.kp_cli.specs.Line.{segment_rule};
+ghost use Rattle.kp_cli.specs.Line.{IsCallOf, IsRaceOf, NamesCall, NamesRace, file_rule, inspect_app, interval_rule, keep_rule, kpart, kpart_reading};
+ghost use Rattle.kp_cli.specs.Line.{race_app, race_rule, run_app, segment_rule};
 
 use crate::Call;
 use clap::builder::ValueParser;
 use clap::{Arg, ArgMatches, Command, Error};
+use kp_race::Plan;
 use kp_types::{GREATEST_SEGMENT_BYTES, LEAST_SEGMENT_BYTES, MAX_INDEX_INTERVAL};
 use std::alloc::{AllocError, Global};
 use std::convert::AsStr;
@@ -64,6 +65,26 @@ fn keep_argument<'a>(alloc: Global) -> Arg<'a>
         .help("an empty folder, or a new one, to keep the nodes' logs in")
 }
 
+/// A number that has to be given.
+fn number_argument<'a>(
+    alloc: Global,
+    name: &'a str,
+    sign: &'a str,
+    least: u64,
+    greatest: u64,
+    help: &'a str,
+) -> Arg<'a>
+    ensures rule { rule_of result ≡ race_rule name.now least greatest }
+    ensures local { result.global ≡ false }
+{
+    Arg::new(alloc, name)
+        .long(name)
+        .value_name(sign)
+        .value_parser(ValueParser::unsigned(least, greatest))
+        .required(true)
+        .help(help)
+}
+
 fn run_command<'a>(alloc: Global) -> Result<Command<'a>, AllocError>
     ensures { IfOk result (λ command. (app_of command ≡ run_app)
         × ((out-Command command).has_globals ≡ false)) }
@@ -87,8 +108,46 @@ fn inspect_command<'a>(alloc: Global) -> Result<Command<'a>, AllocError>
     Ok(command)
 }
 
-fn whole_command<'a>(alloc: Global) -> Result<Command<'a>, AllocError>
-    ensures { IfOk result (λ command. app_of command ≡ kpart) }
+/// The command with one more argument, which is none of its subcommands'.
+fn with_argument<'a>(command: Command<'a>, argument: Arg<'a>) -> Result<Command<'a>, AllocError>
+    requires { argument.global ≡ false }
+    ensures rule { IfOk result (λ made. app_of made ≡ with_rule (app_of command.entry) (rule_of argument.entry)) }
+    ensures local { IfOk result (λ made. (out-Command command.entry).has_globals ≡ false → (out-Command made).has_globals ≡ false) }
+{
+    let made = command.arg(argument)?;
+    Ok(made)
+}
+
+fn race_command<'a>(alloc: Global) -> Result<Command<'a>, AllocError>
+    ensures { IfOk result (λ command. (app_of command ≡ race_app)
+        × ((out-Command command).has_globals ≡ false)) }
+{
+    let nodes = "how many nodes, from 1 to 7";
+    let producers = "how many producers, from 1 to 8";
+    let batches = "how many batches of one record by each producer, from 0 to 10000";
+    let moves = "how many elections meanwhile, from 0 to 1000";
+    let command = Command::new(alloc, "race").about(
+        "Runs nodes, producers and elections in threads, and prints whether all nodes agree",
+    );
+    let command = with_argument(command, number_argument(alloc, "nodes", "N", 1, 7, nodes))?;
+    let command = with_argument(
+        command,
+        number_argument(alloc, "producers", "P", 1, 8, producers),
+    )?;
+    let command = with_argument(
+        command,
+        number_argument(alloc, "batches", "B", 0, 10_000, batches),
+    )?;
+    let command = with_argument(
+        command,
+        number_argument(alloc, "moves", "M", 0, 1_000, moves),
+    )?;
+    Ok(command)
+}
+
+/// What reads a file.
+fn reading_command<'a>(alloc: Global) -> Result<Command<'a>, AllocError>
+    ensures { IfOk result (λ command. app_of command ≡ kpart_reading) }
 {
     let run = run_command(alloc)?;
     let inspect = inspect_command(alloc)?;
@@ -98,6 +157,15 @@ fn whole_command<'a>(alloc: Global) -> Result<Command<'a>, AllocError>
         .subcommand_required(true)
         .subcommand(run)?
         .subcommand(inspect)?;
+    Ok(command)
+}
+
+fn whole_command<'a>(alloc: Global) -> Result<Command<'a>, AllocError>
+    ensures { IfOk result (λ command. app_of command ≡ kpart) }
+{
+    let race = race_command(alloc)?;
+    let reading = reading_command(alloc)?;
+    let command = reading.subcommand(race)?;
     Ok(command)
 }
 
@@ -158,6 +226,21 @@ fn number_value(found: &ArgMatches<'_>, name: &str) -> u32
     }
 }
 
+/// The race that these matches are.
+fn race_in(found: &ArgMatches<'_>) -> Call
+    requires { NamesRace (rows_of (found_of found.now)) }
+    ensures { IsRaceOf (rows_of (found_of found.now)) result }
+{
+    Call::Race {
+        nodes: number_value(found, "nodes") as u8,
+        plan: Plan {
+            producers: number_value(found, "producers") as u8,
+            batches: number_value(found, "batches") as u16,
+            moves: number_value(found, "moves") as u16,
+        },
+    }
+}
+
 fn call_in(alloc: Global, matches: &ArgMatches<'_>) -> Result<Call, AllocError>
     requires { NamesCall (subcommand_rows_of matches.now) }
     ensures { IfOk result (IsCallOf (subcommand_rows_of matches.now)) }
@@ -165,6 +248,9 @@ fn call_in(alloc: Global, matches: &ArgMatches<'_>) -> Result<Call, AllocError>
     let Some((name, found)) = entered(matches) else {
         unreachable!();
     };
+    if name == "race" {
+        return Ok(race_in(found));
+    }
     let file = String::from_str(alloc, file_value(found))?;
     if name == "run" {
         let keep = keep_value(alloc, found)?;

@@ -1,16 +1,22 @@
 //! The whole program: from the words of the command line to the exit status.
 
-ghost use Rattle.std.specs.Prelude.{◌≡◌, ◌+◌, ◌<◌, ◌^◌, map, string_bytes};
+ghost use Rattle.std.specs.Prelude.{◌≡◌, ◌+◌, ◌<◌, ◌≤◌, ◌^◌, ℕ, map, string_bytes};
 ghost use Rattle.kp_types.specs.Devices.{faults_of};
+ghost use Rattle.kp_types.specs.declared.counted.Counted.{Counted as SomeCounted};
+ghost use Rattle.kp_race.specs.declared.outcome.Plan.{Plan as SomePlan};
+ghost use Rattle.kp_cli.specs.declared.call.Call.TheVariants.{Race};
+ghost use Rattle.kp_cli.specs.Perform.{PerformsCall};
 ghost use Rattle.kp_cli.specs.Program.{Asked, Ends, ExplainsBy, IsAsked, IsLeft};
 
+use crate::Call;
 use crate::devices::{KeptFolder, Source};
 use crate::fault::Fault;
 use crate::line::call_of;
 use crate::running::{perform, run_and_keep};
 use crate::telling::{refuse, refuse_path, refuse_words};
 use clap::error::ErrorKind;
-use kp_types::{Counted, Refusal};
+use kp_race::{Outcome, Plan};
+use kp_types::{Counted, NodeId, Refusal};
 use std::alloc::Global;
 use std::fmt::Display;
 use std::io::Write;
@@ -58,31 +64,36 @@ pub fn explain<D: Display, W: Write, E: Write>(
 }
 
 /// Does what the words ask for, of which the first is the program's name, with a file of which none is open and a folder of which none
-/// is taken. The exit status is that of [`perform`] for a call whose file is open, and of [`run_and_keep`] where its logs are kept
-/// besides; 1 where the file can't be opened or the folder not be taken, with a second line on standard error that says which one
-/// and why, before anything is read; that of [`explain`] where the words are no call; 2 where one isn't UTF-8; and 1
-/// where memory ran out before. Without a call that keeps logs, and before its file is open, the folder is left alone. Time and
-/// memory are those of the call.
-pub fn main_with<F: Source + Drop, K: KeptFolder + Drop, W: Write, E: Write>(
+/// is taken, and with what runs a race of at most seven nodes. The exit status is that of [`perform`] for a race and for a call whose
+/// file is open, and of [`run_and_keep`] where its logs are kept besides; 1 where the file can't be opened or the folder not be
+/// taken, with a second line on standard error that says which one and why, before anything is read; that of [`explain`] where
+/// the words are no call; 2 where one isn't UTF-8; and 1 where memory ran out before. Without a call that keeps logs, and before
+/// its file is open, the folder is left alone, and so is the file by a race. Time and memory are those of the call.
+pub fn main_with<
+    F: Source + Drop,
+    K: KeptFolder + Drop,
+    W: Write,
+    E: Write,
+    X: Fn(NodeId, Plan) -> Result<Outcome, Refusal>,
+>(
     alloc: Global,
     words: Result<Vec<String>, Fault>,
     file: F,
     folder: K,
+    races: &X,
     out: &mut Counted<W>,
     err: &mut Counted<E>,
 ) -> Left<F, K>
+    requires races { (nodes : ℕ) (plan : SomePlan) → nodes ≤ 7 → X.pre races.now nodes plan }
     requires writes { faults_of out.old + 1 < 2 ^ 64 }
     requires complaints { faults_of err.old + 1 < 2 ^ 64 }
     ensures { (asked : Asked) × IsAsked (λ all. map string_bytes all.items) words asked
         × Ends (record {
           opens = F.opens;
-          remaining = F.remaining;
-          file_fault = F.fault_is;
           takes = K.takes;
-          entries = K.entries;
-          folder_fault = K.fault_is;
-          held = W.contents;
-          told = E.contents;
+          races = X.post races.now;
+          streams = record { remaining = F.remaining; file_fault = F.fault_is; held = W.contents; told = E.contents };
+          shelf = record { entries = K.entries; folder_fault = K.fault_is };
         }) asked (record {
           file = file;
           file_left = result.file;
@@ -107,28 +118,58 @@ pub fn main_with<F: Source + Drop, K: KeptFolder + Drop, W: Write, E: Write>(
             return leave(status, file, folder);
         }
     };
-    if let Err(fault) = file.open(call.file()) {
-        return leave(refuse_path(err, call.file(), fault), file, folder);
-    }
-    let Some(path) = call.keep() else {
-        let mut file = Counted::new(file);
-        let status = perform(alloc, &call, &mut file, out, err);
-        return Left {
-            status,
-            file,
-            folder: Counted::new(folder),
-        };
+    let Some(path) = call.file() else {
+        return performed(alloc, &call, races, file, folder, out, err);
     };
-    if let Err(fault) = folder.take(path) {
+    if let Err(fault) = file.open(path) {
         return leave(refuse_path(err, path, fault), file, folder);
+    }
+    let Some(keep) = call.keep() else {
+        return performed(alloc, &call, races, file, folder, out, err);
+    };
+    if let Err(fault) = folder.take(keep) {
+        return leave(refuse_path(err, keep, fault), file, folder);
     }
     let mut file = Counted::new(file);
     let mut folder = Counted::new(folder);
-    let status = run_and_keep(alloc, call.file(), path, &mut file, &mut folder, out, err);
+    let status = run_and_keep(alloc, path, keep, &mut file, &mut folder, out, err);
     Left {
         status,
         file,
         folder,
+    }
+}
+
+/// Performs a call that keeps no logs, with its file, which is open where it reads one.
+fn performed<
+    F: Source + Drop,
+    K: KeptFolder + Drop,
+    W: Write,
+    E: Write,
+    X: Fn(NodeId, Plan) -> Result<Outcome, Refusal>,
+>(
+    alloc: Global,
+    call: &Call,
+    races: &X,
+    file: F,
+    folder: K,
+    out: &mut Counted<W>,
+    err: &mut Counted<E>,
+) -> Left<F, K>
+    requires races { (nodes : ℕ) (plan : SomePlan) → (call.now ≡ Race nodes plan) → X.pre races.now nodes plan }
+    requires writes { faults_of out.old + 1 < 2 ^ 64 }
+    requires complaints { faults_of err.old + 1 < 2 ^ 64 }
+    ensures folder { IsLeft folder result.folder }
+    ensures performed { (opened : SomeCounted F) × IsLeft file opened
+        × PerformsCall (record { remaining = F.remaining; file_fault = F.fault_is; held = W.contents; told = E.contents })
+        (X.post races.now) call.now opened result.file out.old out.new err.old err.new result.status }
+{
+    let mut file = Counted::new(file);
+    let status = perform(alloc, call, races, &mut file, out, err);
+    Left {
+        status,
+        file,
+        folder: Counted::new(folder),
     }
 }
 

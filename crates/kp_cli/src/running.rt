@@ -1,28 +1,26 @@
 //! What the command line asks for, done.
 
-ghost use Rattle.std.specs.Prelude.{◌≡◌, ◌+◌, ◌++◌, ◌<◌, ◌^◌, ℕ, Result};
-ghost use Rattle.kp_types.specs.Devices.{CountsOne, device_of, faults_of};
-ghost use Rattle.kp_types.specs.declared.refusal.Refusal.{Refusal as SomeRefusal};
-ghost use Rattle.kp_cli.specs.Line.{path_of};
-ghost use Rattle.kp_cli.specs.Perform.{Complains, CountsOneOfThree, Performs, RunsKeeping, status_of};
-ghost use Rattle.kp_cli.specs.Told.{reason_of};
+ghost use Rattle.std.specs.Prelude.{◌≡◌, ◌+◌, ◌<◌, ◌^◌, ℕ};
+ghost use Rattle.kp_types.specs.Devices.{faults_of};
+ghost use Rattle.kp_race.specs.declared.outcome.Plan.{Plan as SomePlan};
+ghost use Rattle.kp_cli.specs.declared.call.Call.TheVariants.{Race};
+ghost use Rattle.kp_cli.specs.Perform.{Inspects, PerformsCall, PerformsReading, RunsAndKeeps, RunsScript};
 
 use crate::Call;
 use crate::devices::Explained;
+use crate::racing::race_and_tell;
 use crate::telling::refuse_since;
 use kp_inspect::inspect;
+use kp_race::{Outcome, Plan};
 use kp_script::play_script;
-use kp_types::{Counted, Folder, Limits, MAX_BATCH};
+use kp_types::{Counted, Folder, Limits, MAX_BATCH, NodeId, Refusal};
 use std::alloc::Global;
 use std::io::{Read, Write};
 
-/// Does what the call asks for, but for keeping logs, with the opened file as the reader, and answers the exit status: 0 where no
-/// event was refused and no fault was found, 1 where one or more were and for F32 and F33, 2 for F31. The trace
-/// or the dump goes to standard output and a refusal of the whole call to standard error; with F31 nothing
-/// is on standard output. Takes time and memory proportional to the file and what is written of it.
-pub fn perform<R: Read + Explained, W: Write, E: Write>(
+/// Plays the script that the reader holds, of which this is the path, and answers the exit status.
+fn play<R: Read + Explained, W: Write, E: Write>(
     alloc: Global,
-    call: &Call,
+    path: &str,
     reader: &mut Counted<R>,
     out: &mut Counted<W>,
     err: &mut Counted<E>,
@@ -30,37 +28,82 @@ pub fn perform<R: Read + Explained, W: Write, E: Write>(
     requires reads { faults_of reader.old + 1 < 2 ^ 64 }
     requires writes { faults_of out.old + 1 < 2 ^ 64 }
     requires complaints { faults_of err.old + 1 < 2 ^ 64 }
-    ensures { (outcome : Result ℕ SomeRefusal)
-        × Performs call.now (R.remaining (device_of reader.old))
-        (W.contents (device_of out.old)) (W.contents (device_of out.new)) outcome
-        × CountsOne outcome (faults_of reader.old) (faults_of reader.new)
-        (faults_of out.old) (faults_of out.new)
-        × Complains E.contents err.old err.new outcome
-        (reason_of R.fault_is (path_of call.now) (faults_of reader.old) reader.new)
-        × result ≡ status_of outcome }
+    ensures { PerformsReading
+        (record { remaining = R.remaining; file_fault = R.fault_is; held = W.contents; told = E.contents })
+        path.now RunsScript reader.old reader.new out.old out.new err.old err.new result }
 {
     let faults = reader.faults();
+    match play_script(alloc, reader, out) {
+        Ok(ended) => u8::from(ended.refused() > 0),
+        Err(refusal) => refuse_since(err, refusal, path, reader, faults),
+    }
+}
+
+/// Inspects the log that the reader holds, of which this is the path, and answers the exit status.
+fn dump<R: Read + Explained, W: Write, E: Write>(
+    alloc: Global,
+    path: &str,
+    limits: &Limits,
+    reader: &mut Counted<R>,
+    out: &mut Counted<W>,
+    err: &mut Counted<E>,
+) -> u8
+    requires reads { faults_of reader.old + 1 < 2 ^ 64 }
+    requires writes { faults_of out.old + 1 < 2 ^ 64 }
+    requires complaints { faults_of err.old + 1 < 2 ^ 64 }
+    ensures { PerformsReading
+        (record { remaining = R.remaining; file_fault = R.fault_is; held = W.contents; told = E.contents })
+        path.now (Inspects limits.now) reader.old reader.new out.old out.new err.old err.new result }
+{
+    let faults = reader.faults();
+    match inspect(alloc, reader, out, limits) {
+        Ok(None) => 0,
+        Ok(Some(_)) => 1,
+        Err(refusal) => refuse_since(err, refusal, path, reader, faults),
+    }
+}
+
+/// Does what the call asks for, but for keeping logs, with the opened file as the reader, and answers the exit status: 0 where no
+/// event was refused, no fault was found and all nodes of a race agree, 1 where one or more were, where they don't, and for F32, F33
+/// and a refused race, 2 for F31. The trace, the dump or a race's lines go to standard output and a refusal of the whole call to standard
+/// error; with F31 nothing is on standard output. A race reads nothing. Takes time and memory proportional to the file and
+/// what is written of it, but for the race's own.
+pub fn perform<
+    R: Read + Explained,
+    W: Write,
+    E: Write,
+    X: Fn(NodeId, Plan) -> Result<Outcome, Refusal>,
+>(
+    alloc: Global,
+    call: &Call,
+    races: &X,
+    reader: &mut Counted<R>,
+    out: &mut Counted<W>,
+    err: &mut Counted<E>,
+) -> u8
+    requires races { (nodes : ℕ) (plan : SomePlan) → (call.now ≡ Race nodes plan) → X.pre races.now nodes plan }
+    requires reads { faults_of reader.old + 1 < 2 ^ 64 }
+    requires writes { faults_of out.old + 1 < 2 ^ 64 }
+    requires complaints { faults_of err.old + 1 < 2 ^ 64 }
+    ensures { PerformsCall
+        (record { remaining = R.remaining; file_fault = R.fault_is; held = W.contents; told = E.contents })
+        (X.post races.now) call.now reader.old reader.new out.old out.new err.old err.new result }
+{
     match call {
-        Call::Run { .. } => match play_script(alloc, reader, out) {
-            Ok(ended) => u8::from(ended.refused() > 0),
-            Err(refusal) => refuse_since(err, refusal, call.file(), reader, faults),
-        },
+        Call::Run { file, .. } => play(alloc, file.as_str(), reader, out, err),
         Call::Inspect {
+            file,
             segment_bytes,
             index_interval,
-            ..
         } => {
             let limits = Limits {
                 segment_bytes: *segment_bytes,
                 index_interval: *index_interval,
                 max_batch: MAX_BATCH,
             };
-            match inspect(alloc, reader, out, &limits) {
-                Ok(None) => 0,
-                Ok(Some(_)) => 1,
-                Err(refusal) => refuse_since(err, refusal, call.file(), reader, faults),
-            }
+            dump(alloc, file.as_str(), &limits, reader, out, err)
         }
+        Call::Race { nodes, plan } => race_and_tell(*nodes, *plan, races, out, err),
     }
 }
 
@@ -81,16 +124,10 @@ pub fn run_and_keep<R: Read + Explained, K: Folder + Explained, W: Write, E: Wri
     requires puts { faults_of folder.old + 1 < 2 ^ 64 }
     requires writes { faults_of out.old + 1 < 2 ^ 64 }
     requires complaints { faults_of err.old + 1 < 2 ^ 64 }
-    ensures { (outcome : Result ℕ SomeRefusal)
-        × RunsKeeping (R.remaining (device_of reader.old))
-        (W.contents (device_of out.old)) (W.contents (device_of out.new))
-        (K.entries (device_of folder.old)) (K.entries (device_of folder.new)) outcome
-        × CountsOneOfThree outcome (faults_of reader.old) (faults_of reader.new)
-        (faults_of out.old) (faults_of out.new) (faults_of folder.old) (faults_of folder.new)
-        × Complains E.contents err.old err.new outcome
-        (reason_of R.fault_is file.now (faults_of reader.old) reader.new
-        ++ reason_of K.fault_is keep.now (faults_of folder.old) folder.new)
-        × result ≡ status_of outcome }
+    ensures { RunsAndKeeps
+        (record { remaining = R.remaining; file_fault = R.fault_is; held = W.contents; told = E.contents })
+        (record { entries = K.entries; folder_fault = K.fault_is })
+        file.now keep.now reader.old reader.new folder.old folder.new out.old out.new err.old err.new result }
 {
     let read = reader.faults();
     let put = folder.faults();

@@ -4,9 +4,9 @@ ghost use Rattle.std.specs.Prelude.{◌≡◌, ◌+◌, ◌<◌, ◌≤◌, ◌^
 ghost use Rattle.arrayvec.specs.ArrayVec.{array_vec_len};
 ghost use Rattle.kp_types.specs.Devices.{IsBegun, IsOut, Tells, faults_of};
 ghost use Rattle.kp_types.specs.Texts.{place_of, place_text};
-ghost use Rattle.kp_cli.specs.Perform.{status_of_refusal};
 ghost use Rattle.kp_cli.specs.Program.{words_complaint, words_status};
 ghost use Rattle.kp_cli.specs.Told.{complaint, file_complaint, hex_digit, is_plain, lone_reason, reason, reason_of, shown, shown_byte, shown_bytes};
+ghost use Rattle.kp_cli.specs.Told.{status_of_refusal};
 
 use crate::devices::Explained;
 use crate::fault::Fault;

@@ -3,13 +3,16 @@
 //! Its rows, files and wanted text are made by `tools/rows`; no contract speaks of it, and `docs/TESTS.md` says how to add a row.
 #![tactic(auto)]
 
+ghost use Rattle.std.specs.Prelude.{◌≤◌, ℕ};
+ghost use Rattle.kp_race.specs.declared.outcome.Plan.{Plan as SomePlan};
 ghost use Rattle.kp_cli.specs.declared.fault.Fault.TheVariants.{DiskFull, IsAFolder};
 
 use kp_cli::{
     Call, Explained, Fault, KeptFolder, Source, call_of, main_with, perform, run_and_keep,
 };
 use kp_crc::crc32c;
-use kp_types::{Counted, Faulty, FaultyFolder, Folder, Refusal};
+use kp_race::{Outcome, Plan, race_over_channels};
+use kp_types::{Counted, Faulty, FaultyFolder, Folder, NodeId, Refusal};
 use std::alloc::Global;
 use std::fs;
 use std::io::{self, Read, Write};
@@ -165,7 +168,14 @@ fn show_taken(rt: &HostRuntime, folder: &GivenFolder) -> io::Result<()> {
 
 /// Does one command line, as the whole program does it, and shows the folder that was taken. Of words that are no call it prints
 /// the kind of clap's refusal, where the text went, and the status; of help and the version the text too.
-fn perform_words(rt: &HostRuntime, words: &[&str], failing: Failing) -> io::Result<()> {
+fn perform_words<X: Fn(NodeId, Plan) -> Result<Outcome, Refusal>>(
+    rt: &HostRuntime,
+    words: &[&str],
+    failing: Failing,
+    races: &X,
+) -> io::Result<()>
+    requires { (nodes : ℕ) (plan : SomePlan) → nodes ≤ 7 → X.pre races.now nodes plan }
+{
     let mut out = Counted::new(Faulty::new(Vec::new(rt.alloc()), failing.write));
     let mut err = Counted::new(Vec::new(rt.alloc()));
     let file = GivenFile::of(rt, Vec::new(rt.alloc()), failing.read);
@@ -174,7 +184,15 @@ fn perform_words(rt: &HostRuntime, words: &[&str], failing: Failing) -> io::Resu
     for word in words {
         handed.push(word.to_string(rt.alloc())?)?;
     }
-    let left = main_with(rt.alloc(), Ok(handed), file, folder, &mut out, &mut err);
+    let left = main_with(
+        rt.alloc(),
+        Ok(handed),
+        file,
+        folder,
+        races,
+        &mut out,
+        &mut err,
+    );
     let status = left.status;
     let told = out.device().bytes.as_slice();
     if let Err(error) = call_of(rt.alloc(), words) {
@@ -184,6 +202,28 @@ fn perform_words(rt: &HostRuntime, words: &[&str], failing: Failing) -> io::Resu
     }
     show(rt, told, err.device().as_slice(), status)?;
     show_taken(rt, left.folder.device())
+}
+
+/// Does one command line, of which a race isn't run: this comes of it, and its nodes are those that were asked for.
+fn tell_words(
+    rt: &HostRuntime,
+    outcome: Outcome,
+    words: &[&str],
+    failing: Failing,
+) -> io::Result<()> {
+    let races = |nodes: NodeId, _plan: Plan| Ok(Outcome { nodes, ..outcome });
+    perform_words(rt, words, failing, &races)
+}
+
+/// Does one command line, of which a race is refused.
+fn refuse_words(rt: &HostRuntime, refusal: Refusal, words: &[&str]) -> io::Result<()> {
+    let races = |_nodes: NodeId, _plan: Plan| -> Result<Outcome, Refusal> { Err(refusal) };
+    perform_words(rt, words, NEVER, &races)
+}
+
+/// No race is asked for.
+fn no_race(_nodes: NodeId, _plan: Plan) -> Result<Outcome, Refusal> {
+    Err(Refusal::Down)
 }
 
 /// The call that runs a script of no file.
@@ -199,7 +239,7 @@ fn run_bytes(rt: &HostRuntime, call: &Call, bytes: Vec<u8>) -> io::Result<()> {
     let mut reader = Counted::new(GivenFile::of(rt, bytes, NEVER.read));
     let mut out = Counted::new(Vec::new(rt.alloc()));
     let mut err = Counted::new(Vec::new(rt.alloc()));
-    let status = perform(rt.alloc(), call, &mut reader, &mut out, &mut err);
+    let status = perform(rt.alloc(), call, &no_race, &mut reader, &mut out, &mut err);
     show(rt, out.device().as_slice(), err.device().as_slice(), status)
 }
 
@@ -292,7 +332,8 @@ fn sum_repeated(rt: &HostRuntime, front: &str, piece: &str, count: &str) -> io::
     let mut reader = Counted::new(GivenFile::of(rt, script, NEVER.read));
     let mut out = Counted::new(Vec::new(rt.alloc()));
     let mut err = Counted::new(Vec::new(rt.alloc()));
-    let status = perform(rt.alloc(), &run_call(rt)?, &mut reader, &mut out, &mut err);
+    let call = run_call(rt)?;
+    let status = perform(rt.alloc(), &call, &no_race, &mut reader, &mut out, &mut err);
     let told = out.device().as_slice();
     let lines = told.iter().filter(|byte| **byte == b'\n').count();
     let sum = format!(in rt.alloc();
@@ -308,11 +349,38 @@ fn number(word: &str) -> u64 {
     word.parse().unwrap_or(u64::MAX)
 }
 
+/// The numbers of the devices' calls that fail.
+fn fails_at(read: &str, write: &str, put: &str) -> Failing {
+    Failing {
+        read: number(read),
+        write: number(write),
+        put: number(put),
+    }
+}
+
+/// What a race comes to, whatever its nodes.
+fn outcome_of(receipts: &str, acknowledged: &str, committed: &str, agree: &str) -> Outcome {
+    Outcome {
+        nodes: 0,
+        receipts: number(receipts),
+        acknowledged: number(acknowledged),
+        committed: number(committed),
+        agree: agree == "yes",
+    }
+}
+
 /// Does one row: a command line; or one behind `fail READ WRITE PUT`; or `each FRONT LINES BACK`; or
 /// `repeat FRONT PIECE COUNT`, or `sum` for `repeat`, which prints a sum; or `keep PUT SCRIPT`, which shows the files in which
-/// a script's logs are kept; or `dump NODE SEGMENT INTERVAL SCRIPT`, which inspects those of a node. A line that begins with
-/// `#` is a heading.
-fn perform_row(rt: &HostRuntime, row: &str) -> io::Result<()> {
+/// a script's logs are kept; or `dump NODE SEGMENT INTERVAL SCRIPT`, which inspects those of a node; or a command line behind
+/// `outcome WRITE RECEIPTS ACKNOWLEDGED COMMITTED yes`, or `no` for `yes`, of which a race comes out so, or behind `refused`, of
+/// which a race is refused for want of memory. A line that begins with `#` is a heading.
+fn perform_row<X: Fn(NodeId, Plan) -> Result<Outcome, Refusal>>(
+    rt: &HostRuntime,
+    row: &str,
+    races: &X,
+) -> io::Result<()>
+    requires { (nodes : ℕ) (plan : SomePlan) → nodes ≤ 7 → X.pre races.now nodes plan }
+{
     println!(rt; "> {row}")?;
     let words: Vec<&str> = row.split(' ').collect(rt.alloc())?;
     match words.as_slice() {
@@ -322,21 +390,35 @@ fn perform_row(rt: &HostRuntime, row: &str) -> io::Result<()> {
         ["sum", front, piece, count] => sum_repeated(rt, front, piece, count),
         ["keep", put, file] => show_kept(rt, file, number(put)),
         ["dump", node, segment, interval, file] => dump_kept(rt, file, node, segment, interval),
-        ["fail", read, write, put, words @ ..] => {
-            let failing = Failing {
-                read: number(read),
-                write: number(write),
-                put: number(put),
-            };
-            perform_words(rt, words, failing)
+        ["fail", read, write, put, words @ ..] => perform_words(
+            rt,
+            words,
+            fails_at(read, write, put),
+            races,
+        ),
+        [
+            "outcome",
+            write,
+            receipts,
+            acknowledged,
+            committed,
+            agree,
+            words @ ..,
+        ] => {
+            let outcome = outcome_of(receipts, acknowledged, committed, agree);
+            tell_words(rt, outcome, words, fails_at("-", write, "-"))
         }
-        words => perform_words(rt, words, NEVER),
+        ["refused", words @ ..] => refuse_words(rt, Refusal::Memory, words),
+        words => perform_words(rt, words, NEVER, races),
     }
 }
 
 fn main(rt: HostRuntime) -> io::Result<()> {
+    let races = |nodes: NodeId, plan: Plan| -> Result<Outcome, Refusal>
+        requires { nodes ≤ 7 }
+    { race_over_channels(&rt, rt.alloc(), nodes, &plan) };
     for row in rt.lines(rt.alloc()) {
-        perform_row(&rt, row?.as_str())?;
+        perform_row(&rt, row?.as_str(), &races)?;
     }
     Ok(())
 }

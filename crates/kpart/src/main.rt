@@ -3,11 +3,14 @@
 //! Its own contract is none: what it hands over is the host's, and a check of the built program shows that.
 #![tactic(auto)]
 
+ghost use Rattle.std.specs.Prelude.{◌≤◌};
+
 mod host;
 
 use host::{HostFile, HostFolder};
 use kp_cli::{Fault, main_with};
-use kp_types::Counted;
+use kp_race::{Outcome, Plan, race_over_channels};
+use kp_types::{Counted, NodeId, Refusal};
 use std::env;
 use std::fs::{self, File};
 use std::io::{self, ErrorKind};
@@ -36,7 +39,18 @@ fn main(rt: HostRuntime) -> ExitCode {
     let mut err = Counted::new(rt.stderr());
     let file = HostFile::new(&rt);
     let folder = HostFolder::new(&rt);
-    let left = main_with(rt.alloc(), words(&rt), file, folder, &mut out, &mut err);
+    let races = |nodes: NodeId, plan: Plan| -> Result<Outcome, Refusal>
+        requires { nodes ≤ 7 }
+    { race_over_channels(&rt, rt.alloc(), nodes, &plan) };
+    let left = main_with(
+        rt.alloc(),
+        words(&rt),
+        file,
+        folder,
+        &races,
+        &mut out,
+        &mut err,
+    );
     drop(held);
     ExitCode::from(left.status)
 }

@@ -1,5 +1,5 @@
 use Rattle.std.proofs.Common.{inl, string_bytes}
-use Rattle.kp_cli.proofs.Lines.{help_failed, helps}
+use Rattle.kp_cli.proofs.Lines.{helps, print_failed}
 use Rattle.kp_cli.proofs.program.explain.Goals as goal
 
 pub returns-in-DisplayHelp : goal.returns-in-DisplayHelp
@@ -9,7 +9,7 @@ returns-in-DisplayHelp g c =
       c.in-Ok.ensures.ok,
       helps g.W.Write.contents g.E.Write.contents c.args.kind (string_bytes c.in-Ok.text) c.args.out.now c.write_all.new.self c.args.err.now
           c.refuse-in-Err.new.err c.refuse-in-Err.result c.in-DisplayHelp.is
-          (help_failed g.W.Write.contents g.E.Write.contents (string_bytes c.in-Ok.text) c.as_bytes.result.now c.args.out.now c.write_all.new.self
+          (print_failed g.W.Write.contents g.E.Write.contents (string_bytes c.in-Ok.text) c.as_bytes.result.now 0 c.args.out.now c.write_all.new.self
           c.args.err.now c.refuse-in-Err.new.err c.in-Err.refusal c.refuse-in-Err.result c.as_bytes.ensures.value c.in-Err.ensures.only
           c.in-Err.ensures.err c.in-Err.ensures.counted c.refuse-in-Err.ensures.told c.refuse-in-Err.ensures.status),
     )

@@ -1,8 +1,7 @@
 use Rattle.std.proofs.Common.{◌∙◌, ap, subst, sym}
 use Rattle.kp_types.specs.Devices.{Tells}
-use Rattle.kp_cli.specs.Perform.{status_of_refusal}
 use Rattle.kp_cli.specs.Program.{words_complaint}
-use Rattle.kp_cli.specs.Told.{complaint, lone_reason}
+use Rattle.kp_cli.specs.Told.{complaint, lone_reason, status_of_refusal}
 use Rattle.kp_cli.specs.declared.fault.Fault.{Fault}
 use Rattle.kp_cli.specs.declared.fault.Fault.TheVariants as faults
 use Rattle.kp_cli.proofs.Lines.{other_refusal, other_status, other_words, tells}
