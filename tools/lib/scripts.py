@@ -4,6 +4,7 @@ Here is the grammar of scripts, and the trace; tools/lib/cluster.py has the node
 record and the messages. tools/lib/encoder.py spells what an `append` or a `mark` hands in, and tools/lib/decoder.py judges the
 bytes, so that the two also check one another.
 """
+import itertools
 import re
 
 from .batch import TOP
@@ -133,16 +134,50 @@ def parse(script):
     return count, events
 
 
+def answered(world, event):
+    """What the event answers, and 1 where that is a refusal, else 0."""
+    try:
+        return str(event(world)), 0
+    except Refused as refusal:
+        return str(refusal), 1
+
+
 def played(world, events):
     """The trace of the events, and the exit status."""
     trace, status = [], 0
     for place, event in events:
-        try:
-            answer = event(world)
-        except Refused as refusal:
-            answer, status = str(refusal), 1
+        answer, refused = answered(world, event)
         trace.append(f"{place} {answer}\n")
+        status |= refused
     return "".join(trace), status
+
+
+# Runs in which some events are refused for want of memory
+
+WANT = "F33 Memory"
+
+
+def lacking(world, event):
+    """The worlds that the event may leave where it is refused so; none where it takes no memory, or another cause holds. Of a
+    fetch answer's batches each beginning may have found room."""
+    for room in itertools.count():
+        found = world.with_room(room)
+        if answered(found, event)[0] != WANT:
+            return
+        yield found.with_room(None)
+
+
+def ends(world, events, lines):
+    """The worlds in which the events may end where these lines are their trace, with F33 where it stands there; none where the
+    rules have another one."""
+    for at, ((place, event), line) in enumerate(zip(events, lines)):
+        if line == f"{place} {WANT}":
+            for found in lacking(world, event):
+                yield from ends(found, events[at + 1:], lines[at + 1:])
+            return
+        if line != f"{place} {answered(world, event)[0]}":
+            return
+    yield world
 
 
 def run(script):
