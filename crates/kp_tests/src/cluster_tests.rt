@@ -7,7 +7,7 @@ use crate::node_tests::bytes_of;
 use kp_board::{Board, BoardName, Opened, Pass};
 use kp_cluster::{Cluster, Gate, Open, start};
 use kp_node::Node;
-use kp_race::{Outcome, Plan, nodes_of, race_over_channels, run_race, stop_all};
+use kp_race::{Outcome, Plan, nodes_of, run_race, stop_all};
 use kp_transport::{Carry, Channels, Choice, Parcel, Rough, Waiting, Watched};
 use kp_types::{Limits, MAX_BATCH, NodeId, Refusal};
 use std::alloc::Global;
@@ -17,7 +17,7 @@ use std::sync::{Arc, Mutex, Wait};
 use std::thread;
 use std::thread::Threads;
 
-const LIMITS: Limits = Limits {
+pub(crate) const LIMITS: Limits = Limits {
     segment_bytes: 1_024,
     index_interval: 0,
     max_batch: MAX_BATCH,
@@ -29,7 +29,7 @@ const PATIENCE: u32 = 1_000_000;
 // How many turns each node has at most.
 const ROUNDS: u32 = 1_000;
 
-type Shared<B> = Arc<Mutex<Node<B>>, Global>;
+pub(crate) type Shared<B> = Arc<Mutex<Node<B>>, Global>;
 
 // A board and its nodes, of which node 0 leads.
 fn led<B: BoardName, R: Wait>(
@@ -227,64 +227,75 @@ fn a_batch_comes_to_all_nodes(rt: HostRuntime) {
 }
 
 // Two producers of ten batches each, and five elections.
-const PLAN: Plan = Plan {
+pub(crate) const PLAN: Plan = Plan {
     producers: 2,
     batches: 10,
     moves: 5,
 };
 
-// What comes of a race of three nodes, where messages fare so.
-fn raced<
+// What comes of a race over these three nodes, where messages fare so.
+pub(crate) fn raced_on<
+    B: BoardName + Send + Sync + 'static,
+    R: Threads + Wait + Copy + Drop + Send + Sync + 'static,
+    G: Gate + Send + Sync + Drop + 'static,
+>(
+    rt: &R,
+    alloc: Global,
+    board: &Arc<Board<B>, Global>,
+    nodes: &Vec<Shared<B>>,
+    choices: &[Choice],
+    gate: Arc<G, Global>,
+) -> Result<Outcome, Refusal> {
+    let waiting = Arc::new(alloc, Waiting::new())?;
+    let watched = Watched::new(Channels::new(*rt, alloc, 3)?, Arc::try_clone(&waiting)?);
+    let choices = Vec::from_slice(alloc, choices)?;
+    let carrier = Rough::new(*rt, alloc, Arc::try_clone(board)?, watched, choices);
+    let carrier = Arc::new(alloc, carrier)?;
+    run_race(rt, alloc, &**board, nodes, &carrier, &*waiting, gate, &PLAN)
+}
+
+// What comes of a race of three new nodes, where messages fare so.
+pub(crate) fn raced<
     B: BoardName + Send + Sync + 'static,
     R: Threads + Wait + Copy + Drop + Send + Sync + 'static,
 >(rt: &R, alloc: Global, opened: Opened, choices: &[Choice]) -> Result<Outcome, Refusal>
     requires { opened ≡ B.table }
 {
     let (board, nodes) = nodes_of::<B>(alloc, opened, &LIMITS)?;
-    let waiting = Arc::new(alloc, Waiting::new())?;
-    let watched = Watched::new(Channels::new(*rt, alloc, 3)?, Arc::try_clone(&waiting)?);
-    let choices = Vec::from_slice(alloc, choices)?;
-    let carrier = Rough::new(*rt, alloc, Arc::try_clone(&board)?, watched, choices);
-    let carrier = Arc::new(alloc, carrier)?;
-    let gate = Arc::new(alloc, Open)?;
-    run_race(rt, alloc, &*board, &nodes, &carrier, &*waiting, gate, &PLAN)
+    raced_on(rt, alloc, &board, &nodes, choices, Arc::new(alloc, Open)?)
 }
 
 // They agree, and no more is acknowledged than was handed in, or stands.
-fn holds(outcome: &Outcome) -> bool {
+pub(crate) fn holds(plan: &Plan, outcome: &Outcome) -> bool {
     outcome.agree
-        && outcome.receipts <= 20
+        && outcome.receipts <= u64::from(plan.producers) * u64::from(plan.batches)
         && outcome.acknowledged <= outcome.receipts
         && outcome.acknowledged <= outcome.committed
+}
+
+// Each choice.
+pub(crate) const CHOICES: [Choice; 6] = [
+    Choice::Lose,
+    Choice::Pass,
+    Choice::Twice,
+    Choice::Hold(1),
+    Choice::Hold(2),
+    Choice::Hold(3),
+];
+
+// As above; and where each message is lost no watermark rises, since no leader hears from a follower.
+fn holds_alone(choice: Choice, outcome: &Outcome) -> bool {
+    holds(&PLAN, outcome) && (choice != Choice::Lose || outcome.committed == 0)
 }
 
 #[test]
 fn all_nodes_agree(rt: HostRuntime) {
     let alloc = rt.alloc();
-    for choices in FARES {
-        let found = raced::<Brand, HostRuntime>(&rt, alloc, board_of(&rt, alloc, 3), choices);
+    for choice in CHOICES {
+        let found = raced::<Brand, HostRuntime>(&rt, alloc, board_of(&rt, alloc, 3), &[choice]);
         let Ok(outcome) = found else {
             panic!(&rt; "a refused race");
         };
-        assert!(rt; holds(&outcome));
+        assert!(rt; holds_alone(choice, &outcome));
     }
-}
-
-// Without an election, one node acknowledges all.
-#[test]
-fn one_node_acknowledges_all(rt: HostRuntime) {
-    let plan = Plan {
-        producers: 1,
-        batches: 3,
-        moves: 0,
-    };
-    let wanted = Outcome {
-        nodes: 1,
-        receipts: 3,
-        acknowledged: 3,
-        committed: 3,
-        agree: true,
-    };
-    let found = race_over_channels(&rt, rt.alloc(), 1, &plan);
-    assert_eq!(rt; found, Ok(wanted));
 }

@@ -41,3 +41,5 @@ mod seated;
 mod shown;
 #[cfg(test)]
 mod truncation_tests;
+#[cfg(test)]
+mod worker_tests;
