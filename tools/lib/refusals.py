@@ -5,6 +5,7 @@ makes, in a file which it shares with this module.
 """
 import errno
 import os
+import resource
 import shutil
 import struct
 import subprocess
@@ -107,16 +108,26 @@ class Caller:
                          REFUSE_LAST=str(ENDLESS if kind.lasting else first))
         return found
 
-    def called(self, row, kind=None, first=None):
-        """How many of each call the program made, and what it left."""
+    def outcome(self, row, **others):
+        """What the program leaves, called with these words for its process."""
         room = self.room(row)
-        put(self.counts, bytes(COUNTS.size))
         try:
             done = subprocess.run(["kpart", *row.words], executable=self.program, cwd=room, stdin=subprocess.DEVNULL,
-                                  capture_output=True, timeout=SECONDS, env=self.surroundings(kind, first))
+                                  capture_output=True, timeout=SECONDS, **others)
         except subprocess.TimeoutExpired:
             raise Differs(f"no end within {SECONDS} seconds") from None
-        counts = dict(zip(CALLS, COUNTS.unpack(bytes_of(self.counts))))
         left = {name: data for name, data in tree(room).items() if name not in row.files}
-        return counts, Outcome(done.stdout.decode("latin-1"), done.stderr.decode("latin-1"), done.returncode,
-                               tuple(sorted(left.items())))
+        return Outcome(done.stdout.decode("latin-1"), done.stderr.decode("latin-1"), done.returncode, tuple(sorted(left.items())))
+
+    def called(self, row, kind=None, first=None):
+        """How many of each call the program made, and what it left."""
+        put(self.counts, bytes(COUNTS.size))
+        left = self.outcome(row, env=self.surroundings(kind, first))
+        return dict(zip(CALLS, COUNTS.unpack(bytes_of(self.counts)))), left
+
+    def called_within(self, row, kib):
+        """What the program leaves that has so many KiB of address space."""
+        def limited():
+            resource.setrlimit(resource.RLIMIT_AS, (kib * 1024, kib * 1024))
+
+        return self.outcome(row, preexec_fn=limited)
