@@ -14,9 +14,21 @@ use crate::Call;
 use clap::builder::ValueParser;
 use clap::{Arg, ArgMatches, Command, Error};
 use kp_race::Plan;
-use kp_types::{GREATEST_SEGMENT_BYTES, LEAST_SEGMENT_BYTES, MAX_INDEX_INTERVAL};
+use kp_types::{GREATEST_SEGMENT_BYTES, LEAST_SEGMENT_BYTES, MAX_INDEX_INTERVAL, MOST_NODES};
 use std::alloc::{AllocError, Global};
 use std::convert::AsStr;
+
+/// The most nodes of a race.
+const MOST_RACE_NODES: u64 = MOST_NODES as u64;
+
+/// The most producers of a race. (Own rule.)
+const MOST_PRODUCERS: u64 = 8;
+
+/// The most batches of each producer of a race. (Own rule.)
+const MOST_BATCHES: u64 = 10_000;
+
+/// The most elections of a race. (Own rule.)
+const MOST_MOVES: u64 = 1_000;
 
 /// The version of the program, which `kpart --version` prints.
 pub const VERSION: &str = "0.1.0";
@@ -129,18 +141,21 @@ fn race_command<'a>(alloc: Global) -> Result<Command<'a>, AllocError>
     let command = Command::new(alloc, "race").about(
         "Runs nodes, producers and elections in threads, and prints whether all nodes agree",
     );
-    let command = with_argument(command, number_argument(alloc, "nodes", "N", 1, 7, nodes))?;
     let command = with_argument(
         command,
-        number_argument(alloc, "producers", "P", 1, 8, producers),
+        number_argument(alloc, "nodes", "N", 1, MOST_RACE_NODES, nodes),
     )?;
     let command = with_argument(
         command,
-        number_argument(alloc, "batches", "B", 0, 10_000, batches),
+        number_argument(alloc, "producers", "P", 1, MOST_PRODUCERS, producers),
     )?;
     let command = with_argument(
         command,
-        number_argument(alloc, "moves", "M", 0, 1_000, moves),
+        number_argument(alloc, "batches", "B", 0, MOST_BATCHES, batches),
+    )?;
+    let command = with_argument(
+        command,
+        number_argument(alloc, "moves", "M", 0, MOST_MOVES, moves),
     )?;
     Ok(command)
 }
