@@ -17,7 +17,7 @@ pub struct Plan {
 #[derive(Clone, Copy, Debug, PartialEq, Eq)]
 pub struct Outcome {
     pub nodes: NodeId,
-    /// How many receipts producers got.
+    /// How many batches producers have a receipt of, each counted once.
     pub receipts: u64,
     /// For how many of these a node then answered that the batch is committed.
     pub acknowledged: u64,
