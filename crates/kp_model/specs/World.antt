@@ -1,6 +1,6 @@
 -- The replicated log as one state: the controller's record, the nodes, and every message ever sent
 -- (Kafka replication design; KIP-101, KIP-279, KIP-320).
-use Rattle.std.specs.Prelude.{◌≡◌, ℕ, ◌==◌, Bool, List, [], ◌∷◌, ◌++◌, Option, Some, None, if◌then◌else◌, slice_get, slice_index_or, replicate}
+use Rattle.std.specs.Prelude.{◌≡◌, ℕ, ◌==◌, List, [], ◌∷◌, ◌++◌, Option, Some, None, if◌then◌else◌, slice_get, slice_index_or, replicate}
 use Rattle.std.specs.List.{range_with_len}
 use Rattle.kp_model.specs.Log.{Batch}
 
@@ -36,11 +36,10 @@ no_reports = replicate most_nodes None
 abbrev pub report_of : Leading → ℕ → Option ℕ
 report_of l m = slice_index_or l.reported m None
 
--- A follower: whom it follows in which epoch, and whether it fetches or still reconciles its log.
+-- A follower: whom it follows in which epoch.
 pub record Following : Type 0 where
   pub leader : ℕ
   pub epoch : ℕ
-  pub fetching : Bool
 
 pub data Mode : Type 0 where
   Down : Mode
@@ -55,14 +54,13 @@ pub record Node : Type 0 where
   pub life : ℕ
   pub mode : Mode
 
--- A request: who asks whom, in which life and leader epoch, whether for batches or for an epoch's end,
--- and the asker's log, whose end or last epoch is what it asks by.
+-- A request for what comes after the asker's log: who asks whom, in which life and leader epoch, and that log, whose end and
+-- last epoch are what it asks by.
 pub record Request : Type 0 where
   pub from : ℕ
   pub to : ℕ
   pub life : ℕ
   pub epoch : ℕ
-  pub fetching : Bool
   pub log : List Batch
 
 -- An answer: the request, and the leader's log and watermark when it answered.

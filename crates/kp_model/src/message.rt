@@ -9,8 +9,8 @@ use kp_batch::{Batch, share_all};
 use kp_types::{Epoch, GREATEST_OFFSET, NodeId, Offset, Refusal};
 use std::alloc::Global;
 
-/// A fetching follower asks for the batches from its log's end on. (Kafka protocol guide, 'Fetch'; KIP-320 for the epoch;
-/// own: the life.)
+/// A follower asks for the batches that come after its log. (Kafka protocol guide, 'Fetch'; KIP-320 for the epoch;
+/// own: the last epoch and the life.)
 #[derive(Clone, Copy, Debug, PartialEq, Eq)]
 pub struct FetchRequest {
     /// Who asks.
@@ -23,28 +23,13 @@ pub struct FetchRequest {
     pub epoch: Epoch,
     /// Its log's end, from 0.
     pub offset: Offset,
-}
-
-/// A reconciling follower asks where its last batch's leader epoch ends. (KIP-101, 'OffsetsForLeaderEpoch'; own: the
-/// life.)
-#[derive(Clone, Copy, Debug, PartialEq, Eq)]
-pub struct EpochRequest {
-    /// Who asks.
-    pub from: NodeId,
-    /// The leader that it follows, to whom the request goes.
-    pub to: NodeId,
-    /// How often the asker had been restarted.
-    pub life: u64,
-    /// The leader epoch in which it follows.
-    pub epoch: Epoch,
     /// The leader epoch of its last batch; none for an empty log.
     pub last_epoch: Option<Epoch>,
 }
 
-/// What a leader answers to a fetch request. It goes to the sender of the request.
+/// Batches that a leader hands over, with its high watermark.
 #[derive(Drop)]
-pub struct FetchAnswer {
-    pub request: FetchRequest,
+pub struct Fetched {
     /// The batches from the asked offset on, shared with the leader's log: no byte is copied.
     pub batches: Vec<Batch>,
     /// The leader's high watermark.
@@ -61,21 +46,30 @@ pub struct EpochEnd {
     pub end: Offset,
 }
 
-/// What a leader answers to an epoch request. It goes to the sender of the request. (KIP-101, KIP-279.)
-#[derive(Clone, Copy, Debug, PartialEq, Eq)]
-pub struct EpochAnswer {
-    pub request: EpochRequest,
-    /// None where the leader's log has no epoch at most the asked one.
-    pub end: Option<EpochEnd>,
+/// What a leader finds for a request.
+#[derive(Drop)]
+pub enum Answered {
+    /// Its log has all of the asker's.
+    Batches(Fetched),
+    /// It hasn't; so it tells where the asker's last epoch ends in its log. None where its log has no epoch at most
+    /// that one. (KIP-101, KIP-279.)
+    Diverging(Option<EpochEnd>),
+}
+
+/// What a leader answers to a request, with the request. It goes to the sender of the request.
+#[derive(Drop)]
+pub struct FetchAnswer {
+    /// As it came, so that its sender knows to which log the answer is.
+    pub request: FetchRequest,
+    /// What the leader found by its own log.
+    pub answered: Answered,
 }
 
 /// The body of a message of the protocol: a request of a follower, or a leader's answer.
 #[derive(Drop)]
 pub enum MessageBody {
     FetchRequest(FetchRequest),
-    EpochRequest(EpochRequest),
     FetchAnswer(FetchAnswer),
-    EpochAnswer(EpochAnswer),
 }
 
 // Whether a log can keep the batch. O(1).
@@ -102,42 +96,39 @@ fn test_batches(batches: &[Batch]) -> Result<(), Refusal>
     Ok(())
 }
 
-impl FetchAnswer {
+impl Fetched {
     ghost use Rattle.std.specs.Prelude.{◌≡◌, IfOk};
 
-    /// The answer to this request, with these batches. The first batch that no log can keep refuses it: `EpochBack` (F27)
-    /// for one that no leader has stamped, `OffsetsExhausted` (F25) for one whose last offset is above 2^62 - 1. Whether
-    /// the batches follow one another, and the follower's log, the taking node tests. One pass over the batches, which
-    /// copies none of their bytes; no memory.
-    pub fn new(
-        request: FetchRequest,
-        batches: Vec<Batch>,
-        watermark: Offset,
-    ) -> Result<FetchAnswer, Refusal>
+    /// These batches, with this watermark. The first batch that no log can keep refuses them: `EpochBack` (F27) for one
+    /// that no leader has stamped, `OffsetsExhausted` (F25) for one whose last offset is above 2^62 - 1. Whether the
+    /// batches follow one another, and the follower's log, the taking node tests. One pass over the batches, which copies
+    /// none of their bytes; no memory.
+    pub fn new(batches: Vec<Batch>, watermark: Offset) -> Result<Fetched, Refusal>
         ensures refused { IsRefusedOnlyBy (find_map carry_cause batches.items) result }
-        ensures made { IfOk result (λ a. (a.request ≡ request) × (a.batches ≡ batches)
-            × (a.watermark ≡ watermark)) }
+        ensures made { IfOk result (λ f. (f.batches ≡ batches) × (f.watermark ≡ watermark)) }
     {
         test_batches(&batches)?;
-        Ok(FetchAnswer {
-            request,
-            batches,
-            watermark,
-        })
+        Ok(Fetched { batches, watermark })
     }
 }
 
 /// What a message says, to be told: no share of a batch.
 #[derive(Clone, Copy, Debug, PartialEq, Eq)]
 pub enum Said {
-    /// A follower asks for the batches from its log's end on.
-    AsksFrom(Offset),
-    /// A follower asks where its last batch's leader epoch ends, or epoch 0 where its log is empty.
-    AsksEpoch(Epoch),
+    /// A follower asks for the batches after its log: by the log's end, and by its last batch's leader epoch, none for an
+    /// empty log.
+    AsksFrom {
+        offset: Offset,
+        last_epoch: Option<Epoch>,
+    },
     /// A leader hands over so many batches, with its high watermark.
-    Batches { count: u64, watermark: Offset },
-    /// A leader says where an epoch of its log ends; none where it has no epoch up to the asked one.
-    EpochEnd(Option<EpochEnd>),
+    Batches {
+        count: u64,
+        watermark: Offset,
+    },
+    /// A leader hasn't all of the follower's log, and says where the follower's last epoch ends in its own; none where
+    /// its log has no epoch at most that one.
+    Diverging(Option<EpochEnd>),
 }
 
 impl MessageBody {
@@ -153,44 +144,50 @@ impl MessageBody {
     {
         match self {
             MessageBody::FetchRequest(request) => request.to,
-            MessageBody::EpochRequest(request) => request.to,
             MessageBody::FetchAnswer(answer) => answer.request.from,
-            MessageBody::EpochAnswer(answer) => answer.request.from,
         }
     }
 
     /// What the message says. O(1).
     pub fn said(&self) -> Said
-        ensures { said_reply result ≡ sent_reply (letter self.now).asking (letter self.now).answering }
+        ensures { said_reply result ≡ sent_reply (letter self.now) }
     {
         match self {
-            MessageBody::FetchRequest(request) => Said::AsksFrom(request.offset),
-            MessageBody::EpochRequest(request) => {
-                Said::AsksEpoch(request.last_epoch.unwrap_or(0))
-            }
-            MessageBody::FetchAnswer(answer) => Said::Batches {
-                count: answer.batches.len() as u64,
-                watermark: answer.watermark,
+            MessageBody::FetchRequest(request) => Said::AsksFrom {
+                offset: request.offset,
+                last_epoch: request.last_epoch,
             },
-            MessageBody::EpochAnswer(answer) => Said::EpochEnd(answer.end),
+            MessageBody::FetchAnswer(answer) => match &answer.answered {
+                Answered::Batches(fetched) => Said::Batches {
+                    count: fetched.batches.len() as u64,
+                    watermark: fetched.watermark,
+                },
+                Answered::Diverging(end) => Said::Diverging(*end),
+            },
         }
     }
 
-    /// The message once more, as one that a carrier repeats: it says the same, and a fetch answer's batches are shared,
-    /// so that no byte is copied. F33 is the only refusal, of a fetch answer alone; O(n) in its batches.
+    /// The message once more, as one that a carrier repeats: it says the same, and an answer's batches are shared, so
+    /// that no byte is copied. F33 is the only refusal, of an answer with batches alone; O(n) in its batches.
     pub fn share(&self, alloc: Global) -> Result<MessageBody, Refusal>
         ensures same { IfOk result (λ body. letter body ≡ letter self.now) }
         ensures only { IfErr result (λ refusal. refusal ≡ Memory) }
     {
         match self {
             MessageBody::FetchRequest(request) => Ok(MessageBody::FetchRequest(*request)),
-            MessageBody::EpochRequest(request) => Ok(MessageBody::EpochRequest(*request)),
-            MessageBody::FetchAnswer(answer) => Ok(MessageBody::FetchAnswer(FetchAnswer {
-                request: answer.request,
-                batches: share_all(alloc, &answer.batches)?,
-                watermark: answer.watermark,
-            })),
-            MessageBody::EpochAnswer(answer) => Ok(MessageBody::EpochAnswer(*answer)),
+            MessageBody::FetchAnswer(answer) => {
+                let answered = match &answer.answered {
+                    Answered::Batches(fetched) => Answered::Batches(Fetched {
+                        batches: share_all(alloc, &fetched.batches)?,
+                        watermark: fetched.watermark,
+                    }),
+                    Answered::Diverging(end) => Answered::Diverging(*end),
+                };
+                Ok(MessageBody::FetchAnswer(FetchAnswer {
+                    request: answer.request,
+                    answered,
+                }))
+            }
         }
     }
 }
