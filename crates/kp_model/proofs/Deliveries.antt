@@ -3,27 +3,28 @@ use Rattle.std.proofs.Common.{◌≡◌, ℕ, zero-add, ◌≤◌, Bool, true, f
 use Rattle.std.specs.Prelude.{not, ◌&&◌, is_some, unwrap_or}
 use Rattle.std.specs.Option.{option_map_or}
 use Rattle.std.specs.List.{list_any}
-use Rattle.std.proofs.lemmas.Bool.{cond_both, cases_lt, eq-eqb, le-ltb, ltb-false, or_left, or_right, and_parts, not-false, false≢true}
+use Rattle.std.proofs.lemmas.Bool.{cond_both, cases_lt, eq-eqb, le-ltb, or_left, or_right, and_parts, not-false, false≢true}
 use Rattle.kp_types.specs.declared.refusal.Refusal.{Refusal}
 use Rattle.kp_types.specs.declared.refusal.Refusal.TheVariants as refusals
 use Rattle.kp_model.specs.Beginning.{Begins}
 use Rattle.kp_model.specs.Log.{Batch, end_of, IsLog, is_boundary}
 use Rattle.kp_model.specs.World.{LeaderAndIsr, Leading, Following, Mode, Down, Idle, Leads, Follows, Node, Request, Answer, Message, Asks, Answers, World}
 use Rattle.kp_model.specs.Event.{Receive, Reply, Refused, Outcome}
-use Rattle.kp_model.specs.Local.{Effect, Local, LocalBy, LacksMemoryFor, Receives, Accepts, Serves, Cuts, last_epoch, piece, grown, mark_taken, awaits, is_down, has_epoch, mode_epoch, reconciles, cannot_follow, serve_cause, take_cause, cut_cause, receive_cause, unless_leads}
+use Rattle.kp_model.specs.Local.{Effect, Local, LocalBy, LacksMemoryFor, Receives, Accepts, Serves, is_covered, last_epoch, piece, grown, mark_taken, awaits, is_down, has_epoch, mode_epoch, reconciles, cannot_follow, serve_cause, take_cause, cut_cause, receive_cause, unless_leads}
 use Rattle.kp_model.specs.Step.{NodeStep}
 use Rattle.kp_model.specs.Laws.{NoDeliveryIsRefusedOddly}
 use Rattle.kp_model.proofs.Beginnings.{Begins-refl, Begins-trans}
 use Rattle.kp_model.proofs.Following.{cannot_follow-cons}
 use Rattle.kp_model.proofs.Logs.{Follow-rest, last_epoch_or, IsLog-begins}
-use Rattle.kp_model.proofs.Steps.{where_leads, where_follows, each_sent}
-use Rattle.kp_model.proofs.SoundLogs.{last_epoch_is}
-use Rattle.kp_model.proofs.Ledger.{grown_begins}
-use Rattle.kp_model.proofs.Kin.{History, ModeIsKept, MessageIsKept, expected}
+use Rattle.kp_model.proofs.Steps.{where_leads, served_either, each_sent}
+use Rattle.kp_model.proofs.SoundLogs.{last_epoch_is, MessageIsSound}
+use Rattle.kp_model.proofs.Ledger.{grown_begins, made_begins, made_kin}
+use Rattle.kp_model.proofs.Kin.{History, MessageIsKept, expected}
 use Rattle.kp_model.proofs.Held.{Sets, Sent}
 use Rattle.kp_model.proofs.HeldSteps.{shorter_by_end}
 use Rattle.kp_model.proofs.HeldOnto.{AllKept}
 use Rattle.kp_model.proofs.Known.{known}
+use Rattle.kp_model.proofs.Shown.{covered_begins, shown_same}
 
 -- ---- boundaries, and batches that follow
 
@@ -82,19 +83,16 @@ module _ (w : World) (g : History) (t : Sets) (k : AllKept w g t) (n : ℕ) wher
   abbrev x : Node
   x = w.nodes n
 
-  -- a fetch request of the leader's epoch asks from a boundary of its log
-  serve_plain : (r : Request) (l : Leading) → Sent w (Asks r) → x.mode ≡ Leads l → odd_cause (serve_cause x.log r l) ≡ false
-  serve_plain r l sent mode =
+  -- a request that the leader covers asks from a boundary of its log
+  serve_plain : (r : Request) (l : Leading) → Sent w (Asks r) → odd_cause (serve_cause x.log r l) ≡ false
+  serve_plain r l sent =
       plain_if (ltb r.epoch l.epoch) refusals.FencedLeaderEpoch _ (λ e. refl)
       (λ lower. plain_if (ltb l.epoch r.epoch) refusals.UnknownLeaderEpoch _ (λ e. refl)
-      (λ upper. plain_if (r.fetching && not (is_boundary x.log (end_of r.log))) refusals.OffsetOutOfRange None
+      (λ upper. plain_if (is_covered x.log r && not (is_boundary x.log (end_of r.log))) refusals.OffsetOutOfRange None
       (λ odd. (let parts = and_parts _ _ odd in
-      let low = ltb-false r.epoch l.epoch lower in
-      let high = ltb-false l.epoch r.epoch upper in
-      let same : r.epoch ≡ l.epoch = omega arith in
-      let kept : ModeIsKept g n x.log (Leads l) = subst (ModeIsKept g n x.log) mode (k.kept.nodes n).mode in
-      let made = (k.held.requests r sent).made parts.0 in
-      let begins : Begins r.log x.log = subst (Begins r.log) (ap g.ledger same ∙ sym kept.0) made in
+      let made : MessageIsKept g (Asks r) = each_sent (MessageIsKept g) w.messages (Asks r) k.kept.messages sent in
+      let log : MessageIsSound (Asks r) = each_sent MessageIsSound w.messages (Asks r) k.sound.messages sent in
+      let begins = covered_begins r.log x.log log (k.sound.nodes n).log (made_kin g.ledger r.log x.log made (k.kept.nodes n).made) parts.0 in
       absurd (false≢true (sym (ap not (boundary_test r.log x.log (k.sound.nodes n).log begins)) ∙ parts.1))))
       (λ e. refl)))
 
@@ -102,21 +100,26 @@ module _ (w : World) (g : History) (t : Sets) (k : AllKept w g t) (n : ℕ) wher
   cut_plain a =
       plain_if (is_down x.mode) refusals.Down _ (λ e. refl)
       (λ up. plain_if (not (has_epoch w.controller (mode_epoch x.mode))) refusals.StaleRecord _ (λ e. refl)
-      (λ recorded. plain_if (not (reconciles n x a.request.from a.request.life a.request.epoch (last_epoch a.request.log) x.mode)) refusals.StaleAnswer None (λ e. refl) (λ e. refl)))
+      (λ recorded. plain_if (not (reconciles n x a.request.from a.request.life a.request.epoch (end_of a.request.log) (last_epoch a.request.log))) refusals.StaleAnswer None (λ e. refl) (λ e. refl)))
 
   -- an answer's batches follow, and its watermark is at a boundary
-  take_plain : (a : Answer) → Sent w (Answers a) → odd_cause (take_cause x a) ≡ false
-  take_plain a sent =
+  take_plain : (a : Answer) → Sent w (Answers a) → is_covered a.log a.request ≡ true → odd_cause (take_cause x a) ≡ false
+  take_plain a sent covered =
       plain_if (is_down x.mode) refusals.Down _ (λ e. refl)
-      (λ up. plain_if (not (awaits x a.request.epoch (end_of a.request.log) x.mode)) refusals.StaleAnswer _ (λ e. refl)
-      (λ shown. (let p = expected x a x.mode refl (not-false (awaits x a.request.epoch (end_of a.request.log) x.mode) shown) in
+      (λ up. plain_if (not (awaits x a.request.epoch (end_of a.request.log) (last_epoch a.request.log) x.mode)) refusals.StaleAnswer _ (λ e. refl)
+      (λ shown. (let p = expected x a x.mode refl (not-false (awaits x a.request.epoch (end_of a.request.log) (last_epoch a.request.log) x.mode) shown) in
       let f = p.0 in
       let q = p.1 in
-      let mode : ModeIsKept g n x.log (Follows f) = subst (ModeIsKept g n x.log) q.is (k.kept.nodes n).mode in
       let message : MessageIsKept g (Answers a) = each_sent (MessageIsKept g) w.messages (Answers a) k.kept.messages sent in
+      let sound : MessageIsSound (Answers a) = each_sent MessageIsSound w.messages (Answers a) k.sound.messages sent in
+      let others = made_kin g.ledger a.request.log a.log message.0 (made_begins g.ledger message.1 (k.kept.made a.request.epoch)) in
+      let own = made_kin g.ledger a.request.log x.log message.0 (k.kept.nodes n).made in
+      let begins = covered_begins a.request.log a.log sound.asked sound.log others covered in
+      let same = shown_same a.request.log x.log sound.asked (k.sound.nodes n).log own (sym q.end) q.last in
       let answer : Begins a.log (g.ledger f.epoch) = subst (λ (e : ℕ). Begins a.log (g.ledger e)) (sym q.epoch) message.1 in
       let whole : IsLog (g.ledger f.epoch) = k.kept.logs f.epoch in
-      let made : Begins (grown x a) (g.ledger f.epoch) = grown_begins x.log a.log (g.ledger f.epoch) a.request whole (mode.0 q.fetches) answer q.end in
+      let mine : Begins x.log (g.ledger f.epoch) = Begins-trans (subst (λ (l : List Batch). Begins l a.log) same begins) answer in
+      let made : Begins (grown x a) (g.ledger f.epoch) = grown_begins x.log a.log (g.ledger f.epoch) a.request whole mine answer q.end in
       let log : IsLog (grown x a) = IsLog-begins made whole in
       let at : is_boundary (grown x a) (mark_taken x a) ≡ true = mark_at a sent f answer made log whole in
       plain_unless (cannot_follow x.log (piece a.log a.request)) _ (can_follow_all x.log (piece a.log a.request) log)
@@ -144,23 +147,22 @@ module _ (w : World) (g : History) (t : Sets) (k : AllKept w g t) (n : ℕ) wher
       by_mode : (mode : Mode) → x.mode ≡ mode → odd_cause (unless_leads mode (serve_cause x.log r)) ≡ false
       by_mode Down e = refl
       by_mode Idle e = refl
-      by_mode (Leads l) e = serve_plain r l sent e
+      by_mode (Leads l) e = serve_plain r l sent
       by_mode (Follows f) e = refl
   receive_plain (Answers a) sent =
-      cond_both a.request.fetching (take_cause x a) (cut_cause w.controller n x a) (λ (o : Option Refusal). odd_cause o ≡ false) (λ e. take_plain a sent) (λ e. cut_plain a)
+      cond_both (is_covered a.log a.request) (take_cause x a) (cut_cause w.controller n x a) (λ (o : Option Refusal). odd_cause o ≡ false) (λ e. take_plain a sent e) (λ e. cut_plain a)
 
 -- ---- what is answered
 
-accepts_plain : (c : LeaderAndIsr) (x : Node) (a : Answer) (fetching : Bool) (e : Effect) → Accepts c x a fetching e → odd_reply e.reply ≡ false
-accepts_plain c x a true e h = ap (λ (f : Effect). odd_reply f.reply) h
-accepts_plain c x a false e h = let f = where_follows x.mode (Cuts c x a e) h in ap (λ (g : Effect). odd_reply g.reply) f.2.effect_is
+accepts_plain : (c : LeaderAndIsr) (x : Node) (a : Answer) (covered : Bool) (e : Effect) → Accepts c x a covered e → odd_reply e.reply ≡ false
+accepts_plain c x a true e h = ap (λ (f : Effect). odd_reply f.reply) h.1
+accepts_plain c x a false e h = ap (λ (f : Effect). odd_reply f.reply) h.effect_is
 
 receives_plain : (c : LeaderAndIsr) (x : Node) (m : Message) (e : Effect) → Receives c x m e → odd_reply e.reply ≡ false
 receives_plain c x (Asks r) e h =
     let l = where_leads x.mode (λ l. Serves c x r l e) h in
-    ap (λ (g : Effect). odd_reply g.reply) l.2
-    ∙ cond_both r.fetching _ _ (λ (reply : Reply). odd_reply reply ≡ false) (λ t. refl) (λ t. refl)
-receives_plain c x (Answers a) e h = accepts_plain c x a a.request.fetching e h
+    served_either (λ f. odd_reply f.reply ≡ false) c x r l.0 e refl refl l.2
+receives_plain c x (Answers a) e h = accepts_plain c x a (is_covered a.log a.request) e h
 
 lacks_plain : (c : LeaderAndIsr) (x : Node) (m : Message) (e : Effect) → LacksMemoryFor c x m e → odd_reply e.reply ≡ false
 lacks_plain c x (Asks r) e h = ap (λ (g : Effect). odd_reply g.reply) h

@@ -1,7 +1,6 @@
 -- Each action of a node, and each election, takes the facts on.
 use Rattle.std.proofs.Common.{◌≡◌, ◌⊎◌, ℕ, ◌+◌, Bool, true, false, cond, eqb, List, ◌++◌, Option, Some, None, Result, Ok, Err, refl, sym, ap, ◌∙◌, subst, arith, inl, inr}
-use Rattle.std.specs.Prelude.{IsFalse, is_some, nat_lt, max, not, ◌||◌}
-use Rattle.std.specs.Option.{option_map_or}
+use Rattle.std.specs.Prelude.{is_some, max, not, ◌||◌}
 use Rattle.std.proofs.lemmas.Bool.{cond_both, eqb-true, eqb-false, eq-eqb, false≢true, not-false, ltb-false}
 use Rattle.kp_types.specs.declared.refusal.Refusal.{Refusal}
 use Rattle.kp_types.specs.declared.refusal.Refusal.TheVariants as refusals
@@ -12,19 +11,19 @@ use Rattle.kp_model.specs.Admission.{Admission, Append, Duplicate, Refused as No
 use Rattle.kp_model.specs.World.{Leader, Leading, Following, Mode, Down, Idle, Leads, Follows, Node, Request, Answer, Message, Asks, Answers, World, no_reports, with_record, with_node, with_message}
 use Rattle.kp_model.specs.Event.{Act, Adopt, Produce, Mark, Ask, Receive, Raise, Join, Leave, Checkpoint, Stop, Restart, Show, Read, Committed, Event, Reply, Outcome, NowLeads, NowFollows, Took, Cut, Refused}
 use Rattle.kp_model.specs.Local
-use Rattle.kp_model.specs.Local.{Effect, cause, Happens, LacksMemory, LacksMemoryFor, next_epoch, Adopts, Appends, Produces, Marks, Receives, Accepts, Serves, Takes, TakesSome, Cuts, Alters, piece, grown, mark_taken, take_cause, cut_cause, serve_cause, has_epoch, marker_body, is_empty, is_down, is_news, mode_epoch, asked, answer, raised, elected, altered, with_member, without_member, is_member, join_cause, leave_cause}
+use Rattle.kp_model.specs.Local.{Effect, cause, Happens, LacksMemory, LacksMemoryFor, next_epoch, Adopts, Appends, Produces, Marks, Receives, Accepts, Serves, Takes, TakesSome, Cuts, Alters, piece, grown, mark_taken, take_cause, cut_cause, serve_cause, has_epoch, marker_body, is_covered, asked, answer, reporting, raised, elected, altered, with_member, without_member, is_member, join_cause, leave_cause}
 use Rattle.kp_model.specs.Step.{Step, moved, IsGiven, elect_cause}
-use Rattle.kp_model.proofs.Beginnings.{Begins-refl, Begins-nil, Begins-append, Begins-trans}
+use Rattle.kp_model.proofs.Beginnings.{Begins-refl, Begins-append, Begins-trans}
 use Rattle.kp_model.proofs.Steps.{where_leads, where_follows, leads_cause, step_cases, becoming, staying, sending, altering, with_node_same, moved_becomes, each_sent}
 use Rattle.kp_model.proofs.SoundLogs.{elections_of}
 use Rattle.kp_model.proofs.Ledger.{IsMade}
 use Rattle.kp_model.proofs.Kin
-use Rattle.kp_model.proofs.Kin.{History, IsKept, ModeIsKept, MessageIsKept, same_log, re_recorded, elect_kept, take_kept, take_some_kept, cut_kept, grown_made, cut_facts, has_epoch_is, empty_is}
-use Rattle.kp_model.proofs.Held.{Sets, IsIn, Sent, IsHeld, answer_has, cut_holds}
+use Rattle.kp_model.proofs.Kin.{History, IsKept, ModeIsKept, MessageIsKept, same_log, re_recorded, elect_kept, take_kept, take_some_kept, cut_kept, grown_made, cut_facts, has_epoch_is}
+use Rattle.kp_model.proofs.Held.{Sets, IsIn, Sent, answer_has, cut_holds}
 use Rattle.kp_model.proofs.HeldNodes.{NodeChange, changed_held, committed_after, epoch_after}
 use Rattle.kp_model.proofs.HeldSteps.{goes_down, restarts, marks_change, follows_now, takes, cuts}
 use Rattle.kp_model.proofs.HeldMarks.{raises}
-use Rattle.kp_model.proofs.HeldMessages.{Sending, sent_held, committed_sent, epoch_sent, asks, serves, answering}
+use Rattle.kp_model.proofs.HeldMessages.{Sending, sent_held, committed_sent, epoch_sent, asks, lifts, answering}
 use Rattle.kp_model.proofs.HeldRecord.{elect_held, committed_elected, epoch_elected, with_members}
 use Rattle.kp_model.proofs.HeldAlter.{CaughtUp, alter_held, committed_altered, epoch_altered}
 use Rattle.kp_model.proofs.Members.{with_member_cases, with_member_keeps, without_member_had, without_member_keeps, named, caught_up}
@@ -66,30 +65,19 @@ module _ (w : World) (g : History) (t : Sets) (a : AllKept w g t) where
 
     -- ---- adopt
 
-    news_of : (l : Leader) → w.controller.leader ≡ Some l → is_news w.controller x.mode ≡ true → option_map_or (λ own. nat_lt own l.epoch) (mode_epoch x.mode) true ≡ true
-    news_of l e news = rw e at news
-
-    adopt_by : (l : Leader) (b : Bool) → eqb l.node n ≡ b → w.controller.leader ≡ Some l → is_down x.mode ≡ false → is_news w.controller x.mode ≡ true
-        → Onto w g t (with_node w n (record x {
-          mode = (cond {A = Mode × Reply} b
-              (Leads (record { epoch = l.epoch; isr = w.controller.isr; version = w.controller.version; start = end_of x.log; reported = no_reports }), NowLeads l.epoch (end_of x.log))
-              (Follows (record { leader = l.node; epoch = l.epoch; fetching = is_empty x.log }), NowFollows l.node l.epoch (is_empty x.log))).0;
-        }))
-    adopt_by l true b e up news = lead_onto w g t a n l e (eqb-true l.node n b)
-    adopt_by l false b e up news =
-        let f : Following = record { leader = l.node; epoch = l.epoch; fetching = is_empty x.log } in
-        same_onto (record x { mode = Follows f }) refl
-        (follows_now w g t a.sound a.held a.kept n l f e refl up (news_of l e news)) (
-          λ fetches. subst (λ (k : List Batch). Begins k (g.ledger l.epoch)) (sym (empty_is x.log fetches)) (Begins-nil (g.ledger l.epoch)),
-          λ same. eqb-false l.node n b (sym (a.kept.leader l e) ∙ same),
-        )
+    adopt_by : (l : Leader) (b : Bool) → eqb l.node n ≡ b → w.controller.leader ≡ Some l → Onto w g t (with_node w n (record x {
+      mode = (cond {A = Mode × Reply} b
+          (Leads (record { epoch = l.epoch; isr = w.controller.isr; version = w.controller.version; start = end_of x.log; reported = no_reports }), NowLeads l.epoch (end_of x.log))
+          (Follows (record { leader = l.node; epoch = l.epoch }), NowFollows l.node l.epoch)).0;
+    }))
+    adopt_by l true b e = lead_onto w g t a n l e (eqb-true l.node n b)
+    adopt_by l false b e =
+        let f : Following = record { leader = l.node; epoch = l.epoch } in
+        same_onto (record x { mode = Follows f }) refl (follows_now w g t a.sound a.held a.kept n l f e refl) (λ same. eqb-false l.node n b (sym (a.kept.leader l e) ∙ same))
 
     adopts : (leader : Option Leader) (f : Effect) → w.controller.leader ≡ leader → cause w.controller n x Adopt ≡ None → Adopts w.controller n x leader f → Onto w g t (moved w n f)
     adopts None f e c h = absurd h
-    adopts (Some l) f e c h =
-        let up = passed _ _ _ c in
-        let news = passed _ _ _ up.1 in
-        becoming (Onto w g t) w n f _ _ h (adopt_by l (eqb l.node n) refl e up.0 (not-false _ news.0))
+    adopts (Some l) f e c h = becoming (Onto w g t) w n f _ _ h (adopt_by l (eqb l.node n) refl e)
 
     -- ---- append
 
@@ -104,32 +92,40 @@ module _ (w : World) (g : History) (t : Sets) (a : AllKept w g t) where
 
     -- ---- serve
 
-    serve_onto : (l : Leading) (r : Request) → x.mode ≡ Leads l → Sent w (Asks r) → MessageIsKept g (Asks r) → r.epoch ≡ l.epoch
-        → Onto w g t (with_message (with_node w n (record x { mode = Leads (record l { reported = Local.reported_after l r }) })) (Answers (answer x r)))
-    serve_onto l r mode q k epoch =
-        let y : Node = record x { mode = Leads (record l { reported = Local.reported_after l r }) } in
-        let v : World = with_node w n y in
+    serve_onto : (l : Leading) (r : Request) (f : Effect) → x.mode ≡ Leads l → Sent w (Asks r) → MessageIsKept g (Asks r) → r.epoch ≡ l.epoch → Serves w.controller x r l f → Onto w g t (moved w n f)
+    serve_onto l r f mode q k epoch h =
         let m : Message = Answers (answer x r) in
-        let c = serves w g t a.sound a.held a.kept n l mode r q epoch in
         let kept : ModeIsKept g n x.log (Leads l) = subst (ModeIsKept g n x.log) mode (a.kept.nodes n).mode in
-        let first = same_onto y refl c kept in
-        let held : IsHeld v g t = changed_held w g t a.sound a.held a.kept n y c in
-        let said = answering w g t a.sound a.held a.kept n l mode r q epoch in
         let whole : x.log ≡ g.ledger r.epoch = kept.0 ∙ ap g.ledger (sym epoch) in
-        record {
-          next = g;
-          sets = t;
-          kept = Kin.sent v g m (Kin.changed w g n y a.kept (record { made = (a.kept.nodes n).made; mode = kept }) (same_log w g n a.kept)) (k, subst (Begins x.log) whole (Begins-refl x.log));
-          held = sent_held v g t held m said;
-          led = led_same w g t n y refl a.led;
-          own = a.own;
-          grows = λ e. Begins-refl (g.ledger e);
-          began = λ e first o. o;
-          committed = λ P p. committed_sent v g t held m said P (committed_after w g t a.sound a.held a.kept n y c P p);
-          epoch = λ P p.
-              inl (epoch_sent v g t held m said P (committed_after w g t a.sound a.held a.kept n y c P p) ∙ epoch_after w g t a.sound a.held a.kept n y c P p);
-          stays = first.stays;
-        }
+        let message : MessageIsKept g m = (k, subst (Begins x.log) whole (Begins-refl x.log)) in
+        elim h [
+          | inl lift ↦
+              (let y : Node = record x { mode = Leads (reporting l r.from (end_of r.log)) } in
+              let v : World = with_node w n y in
+              let c = lifts w g t a.sound a.held a.kept n l mode r q epoch lift.0 in
+              let first = same_onto y refl c kept in
+              let committed = committed_after w g t a.sound a.held a.kept n y c in
+              let said = answering w g t a.sound a.held a.kept n l mode r q epoch v committed in
+              sending (Onto w g t) w n f _ _ _ lift.1
+              (record {
+                next = g;
+                sets = t;
+                kept = Kin.sent v g m (Kin.changed w g n y a.kept (record { made = (a.kept.nodes n).made; mode = kept }) (same_log w g n a.kept)) message;
+                held = sent_held v g t (changed_held w g t a.sound a.held a.kept n y c) m said;
+                led = led_same w g t n y refl a.led;
+                own = a.own;
+                grows = λ e. Begins-refl (g.ledger e);
+                began = λ e first o. o;
+                committed = λ P p. committed_sent v g t (changed_held w g t a.sound a.held a.kept n y c) m said P (committed P p);
+                epoch = λ P p.
+                    inl (epoch_sent v g t (changed_held w g t a.sound a.held a.kept n y c) m said P (committed P p) ∙ epoch_after w g t a.sound a.held a.kept n y c P p);
+                stays = first.stays;
+              }))
+          | inr diverges ↦
+              sending (Onto w g t) w n f _ _ _ diverges.1
+              (subst (λ (v : World). Onto w g t (with_message v m)) (sym (with_node_same w n))
+              (sent_onto m (answering w g t a.sound a.held a.kept n l mode r q epoch w (λ P p. p)) message))
+        ]
 
     same_epoch : (log : List Batch) (r : Request) (l : Leading) → serve_cause log r l ≡ None → r.epoch ≡ l.epoch
     same_epoch log r l c =
@@ -143,22 +139,22 @@ module _ (w : World) (g : History) (t : Sets) (a : AllKept w g t) where
 
     take_onto : (b : Answer) → Sent w (Answers b) → MessageIsKept g (Answers b) → take_cause x b ≡ None → (f : Effect) → Takes w.controller x b f → Onto w g t (moved w n f)
     take_onto b q k c f h =
-        let made = grown_made w g n b a.kept k c in
+        let made = grown_made w g n b a.kept k c h.0 in
         let p = made.1 in
         let answered : Begins b.log (g.ledger made.0.epoch) = subst (λ (e : ℕ). Begins b.log (g.ledger e)) (sym p.epoch) k.1 in
         let y : Node = record x { log = grown x b; watermark = max x.watermark (mark_taken x b) } in
         let kept : IsKept (with_node w n y) g =
-        subst (λ (v : World). IsKept v g) (moved_becomes w n y w.controller (Took (end_of (grown x b)) (max x.watermark (mark_taken x b)))) (take_kept w g n b _ c a.kept k refl) in
-        becoming (Onto w g t) w n f y _ h
+        subst (λ (v : World). IsKept v g) (moved_becomes w n y w.controller (Took (end_of (grown x b)) (max x.watermark (mark_taken x b)))) (take_kept w g n b _ c a.kept k (h.0, refl)) in
+        becoming (Onto w g t) w n f y _ h.1
         (node_onto w g t a n y (takes w g t a.sound a.held a.kept n b q made.0 p made.2 answered) kept (led_follows w g t a n y made.0 p.is)
         (λ P i z. Begins-trans z (Begins-append x.log (piece b.log b.request))))
 
     take_some_onto : (b : Answer) → Sent w (Answers b) → MessageIsKept g (Answers b) → take_cause x b ≡ None → (f : Effect) → TakesSome w.controller x b f → Onto w g t (moved w n f)
     take_some_onto b q k c f h =
-        let made = grown_made w g n b a.kept k c in
+        let made = grown_made w g n b a.kept k c h.continues in
         let y : Node = record x { log = x.log ++ h.some; mode = Down } in
         let kept : IsKept (with_node w n y) g =
-        subst (λ (v : World). IsKept v g) (moved_becomes w n y w.controller (Refused refusals.Memory)) (take_some_kept w g n b _ c a.kept k (record { some = h.some; begins = h.begins; effect_is = refl })) in
+        subst (λ (v : World). IsKept v g) (moved_becomes w n y w.controller (Refused refusals.Memory)) (take_some_kept w g n b _ c a.kept k (record { continues = h.continues; some = h.some; begins = h.begins; effect_is = refl })) in
         becoming (Onto w g t) w n f y _ h.effect_is
         (node_onto w g t a n y (goes_down w g t a.sound a.held a.kept n (x.log ++ h.some) (Begins-append x.log h.some)) kept (led_follows w g t a n y made.0 made.1.is)
         (λ P i z. Begins-trans z (Begins-append x.log h.some)))
@@ -172,49 +168,49 @@ module _ (w : World) (g : History) (t : Sets) (a : AllKept w g t) where
         by_leader None is = absurd (false≢true (let f = e in rw is at f))
         by_leader (Some l) is = ap next_epoch is ∙ ap (λ (k : ℕ). k + 1) (has_epoch_is w.controller l epoch is e)
 
-    cut_onto : (b : Answer) (l : Following) → Sent w (Answers b) → MessageIsKept g (Answers b) → IsFalse b.request.fetching → x.mode ≡ Follows l → cut_cause w.controller n x b ≡ None → (f : Effect) → Cuts w.controller x b f l → Onto w g t (moved w n f)
-    cut_onto b l q k epochs mode c f h =
-        let facts = cut_facts w n b l mode c in
+    cut_onto : (b : Answer) → Sent w (Answers b) → MessageIsKept g (Answers b) → cut_cause w.controller n x b ≡ None → (f : Effect) → Cuts w.controller x b f → Onto w g t (moved w n f)
+    cut_onto b q k c f h =
+        let found = cut_facts w.controller n x b c in
+        let l = found.0 in
+        let facts = found.1 in
         let top = last_election l.epoch facts.recorded in
-        let y : Node = record x { log = h.left; mode = Follows (record l { fetching = h.done }) } in
+        let y : Node = record x { log = h.left } in
         let kept : IsKept (with_node w n y) g =
-        subst (λ (v : World). IsKept v g) (moved_becomes w n y w.controller (Cut (end_of h.left) h.done))
-        (cut_kept w g n b _ l mode c a.kept k (record {
+        subst (λ (v : World). IsKept v g) (moved_becomes w n y w.controller (Cut (end_of h.left)))
+        (cut_kept w g n b _ c a.kept k (record {
+          diverges = h.diverges;
+          same = h.same;
           left = h.left;
           common = h.common;
-          done = h.done;
           begins = h.begins;
           is_common = h.is_common;
           keeps = h.keeps;
-          done_at = h.done_at;
           shorter = h.shorter;
-          empty_fetches = h.empty_fetches;
           effect_is = refl;
         })) in
-        let from = facts.from in
+        let asked = facts.asked in
         becoming (Onto w g t) w n f y _ h.effect_is
         (node_onto w g t a n y
-        (cuts w g t a.sound a.held a.kept n b q l h.left h.common h.done mode facts.reconciling from facts.asked facts.life epochs top h.begins h.is_common h.keeps)
-        kept (led_follows w g t a n y l mode)
+        (cuts w g t a.sound a.held a.kept n b q l h.left h.common facts.is facts.asked h.same top h.begins h.is_common h.keeps)
+        kept (led_follows w g t a n y l facts.is)
         (λ P p z. cut_holds h.left x.log b.log h.common P h.is_common h.keeps z
-        (answer_has w g t a.held a.kept b l q (subst (λ (j : ℕ). (w.nodes j).mode ≡ Follows l) (sym from) mode) facts.reconciling facts.asked
-        (subst (λ (j : ℕ). b.request.life ≡ (w.nodes j).life) (sym from) facts.life) epochs top P p (subst (λ (j : ℕ). Begins P (w.nodes j).log) (sym from) z))))
+        (answer_has w g t a.held a.kept b q (omega (arith, top, asked)) P p (subst (Begins P) (sym h.same) z))))
 
-    accepts : (b : Answer) (fetching : Bool) (f : Effect) → b.request.fetching ≡ fetching → Sent w (Answers b) → MessageIsKept g (Answers b) → cond fetching (take_cause x b) (cut_cause w.controller n x b) ≡ None → Accepts w.controller x b fetching f → Onto w g t (moved w n f)
-    accepts b true f is q k c h = take_onto b q k c f h
-    accepts b false f is q k c h =
-        let l = where_follows x.mode (Cuts w.controller x b f) h in
-        cut_onto b l.0 q k is l.1 c f l.2
+    accepts : (b : Answer) (covered : Bool) (f : Effect) → Sent w (Answers b) → MessageIsKept g (Answers b) → cond covered (take_cause x b) (cut_cause w.controller n x b) ≡ None → Accepts w.controller x b covered f → Onto w g t (moved w n f)
+    accepts b true f q k c h = take_onto b q k c f h
+    accepts b false f q k c h = cut_onto b q k c f h
 
     receives : (m : Message) (f : Effect) → Sent w m → MessageIsKept g m → Local.receive_cause w.controller n x m ≡ None → Receives w.controller x m f → Onto w g t (moved w n f)
     receives (Asks r) f q k c h =
         let l = where_leads x.mode (λ l. Serves w.controller x r l f) h in
-        sending (Onto w g t) w n f _ _ _ l.2 (serve_onto l.0 r l.1 q k (same_epoch x.log r l.0 (leads_cause x.mode (serve_cause x.log r) l.0 l.1 c)))
-    receives (Answers b) f q k c h = accepts b b.request.fetching f refl q k c h
+        serve_onto l.0 r f l.1 q k (same_epoch x.log r l.0 (leads_cause x.mode (serve_cause x.log r) l.0 l.1 c)) l.2
+    receives (Answers b) f q k c h = accepts b (is_covered b.log b.request) f q k c h
 
     lacks : (m : Message) (f : Effect) → Sent w m → MessageIsKept g m → Local.receive_cause w.controller n x m ≡ None → LacksMemoryFor w.controller x m f → Onto w g t (moved w n f)
     lacks (Asks r) f q k c h = staying (Onto w g t) w n f _ h (onto_same w g t a)
-    lacks (Answers b) f q k c h = let cause = rw h.0 at c in take_some_onto b q k cause f h.1
+    lacks (Answers b) f q k c h =
+        let cause = subst (λ (t : Bool). cond t (take_cause x b) (cut_cause w.controller n x b) ≡ None) h.0 c in
+        take_some_onto b q k cause f h.1
 
     -- ---- join, leave
 
@@ -289,7 +285,7 @@ module _ (w : World) (g : History) (t : Sets) (a : AllKept w g t) where
         let l = where_follows x.mode _ h in
         sending (Onto w g t) w n f _ _ _ l.2
         (subst (λ (v : World). Onto w g t (with_message v (Asks (asked n x l.0)))) (sym (with_node_same w n))
-        (sent_onto (Asks (asked n x l.0)) (asks w g t a.sound a.held a.kept n l.0 l.1) (a.kept.nodes n).made))
+        (sent_onto (Asks (asked n x l.0)) (asks w g t a.held n l.0 l.1) (a.kept.nodes n).made))
     does (Receive m) f i c h = receives m f i (each_sent (MessageIsKept g) w.messages m a.kept.messages i) c h
     does Raise f i c h =
         let l = where_leads x.mode (λ l. Local.Raises w.controller n x l f) h in

@@ -1,19 +1,19 @@
 -- The controller's record stays in range.
 use Rattle.std.proofs.Common.{◌≡◌, ℕ, zero, suc, ◌+◌, zero-add, ◌<◌, ◌≤◌, leb, ltb, Bool, true, false, cond, eqb, List, [], ◌∷◌, ◌++◌, Option, Some, None, Result, Ok, Err, refl, sym, ap, ◌∙◌, subst, arith, inl, inr}
-use Rattle.std.specs.Prelude.{filter, ◌||◌, is_some, max, unwrap_or, slice_index_or, slice_set}
+use Rattle.std.specs.Prelude.{filter, ◌||◌, is_some}
 use Rattle.std.specs.List.{AllByRecursion, range_with_len}
 use Rattle.std.proofs.lemmas.Bool.{cond_both, ltb-true, ltb-false, leb-false, false≢true, not-false}
 use Rattle.kp_batch.specs.Batch.{Body}
 use Rattle.kp_types.specs.declared.refusal.Refusal.{Refusal}
 use Rattle.kp_model.specs.Log.{end_of}
 use Rattle.kp_model.specs.Admission.{Admission, Append, Duplicate, Refused as NotAdmitted, admit, admit_marker}
-use Rattle.kp_model.specs.World.{Leader, LeaderAndIsr, Leading, Following, Mode, Down, Idle, Leads, Follows, Node, Request, Answer, Message, Asks, Answers, World, start, with_record, no_reports, report_of, IsSent}
+use Rattle.kp_model.specs.World.{Leader, LeaderAndIsr, Leading, Mode, Down, Idle, Leads, Follows, Node, Request, Answer, Message, Asks, Answers, World, start, with_record, no_reports, report_of, IsSent}
 use Rattle.kp_model.specs.Event.{Act, Adopt, Produce, Mark, Ask, Receive, Raise, Join, Leave, Checkpoint, Stop, Restart, Show, Read, Committed, Event, Reply, Outcome, NowLeads, NowFollows}
 use Rattle.kp_model.specs.Local
-use Rattle.kp_model.specs.Local.{Effect, becomes, cause, Happens, LacksMemory, LacksMemoryFor, Adopts, Appends, Produces, Marks, Accepts, Receives, Serves, Cuts, Alters, marker_body, with_member, without_member, is_empty, join_cause, leave_cause, next_epoch, elected, greatest_epoch, greatest_version}
+use Rattle.kp_model.specs.Local.{Effect, becomes, cause, Happens, LacksMemory, LacksMemoryFor, Adopts, Appends, Produces, Marks, Accepts, Receives, Serves, Alters, reporting, is_covered, marker_body, with_member, without_member, join_cause, leave_cause, next_epoch, elected, greatest_epoch, greatest_version}
 use Rattle.kp_model.specs.Step.{Step, moved, IsGiven, Rise, IsInRange, elect_cause}
 use Rattle.kp_model.specs.Run.{Moment, IsRun, Run, now, worlds, IsOf}
-use Rattle.kp_model.proofs.Steps.{where_leads, where_follows, leads_cause, step_cases, each_sent}
+use Rattle.kp_model.proofs.Steps.{where_leads, where_follows, leads_cause, step_cases, each_sent, served_either}
 use Rattle.kp_model.proofs.Runs.{among_each}
 use Rattle.kp_model.proofs.RunLaws.{step_onward}
 use Rattle.kp_model.proofs.Kin.{with_node_each}
@@ -109,12 +109,9 @@ module _ (count : ℕ) (c : LeaderAndIsr) (n : ℕ) (x : Node) (counted : n < co
   no_leads_idle : ModeIsInRange count Idle
   no_leads_idle l e m v q = absurd (idle_leads l e)
 
-  no_leads_follows : (f : Following) → ModeIsInRange count (Follows f)
-  no_leads_follows f l e m v q = absurd (follows_leads f l e)
-
   adopt_by : (l : Leader) (b : Bool) → ModeIsInRange count (cond {A = Mode × Reply} b
       (Leads (record { epoch = l.epoch; isr = c.isr; version = c.version; start = end_of x.log; reported = no_reports }), NowLeads l.epoch (end_of x.log))
-      (Follows (record { leader = l.node; epoch = l.epoch; fetching = is_empty x.log }), NowFollows l.node l.epoch (is_empty x.log))).0
+      (Follows (record { leader = l.node; epoch = l.epoch }), NowFollows l.node l.epoch)).0
   adopt_by l true z e m v q =
       let none : report_of z m ≡ None = ap (λ (y : Leading). report_of y m) (sym (leads_is _ z e)) ∙ replicate_each 7 m None in
       absurd (false≢true (ap is_some (sym none ∙ q)))
@@ -133,28 +130,24 @@ module _ (count : ℕ) (c : LeaderAndIsr) (n : ℕ) (x : Node) (counted : n < co
   produces l (Ok body) e a = appends l body (admit x.log body.content) e a.1
   produces l (Err fault) e a = absurd a
 
-  serve_mode : (r : Request) (l : Leading) → x.mode ≡ Leads l → r.from < count → (m v : ℕ) → (b : Bool)
-      → slice_index_or (cond b (slice_set l.reported r.from (Some (max (unwrap_or (report_of l r.from) 0) (end_of r.log)))) l.reported) m None ≡ Some v → m < count
-  serve_mode r l mode from m v false q = k l mode m v q
-  serve_mode r l mode from m v true q =
-      elim (set_cases l.reported r.from m _ v q) [ inl new ↦ (let same = new.0 in omega arith) | inr old ↦ k l mode m v old ]
+  lifted_mode : (r : Request) (l : Leading) → x.mode ≡ Leads l → r.from < count → ModeIsInRange count (Leads (reporting l r.from (end_of r.log)))
+  lifted_mode r l mode from z q m v p =
+      elim (set_cases l.reported r.from m _ v (subst (λ (y : Leading). report_of y m ≡ Some v) (sym (leads_is _ z q)) p)) [
+        | inl new ↦ (let same = new.0 in omega arith)
+        | inr old ↦ k l mode m v old
+      ]
 
   serves : (r : Request) (l : Leading) (e : Effect) → x.mode ≡ Leads l → r.from < count → Serves c x r l e → EffectIsInRange count e
   serves r l e mode from a =
-      subst (EffectIsInRange count) (sym a)
-      (record {
-        controller = h;
-        sent = (tt, tt);
-        mode = λ z q m v p. serve_mode r l mode from m v r.fetching (subst (λ (y : Leading). report_of y m ≡ Some v) (sym (leads_is _ z q)) p);
-      })
+      served_either (EffectIsInRange count) c x r l e (record { controller = h; sent = (tt, tt); mode = lifted_mode r l mode from }) (record { controller = h; sent = (tt, tt); mode = k }) a
 
-  accepts : (b : Answer) (fetching : Bool) (e : Effect) → Accepts c x b fetching e → EffectIsInRange count e
-  accepts b true e a = plain e _ _ a k
-  accepts b false e a = let f = where_follows x.mode (Cuts c x b e) a in plain e _ _ f.2.effect_is (no_leads_follows _)
+  accepts : (b : Answer) (covered : Bool) (e : Effect) → Accepts c x b covered e → EffectIsInRange count e
+  accepts b true e a = plain e _ _ a.1 k
+  accepts b false e a = plain e _ _ a.effect_is k
 
   receives : (m : Message) (e : Effect) → MessageIsInRange count m → Receives c x m e → EffectIsInRange count e
   receives (Asks r) e from a = let l = where_leads x.mode (λ l. Serves c x r l e) a in serves r l.0 e l.1 from l.2
-  receives (Answers b) e from a = accepts b b.request.fetching e a
+  receives (Answers b) e from a = accepts b (is_covered b.log b.request) e a
 
   lacks : (m : Message) (e : Effect) → LacksMemoryFor c x m e → EffectIsInRange count e
   lacks (Asks r) e a = plain e _ _ a k

@@ -6,11 +6,11 @@ use Rattle.kp_batch.specs.Batch.{Body}
 use Rattle.kp_model.specs.Admission.{Admission, Append, Duplicate, Refused as NotAdmitted, admit, admit_marker}
 use Rattle.kp_model.specs.World.{LeaderAndIsr, Leader, Leading, Following, Leads, Follows, Node, Request, Answer, Message, Asks, Answers, World, IsSent}
 use Rattle.kp_model.specs.Event.{Act, Adopt, Produce, Mark, Ask, Receive, Raise, Join, Leave, Checkpoint, Stop, Restart, Show, Read, Committed, Event, Outcome}
-use Rattle.kp_model.specs.Local.{Effect, cause, Happens, LacksMemory, LacksMemoryFor, Adopts, Appends, Produces, Marks, Receives, Accepts, Serves, Cuts, Alters, marker_body, with_member, without_member, asked, answer, serve_cause, receive_cause}
+use Rattle.kp_model.specs.Local.{Effect, cause, Happens, LacksMemory, LacksMemoryFor, Adopts, Appends, Produces, Marks, Receives, Accepts, Serves, Alters, is_covered, marker_body, with_member, without_member, asked, answer, serve_cause, receive_cause}
 use Rattle.kp_model.specs.Step.{Step, IsGiven}
 use Rattle.kp_model.specs.Run.{Moment, IsRun, now, worlds, Among}
 use Rattle.kp_model.specs.Laws.{MessagesStay}
-use Rattle.kp_model.proofs.Steps.{where_leads, where_follows, leads_cause, step_cases, get_front}
+use Rattle.kp_model.proofs.Steps.{where_leads, where_follows, leads_cause, served_either, step_cases, get_front}
 use Rattle.kp_types.proofs.Elements.{all_append}
 
 module _ (Q : Message → Type 0) (messages : List Message) (c : LeaderAndIsr) (n : ℕ) (x : Node)
@@ -35,15 +35,16 @@ module _ (Q : Message → Type 0) (messages : List Message) (c : LeaderAndIsr) (
   produces_sends l (Ok body) e h = appends_sends l body (admit x.log body.content) e h.1
   produces_sends l (Err fault) e h = absurd h
 
-  accepts_sends : (a : Answer) (fetching : Bool) (e : Effect) → Accepts c x a fetching e → AllSent e
-  accepts_sends a true e h = sent_by e _ h tt
-  accepts_sends a false e h = let f = where_follows x.mode (Cuts c x a e) h in sent_by e _ f.2.effect_is tt
+  accepts_sends : (a : Answer) (covered : Bool) (e : Effect) → Accepts c x a covered e → AllSent e
+  accepts_sends a true e h = sent_by e _ h.1 tt
+  accepts_sends a false e h = sent_by e _ h.effect_is tt
 
   receives_sends : (m : Message) (e : Effect) → IsSent messages m → receive_cause c n x m ≡ None → Receives c x m e → AllSent e
   receives_sends (Asks r) e given free h =
       let l = where_leads x.mode (λ l. Serves c x r l e) h in
-      sent_by e _ l.2 (serves r l.0 given l.1 (leads_cause x.mode (serve_cause x.log r) l.0 l.1 free), tt)
-  receives_sends (Answers a) e given free h = accepts_sends a a.request.fetching e h
+      let answers = serves r l.0 given l.1 (leads_cause x.mode (serve_cause x.log r) l.0 l.1 free) in
+      served_either AllSent c x r l.0 e (answers, tt) (answers, tt) l.2
+  receives_sends (Answers a) e given free h = accepts_sends a (is_covered a.log a.request) e h
 
   happens_sends : (act : Act) (e : Effect) → IsGiven messages act → cause c n x act ≡ None → Happens c n x act e → AllSent e
   happens_sends Adopt e given free h = adopts_sends c.leader e h

@@ -8,12 +8,12 @@ use Rattle.kp_batch.specs.Batch.{Body, IsBody}
 use Rattle.kp_model.specs.Beginning.{Begins}
 use Rattle.kp_model.specs.Log.{Batch, width, end_of, Follow, IsLog, from_offset}
 use Rattle.kp_model.specs.Admission.{Admission, Append, Duplicate, Refused as NotAdmitted, admit, admit_marker}
-use Rattle.kp_model.specs.World.{Leader, Leading, Following, Mode, Down, Idle, Leads, Follows, Node, Request, Answer, Message, Asks, Answers, World, start, with_record, with_node, with_message}
+use Rattle.kp_model.specs.World.{Leader, Leading, Mode, Down, Idle, Leads, Follows, Node, Request, Answer, Message, Asks, Answers, World, start, with_record, with_node, with_message}
 use Rattle.kp_model.specs.Event.{Act, Adopt, Produce, Mark, Ask, Receive, Raise, Join, Leave, Checkpoint, Stop, Restart, Show, Read, Committed, Event, Reply, Outcome}
 use Rattle.kp_model.specs.Local
-use Rattle.kp_model.specs.Local.{Effect, cause, Happens, LacksMemory, next_epoch, last_epoch, stamped, under, Adopts, Appends, Produces, Marks, Receives, Accepts, Serves, Takes, TakesSome, Cuts, Alters, piece, cannot_follow, grown, awaits, take_cause, serve_cause, marker_body, LacksMemoryFor, elected, altered}
+use Rattle.kp_model.specs.Local.{Effect, cause, Happens, LacksMemory, next_epoch, last_epoch, stamped, under, Adopts, Appends, Produces, Marks, Receives, Accepts, Serves, Takes, TakesSome, Cuts, Alters, piece, cannot_follow, grown, awaits, take_cause, serve_cause, is_covered, answer, marker_body, LacksMemoryFor, elected, altered}
 use Rattle.kp_model.specs.Step.{Step, moved, IsGiven}
-use Rattle.kp_model.proofs.Fetched.{each_at_least_one}
+use Rattle.kp_model.proofs.FetchLimit.{each_at_least_one}
 use Rattle.kp_model.proofs.Following.{cannot_follow-cons}
 use Rattle.kp_model.proofs.Beginnings.{Begins-after}
 use Rattle.kp_model.proofs.Logs.{last_epoch_or, IsLog-begins, IsLog-push}
@@ -33,7 +33,7 @@ pub last_below : (epoch bound : ℕ) (log : List Batch) → epoch < bound → Al
 last_below epoch bound [] e h = e
 last_below epoch bound (b ∷ bs) e h = last_below b.epoch bound bs h.0 h.1
 
-last_epoch_some : (epoch : ℕ) (log : List Batch) → last_or (Some epoch) (map (λ b. b.epoch) log) ≡ Some (last_epoch_or epoch log)
+pub last_epoch_some : (epoch : ℕ) (log : List Batch) → last_or (Some epoch) (map (λ b. b.epoch) log) ≡ Some (last_epoch_or epoch log)
 last_epoch_some epoch [] = refl
 last_epoch_some epoch (b ∷ bs) = last_epoch_some b.epoch bs
 
@@ -96,11 +96,12 @@ pub record NodeIsSound (elections : ℕ) (x : Node) : Type 0 where
   pub within : mode_bound elections x.mode ≤ elections
 
 pub record AnswerIsSound (a : Answer) : Type 0 where
+  pub asked : IsLog a.request.log
   pub log : IsLog a.log
   pub epochs : AllBelow (a.request.epoch + 1) a.log
 
 abbrev pub MessageIsSound : Message → Type 0
-MessageIsSound (Asks r) = Unit {0}
+MessageIsSound (Asks r) = IsLog r.log
 MessageIsSound (Answers a) = AnswerIsSound a
 
 abbrev pub elections_of : World → ℕ
@@ -181,8 +182,8 @@ produce_keeps w n l (Ok body) f e h a = append_keeps w n l body (admit (w.nodes 
 produce_keeps w n l (Err fault) f e h a = absurd a
 
 -- a leader answers in its own epoch
-serve_keeps : (w : World) (n : ℕ) (r : Request) (l : Leading) (f : Effect) → (w.nodes n).mode ≡ Leads l → serve_cause (w.nodes n).log r l ≡ None → WorldIsSound w → Serves w.controller (w.nodes n) r l f → WorldIsSound (moved w n f)
-serve_keeps w n r l f e c h a =
+serve_keeps : (w : World) (n : ℕ) (r : Request) (l : Leading) (f : Effect) → (w.nodes n).mode ≡ Leads l → serve_cause (w.nodes n).log r l ≡ None → IsLog r.log → WorldIsSound w → Serves w.controller (w.nodes n) r l f → WorldIsSound (moved w n f)
+serve_keeps w n r l f e c asked h a =
     let x = w.nodes n in
     let sound = h.nodes n in
     let bound : mode_bound (elections_of w) x.mode ≡ l.epoch + 1 = ap (mode_bound (elections_of w)) e in
@@ -190,22 +191,27 @@ serve_keeps w n r l f e c h a =
     let not_ahead = passed _ _ _ not_fenced.1 in
     let lower = ltb-false r.epoch l.epoch not_fenced.0 in
     let upper = ltb-false l.epoch r.epoch not_ahead.0 in
-    sending WorldIsSound w n f _ _ _ a
-    (sent _ _ (changed w n _ h (record { log = sound.log; epochs = rw bound at sound.epochs; within = omega (arith, bound, sound.within) }))
-    (record { log = sound.log; epochs = below_later (mode_bound (elections_of w) x.mode) (r.epoch + 1) x.log (omega (arith, bound)) sound.epochs }))
+    let answers : AnswerIsSound (answer x r) =
+    record { asked = asked; log = sound.log; epochs = below_later (mode_bound (elections_of w) x.mode) (r.epoch + 1) x.log (omega (arith, bound)) sound.epochs } in
+    elim a [
+      | inl lifts ↦
+          sending WorldIsSound w n f _ _ _ lifts.1
+          (sent _ _ (changed w n _ h (record { log = sound.log; epochs = rw bound at sound.epochs; within = omega (arith, bound, sound.within) })) answers)
+      | inr diverges ↦ sending WorldIsSound w n f _ _ _ diverges.1 (sent _ _ (changed w n x h sound) answers)
+    ]
 
--- what a fetch answer adds keeps the node's log
-pub expects_mode : (elections : ℕ) (x : Node) (a : Answer) (mode : Mode) → awaits x a.request.epoch (end_of a.request.log) mode ≡ true → mode_bound elections mode ≡ a.request.epoch + 1
+-- what an answer with batches adds keeps the node's log
+pub expects_mode : (elections : ℕ) (x : Node) (a : Answer) (mode : Mode) → awaits x a.request.epoch (end_of a.request.log) (last_epoch a.request.log) mode ≡ true → mode_bound elections mode ≡ a.request.epoch + 1
 expects_mode elections x a Down e = absurd cc
 expects_mode elections x a Idle e = absurd cc
 expects_mode elections x a (Leads l) e = absurd cc
 expects_mode elections x a (Follows f) e =
     let rest = and_parts _ _ e in
-    let fetches = and_parts _ _ rest.0 in
-    ap (λ (n : ℕ). n + 1) (eqb-true f.epoch a.request.epoch fetches.1)
+    let first = and_parts _ _ rest.0 in
+    ap (λ (n : ℕ). n + 1) (eqb-true f.epoch a.request.epoch first.0)
 
 pub record TakeFacts (x : Node) (a : Answer) : Type 0 where
-  pub expected : awaits x a.request.epoch (end_of a.request.log) x.mode ≡ true
+  pub expected : awaits x a.request.epoch (end_of a.request.log) (last_epoch a.request.log) x.mode ≡ true
   pub follows : cannot_follow x.log (piece a.log a.request) ≡ None
 
 is_some_none : {A : Type 0} (o : Option A) → is_some o ≡ false → o ≡ None
@@ -217,7 +223,7 @@ take_facts x a c =
     let up = passed _ _ _ c in
     let expected = passed _ _ _ up.1 in
     let follows = take_follows (cannot_follow x.log (piece a.log a.request)) _ expected.1 in
-    record { expected = not-false (awaits x a.request.epoch (end_of a.request.log) x.mode) expected.0; follows = follows }
+    record { expected = not-false (awaits x a.request.epoch (end_of a.request.log) (last_epoch a.request.log) x.mode) expected.0; follows = follows }
   where
     take_follows : (o rest : Option Refusal) → cond (is_some o) o rest ≡ None → o ≡ None
     take_follows None rest e = refl
@@ -237,7 +243,7 @@ grown_is_sound elections x a h g c =
 take_keeps : (w : World) (n : ℕ) (a : Answer) (f : Effect) → take_cause (w.nodes n) a ≡ None → WorldIsSound w → AnswerIsSound a → Takes w.controller (w.nodes n) a f → WorldIsSound (moved w n f)
 take_keeps w n a f c h g t =
     let sound = grown_is_sound (elections_of w) (w.nodes n) a (h.nodes n) g c in
-    becoming WorldIsSound w n f _ _ t (changed w n _ h (record { log = sound.log; epochs = sound.epochs; within = sound.within }))
+    becoming WorldIsSound w n f _ _ t.1 (changed w n _ h (record { log = sound.log; epochs = sound.epochs; within = sound.within }))
 
 -- a node that went down while it took the batches has a beginning of what it would have
 take_some_keeps : (w : World) (n : ℕ) (a : Answer) (f : Effect) → take_cause (w.nodes n) a ≡ None → WorldIsSound w → AnswerIsSound a → TakesSome w.controller (w.nodes n) a f → WorldIsSound (moved w n f)
@@ -256,17 +262,16 @@ take_some_keeps w n a f c h g t =
     below_front : (bound : ℕ) (front log : List Batch) → Begins front log → AllBelow bound log → AllBelow bound front
     below_front bound front log p h = all_front (λ b. b.epoch < bound) front p.rest (subst (AllBelow bound) (sym p.is) h)
 
-cut_keeps : (w : World) (n : ℕ) (a : Answer) (effect : Effect) (f : Following) → (w.nodes n).mode ≡ Follows f → WorldIsSound w → Cuts w.controller (w.nodes n) a effect f → WorldIsSound (moved w n effect)
-cut_keeps w n a effect f e h c =
+cut_keeps : (w : World) (n : ℕ) (a : Answer) (effect : Effect) → WorldIsSound w → Cuts w.controller (w.nodes n) a effect → WorldIsSound (moved w n effect)
+cut_keeps w n a effect h c =
     let x = w.nodes n in
     let sound = h.nodes n in
-    let bound : mode_bound (elections_of w) x.mode ≡ f.epoch + 1 = ap (mode_bound (elections_of w)) e in
-    let below : AllBelow (f.epoch + 1) x.log = rw bound at sound.epochs in
+    let bound : ℕ = mode_bound (elections_of w) x.mode in
     becoming WorldIsSound w n effect _ _ c.effect_is
     (changed w n _ h (record {
       log = IsLog-begins c.begins sound.log;
-      epochs = all_front (λ b. b.epoch < f.epoch + 1) c.left c.begins.rest (subst (AllBelow (f.epoch + 1)) (sym c.begins.is) below);
-      within = omega (arith, bound, sound.within);
+      epochs = all_front (λ b. b.epoch < bound) c.left c.begins.rest (subst (AllBelow bound) (sym c.begins.is) sound.epochs);
+      within = sound.within;
     }))
 
 alter_keeps : (w : World) (n : ℕ) (isr : List ℕ) (l : Leading) (f : Effect) → (w.nodes n).mode ≡ Leads l → WorldIsSound w → Alters w.controller (w.nodes n) isr l f → WorldIsSound (moved w n f)
@@ -278,22 +283,20 @@ alter_keeps w n isr l f e h a =
     (record { log = sound.log; epochs = rw bound at sound.epochs; within = omega (arith, bound, sound.within) }) in
     altering WorldIsSound w n f _ (altered w.controller isr) _ a (record { nodes = world.nodes; messages = world.messages })
 
-accept_keeps : (w : World) (n : ℕ) (a : Answer) (fetching : Bool) (f : Effect) → cond fetching (take_cause (w.nodes n) a) (Local.cut_cause w.controller n (w.nodes n) a) ≡ None → WorldIsSound w → AnswerIsSound a → Accepts w.controller (w.nodes n) a fetching f → WorldIsSound (moved w n f)
+accept_keeps : (w : World) (n : ℕ) (a : Answer) (covered : Bool) (f : Effect) → cond covered (take_cause (w.nodes n) a) (Local.cut_cause w.controller n (w.nodes n) a) ≡ None → WorldIsSound w → AnswerIsSound a → Accepts w.controller (w.nodes n) a covered f → WorldIsSound (moved w n f)
 accept_keeps w n a true f c h g r = take_keeps w n a f c h g r
-accept_keeps w n a false f c h g r =
-    let l = where_follows (w.nodes n).mode (Cuts w.controller (w.nodes n) a f) r in
-    cut_keeps w n a f l.0 l.1 h l.2
+accept_keeps w n a false f c h g r = cut_keeps w n a f h r
 
 receive_keeps : (w : World) (n : ℕ) (m : Message) (f : Effect) → MessageIsSound m → Local.receive_cause w.controller n (w.nodes n) m ≡ None → WorldIsSound w → Receives w.controller (w.nodes n) m f → WorldIsSound (moved w n f)
 receive_keeps w n (Asks r) f m c h d =
     let l = where_leads (w.nodes n).mode (λ l. Serves w.controller (w.nodes n) r l f) d in
-    serve_keeps w n r l.0 f l.1 (leads_cause (w.nodes n).mode (serve_cause (w.nodes n).log r) l.0 l.1 c) h l.2
-receive_keeps w n (Answers a) f m c h d = accept_keeps w n a a.request.fetching f c h m d
+    serve_keeps w n r l.0 f l.1 (leads_cause (w.nodes n).mode (serve_cause (w.nodes n).log r) l.0 l.1 c) m h l.2
+receive_keeps w n (Answers a) f m c h d = accept_keeps w n a (is_covered a.log a.request) f c h m d
 
 lacks_keeps : (w : World) (n : ℕ) (m : Message) (f : Effect) → MessageIsSound m → Local.receive_cause w.controller n (w.nodes n) m ≡ None → WorldIsSound w → LacksMemoryFor w.controller (w.nodes n) m f → WorldIsSound (moved w n f)
 lacks_keeps w n (Asks r) f m c h d = staying WorldIsSound w n f _ d h
 lacks_keeps w n (Answers a) f m c h d =
-    let cause = rw d.0 at c in
+    let cause = subst (λ (t : Bool). cond t (take_cause (w.nodes n) a) (Local.cut_cause w.controller n (w.nodes n) a) ≡ None) d.0 c in
     take_some_keeps w n a f cause h m d.1
 
 -- ---- each step
@@ -310,7 +313,7 @@ happens_keeps w n (Mark time producer epoch coordinator commit) f g c h a =
     append_keeps w n l.0 body admission f l.1 h l.2.0 l.2.1
 happens_keeps w n Ask f g c h a =
     let l = where_follows (w.nodes n).mode _ a in
-    sending WorldIsSound w n f _ _ _ l.2 (sent _ (Asks (Local.asked n (w.nodes n) l.0)) (changed w n (w.nodes n) h (h.nodes n)) tt)
+    sending WorldIsSound w n f _ _ _ l.2 (sent _ (Asks (Local.asked n (w.nodes n) l.0)) (changed w n (w.nodes n) h (h.nodes n)) (h.nodes n).log)
 happens_keeps w n (Receive m) f g c h a = receive_keeps w n m f (each_sent MessageIsSound w.messages m h.messages g) c h a
 happens_keeps w n Raise f g c h a =
     let l = where_leads (w.nodes n).mode (λ l. Local.Raises w.controller n (w.nodes n) l f) a in
