@@ -11,7 +11,7 @@ use Rattle.kp_model.specs.Run.{last}
 use Rattle.kp_model.proofs.RunLaws.{last_is_of}
 use Rattle.kp_board.specs.Views.{NodeView, View, of_node}
 use Rattle.kp_board.specs.Rule.{end_word, mark_word, WasWatermark, Ruled}
-use Rattle.kp_board.specs.Premises.{leaves, MayStep}
+use Rattle.kp_board.specs.Premises.{leaves, MayStep, ShowsAWorld}
 use Rattle.kp_board.specs.Plays.{Stepped, SteppedAndSent, Unchanged, MarkRaised}
 use Rattle.kp_board.proofs.Steps.{keeps_rule}
 use Rattle.kp_board.proofs.Fitting.{node_fits, same_node, shows, node_step, end_words, told_more, told_sent}
@@ -30,7 +30,10 @@ module _ (n : ℕ) where
         node_step n s d (set s.words i new) id p p' act (leaves (last d.run).controller y sent may.reply) f (may.given (last d.run).messages f.told) (may.local n d.run (shows n s d id p f)) refl refl (length-set s.words i new)
             (get_or-set_other s.words i 0 new 0 (λ e. omega arith) ∙ d.record_is)
             (λ j l ne. end_words n s.words p.number j new) (end_words n s.words p.number p.number new ∙ f.word) (omega arith) (inl refl) low (inr f.shown) (told_sent n (last d.run).messages sent p.told f.told),
-        λ q e. let same = same_node n p q (sym is ∙ e) in ap (λ (z : NodeView). let x : Me ℕ View = (of_node (record z { state = y; told = sent ++ z.told }), m.1) in x) same,
+        λ q e. let same = same_node n p q (sym is ∙ e) in (
+          ap (λ (z : NodeView). let x : Me ℕ View = (of_node (record z { state = y; told = sent ++ z.told }), m.1) in x) same,
+          subst ShowsAWorld same (n, d.run, shows n s d id p f),
+        ),
       )
 
   -- a store to the node's end word with no event
@@ -72,14 +75,17 @@ module _ (n : ℕ) where
         subst (λ (ws : List ℕ). Ruled n record { words = ws; homes = s.homes; views = set s.views id (of_node p') }) (sym (set-get_or s.words i 0))
             (node_step n s d s.words id p p' act (leaves (last d.run).controller y sent may.reply) f (may.given (last d.run).messages f.told) (may.local n d.run (shows n s d id p f)) refl refl refl d.record_is
             (λ j l ne. refl) f.word (omega arith) (inl refl) low (inr f.shown) (told_sent n (last d.run).messages sent p.told f.told)),
-        λ q e. let same = same_node n p q (sym is ∙ e) in ap (λ (z : NodeView). let x : Me ℕ View = (of_node (record z { state = y; told = sent ++ z.told }), m.1) in x) same,
+        λ q e. let same = same_node n p q (sym is ∙ e) in (
+          ap (λ (z : NodeView). let x : Me ℕ View = (of_node (record z { state = y; told = sent ++ z.told }), m.1) in x) same,
+          subst ShowsAWorld same (n, d.run, shows n s d id p f),
+        ),
       )
 
   -- the same where the message is known to fit alone
   pub loads_some : (slots id : ℕ) (m : Me ℕ View) (p : NodeView) (k : ℕ) (act : Act) (y : Node) (fits : Message → Type 0) (l : Message) → p.number ≡ k → m.0 ≡ of_node p → fits l → MayStep p act y (l ∷ []) → p.state.watermark ≤ max p.published y.watermark
       → Allows (Ruled n) slots id m (end_word k) (λ x. x) (SteppedAndSent fits y (step slots (end_word k) 0 0 none) m)
   loads_some slots id m p k act y fits l num is fit may low = subst (λ (z : ℕ). Allows (Ruled n) slots id m (end_word z) (λ x. x) (SteppedAndSent fits y (step slots (end_word z) 0 0 none) m)) num
-      (λ s d a at b. let r = loads slots id m p act y (l ∷ []) is may low s d a at b in (r.0, r.1, r.2, r.3, λ q e. (l, fit, r.4 q e)))
+      (λ s d a at b. let r = loads slots id m p act y (l ∷ []) is may low s d a at b in (r.0, r.1, r.2, r.3, λ q e. let told = r.4 q e in (l, fit, told.0, told.1)))
 
   mark_words : (words : List ℕ) (k j x : ℕ) → j ≢ k → get_or (set words (mark_word k) x) (mark_word j) 0 ≡ get_or words (mark_word j) 0
   mark_words words k j x ne = get_or-set_other words (mark_word k) (mark_word j) x 0 (λ e. ne (omega arith))

@@ -8,6 +8,7 @@ use Rattle.kp_model.specs.World.{LeaderAndIsr, Node, Message, most_nodes}
 use Rattle.kp_model.specs.Step.{IsInRange, elect_cause}
 use Rattle.kp_board.specs.Views.{NodeView, CallerView, KeptReceipt, View, of_node, of_caller, new_caller, founder_count}
 use Rattle.kp_board.specs.Rule.{mark_word, ShowsARun, ShowsLastRecord, ShowsElection}
+use Rattle.kp_board.specs.Premises.{ShowsAWorld}
 
 abbrev Seated : Type 0
 Seated = Me ℕ View
@@ -24,13 +25,15 @@ pub record Finds (old s : LeaderAndIsr) (found : ℕ) : Type 0 where
 
 -- ---- a node's steps
 
--- the node has become y, and sent these messages
+-- the node, which was as a world of a run has it, has become y, and sent these messages
 abbrev pub Stepped : Node → List Message → Step ℕ → Seated → ℕ → Seated → Type 0
-Stepped y sent st m found m' = (p : NodeView) → m.0 ≡ of_node p → m' ≡ (of_node (record p { state = y; told = sent ++ p.told }), m.1)
+Stepped y sent st m found m' = (p : NodeView) → m.0 ≡ of_node p
+    → (m' ≡ (of_node (record p { state = y; told = sent ++ p.told }), m.1)) × ShowsAWorld p
 
--- the node has become y, and sent some message that fits
+-- the same, and it sent some message that fits
 abbrev pub SteppedAndSent : (Message → Type 0) → Node → Step ℕ → Seated → ℕ → Seated → Type 0
-SteppedAndSent fits y st m found m' = (p : NodeView) → m.0 ≡ of_node p → (l : Message) × fits l × (m' ≡ (of_node (record p { state = y; told = l ∷ p.told }), m.1))
+SteppedAndSent fits y st m found m' = (p : NodeView) → m.0 ≡ of_node p
+    → (l : Message) × fits l × (m' ≡ (of_node (record p { state = y; told = l ∷ p.told }), m.1)) × ShowsAWorld p
 
 -- the node is as it was
 abbrev pub Unchanged : Step ℕ → Seated → ℕ → Seated → Type 0

@@ -16,6 +16,10 @@ pub record Shows {n : ℕ} (r : Run n) (p : NodeView) : Type 0 where
   pub shown : WasRecord r p.shown
   pub told : AreSent (last r).messages p.told
 
+-- some run ends so
+abbrev pub ShowsAWorld : NodeView → Type 0
+ShowsAWorld p = (n : ℕ) × (r : Run n) × Shows r p
+
 -- what an act leaves where the record stays as it is
 abbrev pub leaves : LeaderAndIsr → Node → List Message → Reply → Effect
 leaves c y sent reply = record { node = y; controller = c; sent = sent; reply = reply }

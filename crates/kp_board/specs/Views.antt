@@ -1,5 +1,5 @@
 -- What the passes of a board show (own rule). A pass has no bytes: what it shows stands in the proof alone.
-use Rattle.std.specs.Prelude.{ℕ, ◌+◌, false, List, [], ◌∷◌, replicate}
+use Rattle.std.specs.Prelude.{ℕ, ◌+◌, List, [], ◌∷◌, replicate}
 use Rattle.kp_model.specs.Log.{Batch}
 use Rattle.kp_model.specs.World.{LeaderAndIsr, Node, Message, Asks, fresh, initial}
 use Rattle.kp_model.specs.Run.{held}
@@ -61,7 +61,7 @@ abbrev pub new_caller : (n : ℕ) → CallerView
 new_caller n = record { seen = []; told = no_note; shown = initial n; marks = replicate n 0; receipts = []; elections = [] }
 
 abbrev pub no_message : Message
-no_message = Asks (record { from = 0; to = 0; life = 0; epoch = 0; fetching = false; log = [] })
+no_message = Asks (record { from = 0; to = 0; life = 0; epoch = 0; log = [] })
 
 -- ---- what a view is, where it is of that sort
 

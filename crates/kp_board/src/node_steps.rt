@@ -4,7 +4,7 @@ ghost use Rattle.std.specs.Prelude.{◌≡◌, ◌+◌, ◌*◌, ◌≤◌, max,
 ghost use Rattle.kp_model.specs.Event.{Act};
 ghost use Rattle.kp_model.specs.World.{LeaderAndIsr as ModelRecord, Message};
 ghost use Rattle.kp_control.specs.Set.{record_of};
-ghost use Rattle.kp_board.specs.Premises.{MayStep, MayStepUnder, MayAlter};
+ghost use Rattle.kp_board.specs.Premises.{MayStep, MayStepUnder, MayAlter, ShowsAWorld};
 ghost use Rattle.kp_board.specs.Plays.{Finds};
 
 use crate::board::Board;
@@ -17,12 +17,14 @@ use crate::word::record_of_word;
 use kp_control::LeaderAndIsr;
 
 impl<B: BoardName> Board<B> {
-    /// An event of a node by a store of its log end offset to its end word: an append, or the taking of fetched batches.
-    /// O(1). (Own rule.)
+    /// An event of a node by a store of its log end offset to its end word: an append, or the taking of fetched batches. A
+    /// run has the world in which it happens, so that the laws of runs hold of what the node and its messages were. O(1).
+    /// (Own rule.)
     pub fn store_end<E: NodeStep, T>(&self, pass: &mut NodePass<B>, end: u64, _said: &T)
         requires may { (act : Act) × MayStep pass.old act E.next E.sent }
         requires mark { pass.old.state.watermark ≤ max pass.old.published E.next.watermark }
-        ensures { pass.new ≡ record pass.old { state = E.next; told = E.sent ++ pass.old.told } }
+        ensures pass { pass.new ≡ record pass.old { state = E.next; told = E.sent ++ pass.old.told } }
+        ensures run { ShowsAWorld pass.old }
     {
         let word = 2 * pass.number as usize + 1;
         self.table
@@ -42,7 +44,7 @@ impl<B: BoardName> Board<B> {
     }
 
     /// An event of a node with one message, by a load of its end word: it asks, or serves a request. The answer is the
-    /// message's pass. O(1). (Own rule.)
+    /// message's pass. A run has the world in which it happens. O(1). (Own rule.)
     pub fn load_end_sending<E: SendingStep, T, U>(
         &self,
         pass: &mut NodePass<B>,
@@ -53,6 +55,7 @@ impl<B: BoardName> Board<B> {
         requires mark { pass.old.state.watermark ≤ max pass.old.published E.next.watermark }
         ensures fits { E.fits result }
         ensures pass { pass.new ≡ record pass.old { state = E.next; told = result ∷ pass.old.told } }
+        ensures run { ShowsAWorld pass.old }
     {
         let word = 2 * pass.number as usize + 1;
         self.table

@@ -2,14 +2,14 @@
 use Rattle.std.specs.Prelude.{◌≡◌, ℕ, true, List}
 use Rattle.kp_model.specs.Log.{Batch, end_of}
 use Rattle.kp_model.specs.World.{Leading, Request}
-use Rattle.kp_model.specs.Local.{reported_after, known_ends, is_caught_up}
+use Rattle.kp_model.specs.Local.{reporting, known_ends, is_caught_up}
 use Rattle.kp_insync.specs.Reports.{with_report, ends_over}
 use Rattle.kp_insync.specs.Joining.{has_caught_up}
 
--- A leader keeps a fetch request's offset as its sender's report.
+-- A leader keeps the offset of a request as its sender's report.
 abbrev pub ReportsAreKept : Type 0
 ReportsAreKept =
-    (l : Leading) (r : Request) → r.fetching ≡ true → reported_after l r ≡ with_report l.reported r.from (end_of r.log)
+    (l : Leading) (from offset : ℕ) → (reporting l from offset).reported ≡ with_report l.reported from offset
 
 -- A leader knows the ends over its in-sync set, its own log's among them.
 abbrev pub EndsAreKnown : Type 0

@@ -30,5 +30,5 @@ invariant_of-pass g c =
     let key = c.self.inside.table.shared.key in
     let slots = c.self.inside.table.shared.table_id.slots in
     let e = c.load.ensures in
-    let t = node_after c.pass.inside.seat.me c.load.new.seat.me (record now { state = g.E.NodeStep.next; told = g.E.NodeStep.sent ++ now.told }) c.pass.inside.number (e.2 now at) (ap (λ (m : Me ℕ View). m.1) p.1) num in
+    let t = node_after c.pass.inside.seat.me c.load.new.seat.me (record now { state = g.E.NodeStep.next; told = g.E.NodeStep.sent ++ now.told }) c.pass.inside.number (e.2 now at).0 (ap (λ (m : Me ℕ View). m.1) p.1) num in
     (e.0 ∙ p.0, t.0, t.1, p.3, p.4)

@@ -29,3 +29,9 @@ invariant_of-pass g c =
     let t = e.2 now at in
     let s = node_after c.pass.inside.seat.me c.load.new.seat.me (record now { state = g.E.SendingStep.next; told = t.0 ∷ now.told }) c.pass.inside.number t.2 (ap (λ (m : Me ℕ View). m.1) p.1) num in
     (e.0 ∙ p.0, s.0, s.1, p.3, p.4)
+
+pub returns-clause-run : goal.returns-clause-run
+returns-clause-run g c =
+    let now = c.args.pass.now in
+    let at : c.pass.inside.seat.me.0 ≡ of_node now = ap (λ (m : Me ℕ View). m.0) c.pass.invariant.1 ∙ ap (λ (x : NodeView). let v : View = of_node x in v) c.pass.view_is in
+    (c.load.ensures.2 now at).3

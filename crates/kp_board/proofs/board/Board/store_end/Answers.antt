@@ -30,5 +30,11 @@ invariant_of-pass g c =
     let key = c.self.inside.table.shared.key in
     let slots = c.self.inside.table.shared.table_id.slots in
     let e = c.store.ensures in
-    let t = node_after c.pass.inside.seat.me c.store.new.seat.me (record now { state = g.E.NodeStep.next; told = g.E.NodeStep.sent ++ now.told }) c.pass.inside.number (e.2 now at) (ap (λ (m : Me ℕ View). m.1) p.1) num in
+    let t = node_after c.pass.inside.seat.me c.store.new.seat.me (record now { state = g.E.NodeStep.next; told = g.E.NodeStep.sent ++ now.told }) c.pass.inside.number (e.2 now at).0 (ap (λ (m : Me ℕ View). m.1) p.1) num in
     (e.0 ∙ p.0, t.0, t.1, p.3, p.4)
+
+pub returns-clause-run : goal.returns-clause-run
+returns-clause-run g c =
+    let now = c.args.pass.now in
+    let at : c.pass.inside.seat.me.0 ≡ of_node now = ap (λ (m : Me ℕ View). m.0) c.pass.invariant.1 ∙ ap (λ (x : NodeView). let v : View = of_node x in v) c.pass.view_is in
+    (c.store.ensures.2 now at).1
