@@ -1,18 +1,17 @@
 -- What comes of what a node did.
-use Rattle.std.proofs.Common.{◌≡◌, ◌≤◌, true, [], ◌∷◌, None, Result, Ok, Err, MatchResult, refl, sym, ap, ◌∙◌, subst}
-use Rattle.std.specs.Prelude.{IsOkAnd, IfOk, IfErr, is_some}
+use Rattle.std.proofs.Common.{◌≡◌, [], ◌∷◌, Option, Some, Result, Ok, Err, MatchResult, refl, sym, ap, ◌∙◌, subst}
+use Rattle.std.specs.Prelude.{IsOkAnd, IfOk, IfErr, IfSome, is_some}
 use Rattle.std.proofs.lemmas.Bool.{false≢true}
 use Rattle.kp_types.specs.declared.refusal.Refusal.{Refusal}
-use Rattle.kp_model.specs.Laws.{place_of}
-use Rattle.kp_model.specs.Log.{IsLog, IsKin}
 use Rattle.kp_model.specs.World.{LeaderAndIsr, Node, Answer as ModelAnswer, Message, Asks, Answers as AnswersOf}
-use Rattle.kp_model.specs.declared.message.EpochAnswer.{EpochAnswer}
+use Rattle.kp_model.specs.declared.message.Answered.{Answered}
+use Rattle.kp_model.specs.declared.message.Answered.TheVariants as givens
+use Rattle.kp_model.specs.declared.message.FetchAnswer.{FetchAnswer}
 use Rattle.kp_model.specs.declared.message.FetchRequest.{FetchRequest}
-use Rattle.kp_model.proofs.Letters.{asks_for, asks_from}
-use Rattle.kp_model.specs.Calls.{sent_reply}
+use Rattle.kp_model.specs.Calls.{ForLetter, ForRequest, ForAnswer, sent_reply}
 use Rattle.kp_model.specs.Event.{Act, Receive, Reply, Refused}
-use Rattle.kp_model.specs.Letter.{Letter, epoch_end_answer, fetch_request, letter, letter_of}
-use Rattle.kp_model.specs.Local.{becomes, sends, cut_cause}
+use Rattle.kp_model.specs.Letter.{Letter, answering as answering_in, fetch_answer, fetch_request, letter, letter_of}
+use Rattle.kp_model.specs.Local.{becomes, cause, sends}
 use Rattle.kp_model.specs.declared.message.MessageBody.{MessageBody}
 use Rattle.kp_control.specs.declared.record.LeaderAndIsr.{LeaderAndIsr as Record}
 use Rattle.kp_model.specs.Event as model
@@ -28,6 +27,9 @@ use Rattle.kp_replica.specs.declared.altering.IsrChange.TheVariants as changes
 use Rattle.kp_replica.proofs.Downs.{NeedsUp}
 use Rattle.kp_replica.specs.NumberedNode.{NumberedNode, Does, DoesUnder}
 use Rattle.kp_replica.specs.Sending.{DoesSending}
+use Rattle.kp_replica.specs.Hearing.{letter_cause, CutsAbove, DoesShown, IsShown}
+use Rattle.kp_replica.specs.declared.taking.Followed.{Followed}
+use Rattle.kp_replica.proofs.HearingFacts.{cause_is, same_cause, told, unanswered}
 use Rattle.kp_replica.specs.declared.act.Answer.{Answer}
 use Rattle.kp_replica.specs.declared.act.Effect.{Effect}
 use Rattle.kp_replica.specs.declared.act.Effect.TheVariants.{Answers, Sends, Changes}
@@ -73,7 +75,7 @@ sending c old new act body does =
     let sent = does.0 in
     let l = letter body in
     record {
-      effect = sends c new.state sent.message (sent_reply l.asking l.answering);
+      effect = sends c new.state sent.message (sent_reply l);
       local = sent.local c;
       node_is = refl;
       record_is = refl;
@@ -162,18 +164,39 @@ made_twice A B C K L P (Err f) (Err g) (Err h) is then holds = tt
 
 -- ---- messages
 
--- what an epoch answer does, for each message with its letter
-pub epoch_came : (c shown : LeaderAndIsr) (old new : NumberedNode) (answer : EpochAnswer) (m : Message) (reply : Reply) → letter_of m ≡ epoch_end_answer answer → (Looks (Receive m) → c ≡ shown)
+-- what comes of a request, for each message with its letter
+pub request_came : (c : LeaderAndIsr) (old new : NumberedNode) (r : FetchRequest) (sent : Letter) (m : Message) → letter_of m ≡ fetch_request r → IsOfRun c old (Receive m)
+    → ForRequest (fetch_request r) old.state.log (λ m. DoesSending old new (Receive m) sent) → DoesSending old new (Receive m) sent
+request_came c old new r sent (Asks q) is of event = event q is of.0 of.1
+request_came c old new r sent (AnswersOf a) is of event = absurd (false≢true (sym (ap (λ (l : Letter). is_some l.answering) is)))
+
+-- the record was shown to what looks at it
+shown_by : (c shown : LeaderAndIsr) (r : FetchRequest) (given : Answered) (a : ModelAnswer) → letter_of (AnswersOf a) ≡ record (fetch_request r) { answering = Some (answering_in given) }
+    → (Looks (Receive (AnswersOf a)) → c ≡ shown) → IsShown shown given c
+shown_by c shown r (givens.Batches f) a is under = tt
+shown_by c shown r (givens.Diverging end) a is under = under (told a r end is).covered
+
+-- what comes of an answer
+pub answer_came : (c shown : LeaderAndIsr) (old new : NumberedNode) (answer : FetchAnswer) (m : Message) (reply : Reply) → letter_of m ≡ fetch_answer answer → (Looks (Receive m) → c ≡ shown)
     → IsOfRun c old (Receive m)
-    → ((a : ModelAnswer) → letter_of (AnswersOf a) ≡ epoch_end_answer answer → IsLog a.log → IsKin old.state.log a.log
-    → (cut_cause shown old.number old.state a ≡ None → old.state.watermark ≤ (place_of old.state a).0) → DoesUnder shown old new (Receive (AnswersOf a)) reply)
-    → DoesUnder c old new (Receive m) reply
-epoch_came c shown old new answer (Asks q) reply is under of event = absurd (false≢true (ap (λ (l : Letter). is_some l.answering) is))
-epoch_came c shown old new answer (AnswersOf a) reply is under of event =
-    let asks = (asks_for a.request answer.request.last_epoch (ap (λ (l : Letter). l.asking) is)).fetching in
-    let same : c ≡ shown = under asks in
-    let all = subst (λ (k : LeaderAndIsr). IsOfRun k old (Receive (AnswersOf a))) same of in
-    subst (λ (k : LeaderAndIsr). DoesUnder k old new (Receive (AnswersOf a)) reply) (sym same) (event a is all.0 all.1 (λ free. all.2 asks free))
+    → ForAnswer (fetch_answer answer) old.state.log (λ m. CutsAbove shown old m → DoesShown shown answer.answered old new (Receive m) reply) → DoesUnder c old new (Receive m) reply
+answer_came c shown old new answer (Asks q) reply is under of event = absurd (unanswered q answer.request answer.answered is)
+answer_came c shown old new answer (AnswersOf a) reply is under of event =
+    event a is of.0 of.1 of.2 of.3 (λ diverges. subst (λ (k : LeaderAndIsr). CutsAbove k old (AnswersOf a)) (under diverges) of.4 diverges) c (shown_by c shown answer.request answer.answered a is under)
+
+-- and what refuses it, whatever logs the message has
+pub answer_refused : (c shown : LeaderAndIsr) (old new : NumberedNode) (answer : FetchAnswer) (m : Message) (refusal : Refusal) (result : Result Followed Refusal) → letter_of m ≡ fetch_answer answer
+    → (Looks (Receive m) → c ≡ shown) → cause c old.number old.state (Receive m) ≡ Some refusal
+    → IfSome (letter_cause shown old answer.request answer.answered)
+    (λ refusal. (result ≡ Err refusal) × ForLetter (fetch_answer answer) (λ m. DoesShown shown answer.answered old new (Receive m) (Refused refusal)))
+    → (result ≡ Err refusal) × DoesUnder c old new (Receive m) (Refused refusal)
+answer_refused c shown old new answer (Asks q) refusal result is under held refused = absurd (unanswered q answer.request answer.answered is)
+answer_refused c shown old new answer (AnswersOf a) refusal result is under held refused =
+    let known = shown_by c shown answer.request answer.answered a is under in
+    let why : letter_cause shown old answer.request answer.answered ≡ Some refusal =
+    sym (same_cause shown c old answer.request answer.answered known) ∙ sym (cause_is c old answer.request answer.answered a is) ∙ held in
+    let done = subst (λ (o : Option Refusal). IfSome o (λ refusal. (result ≡ Err refusal) × ForLetter (fetch_answer answer) (λ m. DoesShown shown answer.answered old new (Receive m) (Refused refusal)))) why refused in
+    (done.0, done.1 (AnswersOf a) is c known)
 
 -- ---- receipts
 
@@ -197,17 +220,6 @@ receipt_stands (Plain act) old new (Ok e) fits = plain_stands act new e fits
 
 pub same_err : {A : Type 0} (r s : Refusal) → (let x : Result A Refusal = Err r in x) ≡ Err s → r ≡ s
 same_err r s e = cc
-
--- no answer does
-pub takes_answering : (x : Node) (m : Message) (l : Letter) → letter_of m ≡ l → is_some l.answering ≡ true → TakesNoMemory x (Receive m) → ⊥
-takes_answering x (Asks q) l is answers takes = false≢true (ap (λ (k : Letter). is_some k.answering) is ∙ answers)
-takes_answering x (AnswersOf a) l is answers takes = takes
-
--- nor does a fetch request
-pub takes_fetching : (x : Node) (m : Message) (request : FetchRequest) → letter_of m ≡ fetch_request request → TakesNoMemory x (Receive m) → ⊥
-takes_fetching x (Asks q) request is takes =
-    false≢true (sym takes ∙ (asks_from q request.offset (ap (λ (l : Letter). l.asking) is)).fetching)
-takes_fetching x (AnswersOf a) request is takes = takes
 
 -- of what a node is asked for without bytes an ask alone does
 pub plain_takes : (x : Node) (act : PlainAct) → TakesNoMemory x (plain_act act) → act ≡ acts.Ask

@@ -6,7 +6,7 @@ use Rattle.std.proofs.lemmas.Bool.{eq-eqb, ne_eqb, lt-leb, le-leb}
 use Rattle.kp_model.specs.Log.{end_of}
 use Rattle.kp_model.specs.World.{Leader, LeaderAndIsr, Leading, Mode, Down, Idle, Leads, Follows, Node, no_reports}
 use Rattle.kp_model.specs.Event.{Adopt, Raise, Checkpoint, Stop, Restart, Refused, NowLeads, NowFollows, MarkAt, CheckpointAt, Stopped, Restarted}
-use Rattle.kp_model.specs.Local.{Effect, Local, cause, becomes, is_down, is_news, is_empty, under, Adopts, WhereLeads, Raises, raised}
+use Rattle.kp_model.specs.Local.{Effect, Local, cause, becomes, is_down, is_news, under, Adopts, WhereLeads, Raises, raised}
 use Rattle.kp_model.proofs.Steps.{happened, lacked_memory, was_refused}
 
 -- ---- adopt
@@ -34,7 +34,7 @@ adopted_leads c n x l is up news here =
 
 pub adopted_follows : (c : LeaderAndIsr) (n : ℕ) (x : Node) (l : Leader) → c.leader ≡ Some l → is_down x.mode ≡ false → is_news c x.mode ≡ true → (l.node ≡ n → ⊥)
     → Local c n x Adopt
-    (becomes c (record x { mode = Follows (record { leader = l.node; epoch = l.epoch; fetching = is_empty x.log }) }) (NowFollows l.node l.epoch (is_empty x.log)))
+    (becomes c (record x { mode = Follows (record { leader = l.node; epoch = l.epoch }) }) (NowFollows l.node l.epoch))
 adopted_follows c n x l is up news apart =
     let other : eqb l.node n ≡ false = ne_eqb l.node n apart in
     rw other at (adopted c n x l is up news)

@@ -1,92 +1,125 @@
--- What it takes that a follower took a leader's answer for an epoch, of which it knows the letter alone.
-use Rattle.std.proofs.Common.{◌≡◌, ℕ, ◌≤◌, Bool, true, false, ltb, List, [], ◌∷◌, ◌++◌, Option, Some, None, Ok, Err, refl, sym, ap, ◌∙◌, subst, arith, inl, inr}
+-- What it takes that a follower cut its log on a leader's diverging answer.
+use Rattle.std.proofs.Common.{◌≡◌, ◌⊎◌, ℕ, ◌≤◌, Bool, true, false, ltb, List, [], ◌∷◌, ◌++◌, Option, Some, None, Result, Ok, Err, refl, sym, ap, ◌∙◌, subst, arith, inl, inr}
 use Rattle.std.specs.Prelude.{not, if◌then◌else◌}
-use Rattle.std.specs.Option.{option_map}
-use Rattle.std.proofs.lemmas.Bool.{le-ltb, ltb-false}
+use Rattle.std.proofs.lemmas.Bool.{and_parts, ltb-false}
 use Rattle.kp_types.specs.Causes.{first_of, IsRefusedOnlyBy}
 use Rattle.kp_types.specs.declared.refusal.Refusal.{Refusal}
 use Rattle.kp_types.specs.declared.refusal.Refusal.TheVariants as refusals
-use Rattle.kp_types.proofs.Causes.{only_none, passed}
+use Rattle.kp_types.proofs.Causes.{only_cause, only_none, passed}
 use Rattle.kp_model.specs.Beginning.{Begins}
-use Rattle.kp_model.specs.Epochs.{cut_place}
-use Rattle.kp_model.specs.Log.{Batch, IsLog, IsKin, IsBoundary, below, end_of, is_boundary}
-use Rattle.kp_model.specs.World.{LeaderAndIsr, Following, Follows, Node, Answer, Answers}
-use Rattle.kp_model.specs.Event.{Receive, Refused, Cut}
-use Rattle.kp_model.specs.Letter.{Letter, letter_of, epoch_end_answer}
-use Rattle.kp_model.specs.Local.{Effect, Local, becomes, cause, is_down, has_epoch, mode_epoch, reconciles, cut_cause, cut_cause_for, take_cause}
-use Rattle.kp_model.specs.Laws.{place_of}
-use Rattle.kp_model.specs.Calls.{cut, cut_by, reconciled}
-use Rattle.kp_model.specs.declared.message.EpochAnswer.{EpochAnswer}
+use Rattle.kp_model.specs.Log.{Batch, IsLog, IsBoundary, below, end_of, is_boundary}
+use Rattle.kp_model.specs.World.{LeaderAndIsr, Node}
+use Rattle.kp_model.specs.Event.{Cut}
+use Rattle.kp_model.specs.Local.{becomes, is_down, has_epoch, mode_epoch, reconciles, cut_cause_for}
+use Rattle.kp_model.specs.Calls.{cut, cut_by}
+use Rattle.kp_model.specs.declared.message.EpochEnd.{EpochEnd}
+use Rattle.kp_model.specs.declared.message.FetchRequest.{FetchRequest}
 use Rattle.kp_log.specs.Partition.{Partition}
 use Rattle.kp_log.specs.Refusals.{truncate_cause}
 use Rattle.kp_log.specs.declared.stack.Tally.{Tally}
 use Rattle.kp_model.proofs.Beginnings.{Begins-refl, Begins-agree}
-use Rattle.kp_model.proofs.Cutting.{cut_is_the_step}
-use Rattle.kp_model.proofs.Deliveries.{boundary_test}
 use Rattle.kp_model.proofs.HeldAgree.{below_boundary}
-use Rattle.kp_model.proofs.Letters.{Tells, tells}
 use Rattle.kp_model.proofs.Logs.{end_of-append}
-use Rattle.kp_model.proofs.Steps.{was_refused}
-use Rattle.kp_replica.specs.Cutting.{place_for}
+use Rattle.kp_replica.specs.Cutting.{diverging, diverging_cause, place_for}
+use Rattle.kp_replica.specs.NumberedNode.{NumberedNode, HasEpochs, HasReports}
+use Rattle.kp_replica.specs.declared.cutting.CutBack.{CutBack}
+use Rattle.kp_replica.proofs.TakingFacts.{follows}
 
--- why node n doesn't take an answer with this letter
-abbrev pub cause_for : LeaderAndIsr → ℕ → Node → EpochAnswer → Option Refusal
-cause_for c n x answer = let r = answer.request in cut_cause_for c n x r.from r.life r.epoch r.last_epoch
+-- why node n doesn't cut on an answer to this request, as far as its letter shows
+abbrev pub cause_for : LeaderAndIsr → ℕ → Node → FetchRequest → Option Refusal
+cause_for c n x r = cut_cause_for c n x r.from r.life r.epoch r.offset r.last_epoch
 
--- the end that it tells
-abbrev told_end : EpochAnswer → Option (ℕ × ℕ)
-told_end answer = option_map (λ found. (found.epoch, found.end)) answer.end
+-- of a node that is up, by its two tests
+pub cause_at_once : (c : LeaderAndIsr) (n : ℕ) (x : Node) (r : FetchRequest) (has own : Bool) → is_down x.mode ≡ false → has_epoch c (mode_epoch x.mode) ≡ has
+    → reconciles n x r.from r.life r.epoch r.offset r.last_epoch ≡ own → cause_for c n x r ≡ first_of ((not has, refusals.StaleRecord) ∷ (not own, refusals.StaleAnswer) ∷ [])
+cause_at_once c n x r has own up is_has is_own =
+    λ i. first_of ((up i, refusals.Down) ∷ (not (is_has i), refusals.StaleRecord) ∷ (not (is_own i), refusals.StaleAnswer) ∷ [])
 
-pub cause_at_once : (c : LeaderAndIsr) (n : ℕ) (x : Node) (answer : EpochAnswer) (has own : Bool) → is_down x.mode ≡ false → has_epoch c (mode_epoch x.mode) ≡ has
-    → reconciles n x answer.request.from answer.request.life answer.request.epoch answer.request.last_epoch x.mode ≡ own
-    → cause_for c n x answer ≡ first_of ((not has, refusals.StaleRecord) ∷ (not own, refusals.StaleAnswer) ∷ [])
-cause_at_once c n x answer has own up is_has is_own = rw (up, is_has, is_own) refl
+-- the tests of the letter come first
+abbrev pub tests : (has own low odd : Bool) → Option Refusal
+tests has own low odd = first_of ((not has, refusals.StaleRecord) ∷ (not own, refusals.StaleAnswer) ∷ (low, refusals.BelowSettled) ∷ (odd, refusals.NotBoundary) ∷ [])
 
-module _ (c : LeaderAndIsr) (n : ℕ) (x : Node) (a : Answer) (answer : EpochAnswer) (same : letter_of (Answers a) ≡ epoch_end_answer answer) where
-  told : Tells a answer.request.last_epoch (told_end answer)
-  told = tells a answer.request.last_epoch (told_end answer) (ap (λ (l : Letter). l.asking) same) (some_is (ap (λ (l : Letter). l.answering) same))
-    where
-      some_is : {A : Type 0} {y z : A} → Some y ≡ Some z → y ≡ z
-      some_is e = cc
+abbrev pub first_tests : (has own : Bool) → Option Refusal
+first_tests has own = first_of ((not has, refusals.StaleRecord) ∷ (not own, refusals.StaleAnswer) ∷ [])
 
-  cause_is : cut_cause c n x a ≡ cause_for c n x answer
-  cause_is = λ i. cut_cause_for c n x (same i).from (same i).life (same i).epoch (told.asks.last i)
+tests_first : (has own low odd : Bool) (refusal : Refusal) → first_tests has own ≡ Some refusal → tests has own low odd ≡ Some refusal
+tests_first false own low odd refusal e = e
+tests_first true false low odd refusal e = e
+tests_first true true low odd refusal e = absurd cc
 
-  received : cause c n x (Receive (Answers a)) ≡ cause_for c n x answer
-  received = ap (λ (t : Bool). if t then take_cause x a else cut_cause c n x a) told.asks.fetching ∙ cause_is
+-- what is refused is refused by the letter, or it would be cut below the watermark, or at no boundary
+tests_split : (has own low odd : Bool) (refusal : Refusal) → tests has own low odd ≡ Some refusal
+    → (first_tests has own ≡ Some refusal) ⊎ ((first_tests has own ≡ None) × ((low ≡ true) ⊎ (odd ≡ true)))
+tests_split false own low odd refusal e = inl e
+tests_split true false low odd refusal e = inl e
+tests_split true true true odd refusal e = inr (refl, inl refl)
+tests_split true true false true refusal e = inr (refl, inr refl)
+tests_split true true false false refusal e = absurd cc
 
-  -- it is refused
-  pub cut_refused : (refusal : Refusal) → cause_for c n x answer ≡ Some refusal → Local c n x (Receive (Answers a)) (becomes c x (Refused refusal))
-  cut_refused refusal is = was_refused c n x (Receive (Answers a)) refusal (received ∙ is)
+module _ (c : LeaderAndIsr) (m : NumberedNode) (r : FetchRequest) (end : Option EpochEnd) (up : is_down m.state.mode ≡ false) where
+  abbrev x : Node
+  x = m.state
 
-  place_same : (place_of x a).0 ≡ (place_for x.log answer).0
-  place_same = ap (λ (o : Option (ℕ × ℕ)). (cut_place x.log o).0) told.end_is
+  abbrev place : ℕ
+  place = place_for x.log end
 
-  -- where it isn't, neither is the truncation
-  pub never_odd : (p : Partition) (refusal : Refusal) → p.log ≡ x.log → p.settled ≡ x.watermark → IsLog x.log → IsLog a.log → IsKin x.log a.log → cause_for c n x answer ≡ None
-      → (cut_cause c n x a ≡ None → x.watermark ≤ (place_of x a).0) → IsRefusedOnlyBy {A = Tally} (truncate_cause p (place_for x.log answer).0) (Err refusal) → ⊥
-  never_odd p refusal log_is settled own other kin free above refused =
-      let to = (place_for x.log answer).0 in
-      let here = above (cause_is ∙ free) in
-      let boundary : IsBoundary x.log to = subst (IsBoundary x.log) place_same ((cut_is_the_step c n x a told.asks.fetching own other kin).1 (cause_is ∙ free)) in
-      let begun : is_boundary p.log to ≡ true = ap (λ (l : List Batch). is_boundary l to) log_is ∙ subst (λ (o : ℕ). is_boundary x.log o ≡ true) boundary.ends (boundary_test' boundary) in
-      let higher : ltb to p.settled ≡ false = le-ltb to p.settled (omega (arith, here, place_same, settled)) in
-      rw (higher, begun) at refused
-    where
-      boundary_test' : (b : IsBoundary x.log (place_for x.log answer).0) → is_boundary x.log (end_of b.front) ≡ true
-      boundary_test' b = boundary_test b.front x.log own b.begins
+  by_tests : cause_for c m.number x r ≡ first_tests (has_epoch c (mode_epoch x.mode)) (reconciles m.number x r.from r.life r.epoch r.offset r.last_epoch)
+  by_tests = cause_at_once c m.number x r (has_epoch c (mode_epoch x.mode)) (reconciles m.number x r.from r.life r.epoch r.offset r.last_epoch) up refl refl
 
-  -- or it cuts
-  pub cuts : (f : Following) (log : List Batch) → x.mode ≡ Follows f → IsLog x.log → IsLog a.log → IsKin x.log a.log → cause_for c n x answer ≡ None → log ≡ below (place_for x.log answer).0 x.log
-      → Local c n x (Receive (Answers a)) (becomes c (record x { log = log; mode = Follows (record f { fetching = (place_for x.log answer).1 }) }) (Cut (place_for x.log answer).0 (place_for x.log answer).1))
-  cuts f log mode own other kin free log_is =
-      let place = place_for x.log answer in
-      let step : Local c n x (Receive (Answers a)) (cut c n x (epoch_end_answer answer)) =
-      subst (λ (l : Letter). Local c n x (Receive (Answers a)) (cut c n x l)) same (cut_is_the_step c n x a told.asks.fetching own other kin).0 in
-      let is : cut c n x (epoch_end_answer answer) ≡ becomes c (record x { log = log; mode = Follows (record f { fetching = place.1 }) }) (Cut place.0 place.1) =
-      ap (λ (o : Option Refusal). cut_by o c x place) free
-      ∙ (λ i. becomes c (record x { log = sym log_is i; mode = reconciled (mode i) place.1 }) (Cut place.0 place.1)) in
-      subst (λ (e : Effect). Local c n x (Receive (Answers a)) e) is step
+  pub refused_first : (refusal : Refusal) → cause_for c m.number x r ≡ Some refusal → diverging_cause c m r end ≡ Some refusal
+  refused_first refusal e =
+      tests_first (has_epoch c (mode_epoch x.mode)) (reconciles m.number x r.from r.life r.epoch r.offset r.last_epoch) (ltb place x.watermark) (not (is_boundary x.log place)) refusal (sym by_tests ∙ e)
+
+  pub refused_how : (refusal : Refusal) → diverging_cause c m r end ≡ Some refusal
+      → (cause_for c m.number x r ≡ Some refusal) ⊎ ((cause_for c m.number x r ≡ None) × ((ltb place x.watermark ≡ true) ⊎ (not (is_boundary x.log place) ≡ true)))
+  refused_how refusal e =
+      elim (tests_split (has_epoch c (mode_epoch x.mode)) (reconciles m.number x r.from r.life r.epoch r.offset r.last_epoch) (ltb place x.watermark) (not (is_boundary x.log place)) refusal e) [
+        | inl first ↦ inl (by_tests ∙ first)
+        | inr odd ↦ inr (by_tests ∙ odd.0, odd.1)
+      ]
+
+-- ---- the calls
+
+-- where the letter isn't refused, the truncation's causes are left
+pub by_truncation : (c : LeaderAndIsr) (m : NumberedNode) (r : FetchRequest) (end : Option EpochEnd) (p : Partition) (to : ℕ) → is_down m.state.mode ≡ false
+    → cause_for c m.number m.state r ≡ None → p.log ≡ m.state.log → p.settled ≡ m.state.watermark → to ≡ place_for m.state.log end
+    → diverging_cause c m r end ≡ truncate_cause p to
+by_truncation c m r end p to up free log settled at =
+    let x = m.state in
+    let mine = reconciles m.number x r.from r.life r.epoch r.offset r.last_epoch in
+    let parts = passed (not (has_epoch c (mode_epoch x.mode))) refusals.StaleRecord (first_of ((not mine, refusals.StaleAnswer) ∷ [])) (sym (by_tests c m r end up) ∙ free) in
+    let own = passed (not mine) refusals.StaleAnswer None parts.1 in
+    λ i. first_of ((parts.0 i, refusals.StaleRecord) ∷ (own.0 i, refusals.StaleAnswer) ∷ (ltb (sym at i) (sym settled i), refusals.BelowSettled) ∷ (not (is_boundary (sym log i) (sym at i)), refusals.NotBoundary) ∷ [])
+
+-- who cuts follows
+pub follower : (c : LeaderAndIsr) (n : ℕ) (x : Node) (r : FetchRequest) → cause_for c n x r ≡ None → (log : List Batch) → HasEpochs log x.mode × HasReports log x.mode
+follower c n x r free log =
+    let has = has_epoch c (mode_epoch x.mode) in
+    let own = reconciles n x r.from r.life r.epoch r.offset r.last_epoch in
+    let up = passed (is_down x.mode) refusals.Down (first_tests has own) free in
+    let recorded = passed (not has) refusals.StaleRecord (first_of ((not own, refusals.StaleAnswer) ∷ [])) up.1 in
+    let all = by_test own (passed (not own) refusals.StaleAnswer None recorded.1).0 in
+    let but_life = and_parts _ _ all in
+    let but_from = and_parts _ _ but_life.0 in
+    follows x r.epoch r.offset r.last_epoch x.mode but_from.0 log
+  where
+    by_test : (t : Bool) → not t ≡ false → t ≡ true
+    by_test true e = refl
+    by_test false e = absurd cc
+
+-- a truncation's refusal is the cut's
+pub same_refusal : (cause other : Option Refusal) (refusal : Refusal) (result : Result CutBack Refusal) → cause ≡ other → IsRefusedOnlyBy {A = Tally} other (Err refusal) → result ≡ Err refusal
+    → IsRefusedOnlyBy cause result
+same_refusal cause other refusal result is refused same =
+    let why : cause ≡ Some refusal = is ∙ only_cause Tally other refusal refused in
+    subst (IsRefusedOnlyBy cause) (sym same) (subst (λ (o : Option Refusal). IsRefusedOnlyBy {A = CutBack} o (Err refusal)) (sym why) refl)
+
+-- what is cut is what the letter comes to
+pub cuts : (c : LeaderAndIsr) (n : ℕ) (x : Node) (r : FetchRequest) (end : Option EpochEnd) (log : List Batch) (to : ℕ) → cause_for c n x r ≡ None → to ≡ place_for x.log end
+    → log ≡ below to x.log → becomes c (record x { log = log }) (Cut to) ≡ cut c n x (diverging r end)
+cuts c n x r end log to free at left =
+    (λ i. becomes c (record x { log = (left ∙ ap (λ (o : ℕ). below o x.log) at) i }) (Cut (at i)))
+    ∙ sym (ap (λ (o : Option Refusal). cut_by o c x (place_for x.log end)) free)
 
 -- ---- what is left
 

@@ -6,7 +6,7 @@ use Rattle.kp_types.specs.declared.refusal.Refusal.TheVariants as refusals
 use Rattle.kp_model.specs.World.{LeaderAndIsr, Mode, Down, Idle, Leads, Follows, Node, Message, Asks, Answers}
 use Rattle.kp_model.specs.Event.{Act, Receive, Refused}
 use Rattle.kp_model.specs.Event as model
-use Rattle.kp_model.specs.Local.{cause, is_down, receive_cause, take_cause, cut_cause}
+use Rattle.kp_model.specs.Local.{cause, is_down, receive_cause, is_covered, take_cause, cut_cause}
 use Rattle.kp_model.proofs.Steps.{was_refused}
 use Rattle.kp_replica.specs.NumberedNode.{NumberedNode, DoesUnder}
 
@@ -30,7 +30,7 @@ down_cause c n x _ down asked = rw down refl
 down_receives : (c : LeaderAndIsr) (n : ℕ) (x : Node) (m : Message) → x.mode ≡ Down → receive_cause c n x m ≡ Some refusals.Down
 down_receives c n x (Asks r) down = rw down refl
 down_receives c n x (Answers a) down =
-    cond_both a.request.fetching (take_cause x a) (cut_cause c n x a) (λ (o : Option Refusal). o ≡ Some refusals.Down) (λ e. rw down refl) (λ e. rw down refl)
+    cond_both (is_covered a.log a.request) (take_cause x a) (cut_cause c n x a) (λ (o : Option Refusal). o ≡ Some refusals.Down) (λ e. rw down refl) (λ e. rw down refl)
 
 pub refuses_down : (c : LeaderAndIsr) (x : NumberedNode) (act : Act) (refusal : Refusal) → is_down x.state.mode ≡ true → refusal ≡ refusals.Down → NeedsUp act
     → DoesUnder c x x act (Refused refusal)

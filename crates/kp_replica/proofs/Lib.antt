@@ -11,8 +11,9 @@ pub mod AskingFacts
 pub mod ServingFacts
 pub mod Behind
 pub mod Places
-pub mod CuttingFacts
 pub mod TakingFacts
+pub mod CuttingFacts
+pub mod HearingFacts
 pub mod AlteringFacts
 pub mod ReadingFacts
 pub mod Downs

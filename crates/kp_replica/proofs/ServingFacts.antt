@@ -10,23 +10,21 @@ use Rattle.kp_types.specs.declared.refusal.Refusal.{Refusal}
 use Rattle.kp_types.specs.declared.refusal.Refusal.TheVariants as refusals
 use Rattle.kp_batch.specs.Batch.{Written}
 use Rattle.kp_model.specs.Beginning.{find_map}
-use Rattle.kp_model.specs.Log.{Batch, written, logged, next_offset, end_of, from_offset, is_boundary, carry_cause, IsBoundary}
-use Rattle.kp_model.specs.Epochs.{end_for}
+use Rattle.kp_model.specs.Log.{Batch, written, logged, next_offset, end_of, is_boundary, carry_cause, IsBoundary, IsLog}
+use Rattle.kp_model.specs.Epochs.{covers}
 use Rattle.kp_model.specs.World.{Leading, Mode, Leads, Node, Request, Answer, Message, Asks, Answers}
 use Rattle.kp_model.specs.Event.{Receive, Refused}
-use Rattle.kp_model.specs.Letter.{Letter, Answering, Batches, EpochEnd, answering_of, letter_of, fetch_request, epoch_request}
-use Rattle.kp_model.specs.Local.{becomes, at_least_one, piece, epoch_answer, unless_leads, serve_cause, reported_after, answer}
-use Rattle.kp_model.specs.Calls.{DoesSending as NodeDoesSending}
+use Rattle.kp_model.specs.Letter.{Letter, Batches, Diverging, answering_of, letter_of, fetch_request}
+use Rattle.kp_model.specs.Local.{becomes, piece_from, end_asked, unless_leads, serve_cause, serve_cause_for, reporting}
+use Rattle.kp_model.specs.Calls.{DoesSending as NodeDoesSending, ForLetter, ForRequest, served, answer_letter}
 use Rattle.kp_model.specs.declared.message.FetchRequest.{FetchRequest}
-use Rattle.kp_model.specs.declared.message.EpochRequest.{EpochRequest}
 use Rattle.kp_log.specs.Refusals.{read_cause}
 use Rattle.kp_insync.specs.Reports.{with_report}
-use Rattle.kp_model.proofs.Letters.{asks_from, asks_for}
 use Rattle.kp_model.proofs.Logs.{boundary_within}
-use Rattle.kp_model.proofs.Sending.{serves}
+use Rattle.kp_model.proofs.Sending.{serve_is_the_step}
 use Rattle.kp_model.proofs.Steps.{was_refused, lacked_memory}
 use Rattle.kp_replica.specs.NumberedNode.{NumberedNode, Does, HasReports}
-use Rattle.kp_replica.specs.Sending.{DoesSending}
+use Rattle.kp_replica.specs.Sending.{DoesSending, IsServed}
 
 -- ---- refusals
 
@@ -42,106 +40,105 @@ reads_from log offset result refusal boundary refused is =
     let within : ltb (end_of log) offset ≡ false = le-ltb _ _ (boundary_within log offset boundary) in
     rw (within, is) at refused
 
--- a request with this letter is refused so
-abbrev pub RefusedBy : Node → Letter → Option Refusal → Type 0
-RefusedBy x letter cause = (q : Request) → letter_of (Asks q) ≡ letter → unless_leads x.mode (serve_cause x.log q) ≡ cause
-
 no_request : (letter : Letter) (a : Answer) → letter.answering ≡ None → letter_of (Answers a) ≡ letter → ⊥
 no_request letter a unanswered e = none-some (answering_of a) (sym unanswered ∙ sym (ap (λ (l : Letter). l.answering) e))
 
-pub refuses : (m : NumberedNode) (letter : Letter) (refusal : Refusal) (message : Message) → letter.answering ≡ None → RefusedBy m.state letter (Some refusal)
+-- why a leader, or another node, refuses a request with this letter
+abbrev pub cause_for : Node → Letter → Option Refusal
+cause_for x letter = unless_leads x.mode (serve_cause_for x.log letter.epoch letter.offset letter.last)
+
+by_letter : (x : Node) (q : Request) (letter : Letter) → letter_of (Asks q) ≡ letter → unless_leads x.mode (serve_cause x.log q) ≡ cause_for x letter
+by_letter x q letter e = ap (cause_for x) e
+
+pub refuses : (m : NumberedNode) (letter : Letter) (refusal : Refusal) (message : Message) → letter.answering ≡ None → cause_for m.state letter ≡ Some refusal
     → letter_of message ≡ letter → Does m m (Receive message) (Refused refusal)
-refuses m letter refusal (Asks q) unanswered cause e = λ c. (was_refused c m.number m.state (Receive (Asks q)) refusal (cause q e), (refl, refl))
+refuses m letter refusal (Asks q) unanswered cause e = λ c. (was_refused c m.number m.state (Receive (Asks q)) refusal (by_letter m.state q letter e ∙ cause), (refl, refl))
 refuses m letter refusal (Answers a) unanswered cause e = absurd (no_request letter a unanswered e)
 
-pub lacks : (m : NumberedNode) (letter : Letter) (message : Message) → letter.answering ≡ None → RefusedBy m.state letter None
+pub lacks : (m : NumberedNode) (letter : Letter) (message : Message) → letter.answering ≡ None → cause_for m.state letter ≡ None
     → letter_of message ≡ letter → Does m m (Receive message) (Refused refusals.Memory)
 lacks m letter (Asks q) unanswered cause e =
-    λ c. (lacked_memory c m.number m.state (Receive (Asks q)) (becomes c m.state (Refused refusals.Memory)) (cause q e) refl, (refl, refl))
+    λ c. (lacked_memory c m.number m.state (Receive (Asks q)) (becomes c m.state (Refused refusals.Memory)) (by_letter m.state q letter e ∙ cause) refl, (refl, refl))
 lacks m letter (Answers a) unanswered cause e = absurd (no_request letter a unanswered e)
 
--- a leader of the request's epoch tests but whether the offset is a boundary
-served_in_epoch : (log : List Batch) (q : Request) (l : Leading) (fetching inside : Bool) → q.epoch ≡ l.epoch → q.fetching ≡ fetching
-    → is_boundary log (end_of q.log) ≡ inside
-    → serve_cause log q l ≡ first_of ((fetching && not inside, refusals.OffsetOutOfRange) ∷ [])
-served_in_epoch log q l fetching inside epoch asks at =
-    let above : ltb q.epoch l.epoch ≡ false = le-ltb _ _ (omega (arith, epoch)) in
-    let below : ltb l.epoch q.epoch ≡ false = le-ltb _ _ (omega (arith, epoch)) in
-    rw (above, below, asks, at) refl
+-- a leader of the request's epoch tests whether the offset is a boundary, where it covers the request
+in_epoch : (log : List Batch) (r : FetchRequest) (l : Leading) (covered inside : Bool) → l.epoch ≡ r.epoch → covers log r.offset r.last_epoch ≡ covered
+    → is_boundary log r.offset ≡ inside → serve_cause_for log r.epoch r.offset r.last_epoch l ≡ first_of ((covered && not inside, refusals.OffsetOutOfRange) ∷ [])
+in_epoch log r l covered inside epoch covering at =
+    let above : ltb r.epoch l.epoch ≡ false = le-ltb _ _ (omega (arith, epoch)) in
+    let below : ltb l.epoch r.epoch ≡ false = le-ltb _ _ (omega (arith, epoch)) in
+    λ i. first_of ((above i, refusals.FencedLeaderEpoch) ∷ (below i, refusals.UnknownLeaderEpoch) ∷ (covering i && not (at i), refusals.OffsetOutOfRange) ∷ [])
 
-cause_in_epoch : (x : Node) (q : Request) (l : Leading) (fetching inside : Bool) → x.mode ≡ Leads l → q.epoch ≡ l.epoch → q.fetching ≡ fetching
-    → is_boundary x.log (end_of q.log) ≡ inside
-    → unless_leads x.mode (serve_cause x.log q) ≡ first_of ((fetching && not inside, refusals.OffsetOutOfRange) ∷ [])
-cause_in_epoch x q l fetching inside mode epoch asks at =
-    ap (λ (k : Mode). unless_leads k (serve_cause x.log q)) mode ∙ served_in_epoch x.log q l fetching inside epoch asks at
+pub fetch_cause : (x : Node) (l : Leading) (r : FetchRequest) (covered inside : Bool) → x.mode ≡ Leads l → l.epoch ≡ r.epoch → covers x.log r.offset r.last_epoch ≡ covered
+    → is_boundary x.log r.offset ≡ inside → cause_for x (fetch_request r) ≡ first_of ((covered && not inside, refusals.OffsetOutOfRange) ∷ [])
+fetch_cause x l r covered inside mode epoch covering at =
+    ap (λ (k : Mode). unless_leads k (serve_cause_for x.log r.epoch r.offset r.last_epoch)) mode ∙ in_epoch x.log r l covered inside epoch covering at
 
--- at an offset, by whether it is a boundary
-pub fetch_cause : (x : Node) (l : Leading) (r : FetchRequest) (inside : Bool) → x.mode ≡ Leads l → l.epoch ≡ r.epoch → is_boundary x.log r.offset ≡ inside
-    → RefusedBy x (fetch_request r) (first_of ((not inside, refusals.OffsetOutOfRange) ∷ []))
-fetch_cause x l r inside mode epoch at = λ q e.
-    let asks = asks_from q r.offset (ap (λ (o : Letter). o.asking) e) in
-    cause_in_epoch x q l true inside mode (ap (λ (o : Letter). o.epoch) e ∙ sym epoch) asks.fetching (ap (is_boundary x.log) asks.end ∙ at)
+-- so where the batches aren't had, it is refused so
+pub piece_refused : (m : NumberedNode) (l : Leading) (r : FetchRequest) (refusal : Refusal) → m.state.mode ≡ Leads l → l.epoch ≡ r.epoch → covers m.state.log r.offset r.last_epoch ≡ true
+    → ((is_boundary m.state.log r.offset ≡ false) × (refusal ≡ refusals.OffsetOutOfRange)) ⊎ ((is_boundary m.state.log r.offset ≡ true) × (refusal ≡ refusals.Memory))
+    → ForLetter (fetch_request r) (λ message. Does m m (Receive message) (Refused refusal))
+piece_refused m l r refusal mode epoch covered (inl odd) = λ message e.
+    refuses m (fetch_request r) refusal message refl (fetch_cause m.state l r true false mode epoch covered odd.0 ∙ ap Some (sym odd.1)) e
+piece_refused m l r refusal mode epoch covered (inr lacking) = λ message e.
+    subst (λ (f : Refusal). Does m m (Receive message) (Refused f)) (sym lacking.1) (lacks m (fetch_request r) message refl (fetch_cause m.state l r true true mode epoch covered lacking.0) e)
 
 -- ---- answers
 
-sends_to : (n : ℕ) (x y : Node) (l : Leading) (q : Request) (letter : Letter) → x.mode ≡ Leads l → serve_cause x.log q l ≡ None
-    → record x { mode = Leads (record l { reported = reported_after l q }) } ≡ y → letter_of (Answers (answer x q)) ≡ letter
-    → NodeDoesSending n x y (Receive (Asks q)) letter
-sends_to n x y l q letter mode free new is =
-    subst (λ (o : Letter). NodeDoesSending n x y (Receive (Asks q)) o) is
-    (subst (λ (z : Node). NodeDoesSending n x z (Receive (Asks q)) (letter_of (Answers (answer x q)))) new (serves n x q l mode free))
-
 -- the leader with this list of reports
-abbrev pub reporting : NumberedNode → Leading → List (Option ℕ) → NumberedNode
-reporting m l reported = record m { state = record m.state { mode = Leads (record l { reported = reported }) } }
+abbrev pub with_reports : NumberedNode → Leading → List (Option ℕ) → NumberedNode
+with_reports m l reported = record m { state = record m.state { mode = Leads (record l { reported = reported }) } }
 
-pub serves_fetch : (m : NumberedNode) (l : Leading) (r : FetchRequest) (batches : List Batch) (reported : List (Option ℕ)) (message : Message)
-    → m.state.mode ≡ Leads l → l.epoch ≡ r.epoch → is_boundary m.state.log r.offset ≡ true → batches ≡ at_least_one (from_offset r.offset m.state.log)
-    → reported ≡ with_report l.reported r.from r.offset → letter_of message ≡ fetch_request r
-    → DoesSending m (reporting m l reported) (Receive message) (record (fetch_request r) { answering = Some (Batches batches m.state.watermark) })
-serves_fetch m l r batches reported (Asks q) mode epoch at given kept e =
+-- it covers the request: batches are sent
+pub lifts : (m : NumberedNode) (l : Leading) (r : FetchRequest) (batches : List Batch) (watermark : ℕ) (reported : List (Option ℕ)) → m.state.mode ≡ Leads l → l.epoch ≡ r.epoch
+    → covers m.state.log r.offset r.last_epoch ≡ true → is_boundary m.state.log r.offset ≡ true → batches ≡ piece_from r.offset m.state.log
+    → watermark ≡ m.state.watermark → reported ≡ with_report l.reported r.from r.offset
+    → IsServed m (with_reports m l reported) (fetch_request r) (record (fetch_request r) { answering = Some (Batches batches watermark) })
+lifts m l r batches watermark reported mode epoch covered at given mark kept =
     let x = m.state in
-    let asks = asks_from q r.offset (ap (λ (o : Letter). o.asking) e) in
-    let from : q.from ≡ r.from = ap (λ (o : Letter). o.from) e in
-    let free : serve_cause x.log q l ≡ None =
-    served_in_epoch x.log q l true true (ap (λ (o : Letter). o.epoch) e ∙ sym epoch) asks.fetching (ap (is_boundary x.log) asks.end ∙ at) in
-    let reports : reported_after l q ≡ reported =
-    ap (λ (b : Bool). if b then with_report l.reported q.from (end_of q.log) else l.reported) asks.fetching
-    ∙ (λ i. with_report l.reported (from i) (asks.end i)) ∙ sym kept in
-    let piece_is : piece x.log q ≡ batches = ap (λ (o : ℕ). at_least_one (from_offset o x.log)) asks.end ∙ sym given in
-    let answers : answering_of (answer x q) ≡ Batches batches x.watermark =
-    ap (λ (b : Bool). if b then Batches (piece x.log q) x.watermark else EpochEnd (epoch_answer x.log q)) asks.fetching
-    ∙ ap (λ (bs : List Batch). Batches bs x.watermark) piece_is in (
-      sends_to m.number x (reporting m l reported).state l q _ mode free
-          (ap (λ (rs : List (Option ℕ)). record x { mode = Leads (record l { reported = rs }) }) reports)
-          (ap (λ (o : Letter). record o { answering = Some (answering_of (answer x q)) }) e
-          ∙ ap (λ (k : Answering). record (fetch_request r) { answering = Some k }) answers),
-      (refl, refl),
-    )
-serves_fetch m l r batches reported (Answers a) mode epoch at given kept e = absurd (no_request (fetch_request r) a refl e)
+    record {
+      leading = l;
+      leads = mode;
+      free = in_epoch x.log r l true true epoch covered at;
+      new_is =
+          ap (λ (rs : List (Option ℕ)). record x { mode = Leads (record l { reported = rs }) }) kept
+          ∙ ap (λ (b : Bool). if b then record x { mode = Leads (reporting l r.from r.offset) } else x) (sym covered);
+      sent_is =
+          (λ i. record (fetch_request r) { answering = Some (Batches (given i) (mark i)) })
+          ∙ ap (λ (b : Bool). record (fetch_request r) { answering = Some (if b then Batches (piece_from r.offset x.log) x.watermark else Diverging (end_asked x.log r.last_epoch)) }) (sym covered);
+      same = (refl, refl);
+    }
 
-pub serves_epoch : (m : NumberedNode) (l : Leading) (r : EpochRequest) (end : Option (ℕ × ℕ)) (message : Message)
-    → m.state.mode ≡ Leads l → l.epoch ≡ r.epoch → end ≡ end_for m.state.log (unwrap_or r.last_epoch 0) → letter_of message ≡ epoch_request r
-    → DoesSending m m (Receive message) (record (epoch_request r) { answering = Some (EpochEnd end) })
-serves_epoch m l r end (Asks q) mode epoch given e =
+-- it doesn't: the end of the epoch is told
+pub diverges : (m : NumberedNode) (l : Leading) (r : FetchRequest) (end : Option (ℕ × ℕ)) → m.state.mode ≡ Leads l → l.epoch ≡ r.epoch → covers m.state.log r.offset r.last_epoch ≡ false
+    → end ≡ end_asked m.state.log r.last_epoch → IsServed m m (fetch_request r) (record (fetch_request r) { answering = Some (Diverging end) })
+diverges m l r end mode epoch covered told =
     let x = m.state in
-    let asks = asks_for q r.last_epoch (ap (λ (o : Letter). o.asking) e) in
-    let free : serve_cause x.log q l ≡ None =
-    served_in_epoch x.log q l false (is_boundary x.log (end_of q.log)) (ap (λ (o : Letter). o.epoch) e ∙ sym epoch) asks.fetching refl in
-    let reports : reported_after l q ≡ l.reported =
-    ap (λ (b : Bool). if b then with_report l.reported q.from (end_of q.log) else l.reported) asks.fetching in
-    let same : record x { mode = Leads (record l { reported = reported_after l q }) } ≡ x =
-    ap (λ (rs : List (Option ℕ)). record x { mode = Leads (record l { reported = rs }) }) reports
-    ∙ ap (λ (k : Mode). record x { mode = k }) (sym mode) in
-    let answers : answering_of (answer x q) ≡ EpochEnd end =
-    ap (λ (b : Bool). if b then Batches (piece x.log q) x.watermark else EpochEnd (epoch_answer x.log q)) asks.fetching
-    ∙ ap (λ (o : Option ℕ). EpochEnd (end_for x.log (unwrap_or o 0))) asks.last ∙ ap EpochEnd (sym given) in (
-      sends_to m.number x x l q _ mode free same
-          (ap (λ (o : Letter). record o { answering = Some (answering_of (answer x q)) }) e
-          ∙ ap (λ (k : Answering). record (epoch_request r) { answering = Some k }) answers),
-      (refl, refl),
+    record {
+      leading = l;
+      leads = mode;
+      free = in_epoch x.log r l false (is_boundary x.log r.offset) epoch covered refl;
+      new_is = ap (λ (b : Bool). if b then record x { mode = Leads (reporting l r.from r.offset) } else x) (sym covered);
+      sent_is =
+          ap (λ (o : Option (ℕ × ℕ)). record (fetch_request r) { answering = Some (Diverging o) }) told
+          ∙ ap (λ (b : Bool). record (fetch_request r) { answering = Some (if b then Batches (piece_from r.offset x.log) x.watermark else Diverging (end_asked x.log r.last_epoch)) }) (sym covered);
+      same = (refl, refl);
+    }
+
+-- what a served letter comes to is the step of each request with it whose log is kin
+pub serves : (old new : NumberedNode) (r : FetchRequest) (sent : Letter) → IsLog old.state.log → IsServed old new (fetch_request r) sent
+    → ForRequest (fetch_request r) old.state.log (λ m. DoesSending old new (Receive m) sent)
+serves old new r sent h s = λ q e lawful kin.
+    let x = old.state in
+    let l = s.leading in
+    let free : serve_cause x.log q l ≡ None = ap (λ (o : Letter). serve_cause_for x.log o.epoch o.offset o.last l) e ∙ s.free in
+    let left : served x l (letter_of (Asks q)) ≡ new.state = ap (served x l) e ∙ sym s.new_is in
+    let answer : answer_letter x (letter_of (Asks q)) ≡ sent = ap (answer_letter x) e ∙ sym s.sent_is in
+    let step = serve_is_the_step old.number x l q s.leads h lawful kin free in (
+      subst (λ (y : Node). NodeDoesSending old.number x y (Receive (Asks q)) sent) left
+          (subst (λ (o : Letter). NodeDoesSending old.number x (served x l (letter_of (Asks q))) (Receive (Asks q)) o) answer step),
+      s.same,
     )
-serves_epoch m l r end (Answers a) mode epoch given e = absurd (no_request (epoch_request r) a refl e)
 
 -- ---- what is kept
 

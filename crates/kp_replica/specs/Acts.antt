@@ -1,5 +1,5 @@
 -- What a node does and what comes of it, as the definitions' acts, effects and replies.
-use Rattle.std.specs.Prelude.{◌≡◌, ℕ, ◌≤◌, IsFalse, List, [], ◌∷◌, map, None, Result, Ok, Err, Contains}
+use Rattle.std.specs.Prelude.{◌≡◌, ℕ, IsFalse, List, [], ◌∷◌, map, Some, Result, Ok, Err, Contains}
 use Rattle.kp_types.specs.declared.refusal.Refusal.{Refusal}
 use Rattle.kp_record.specs.Record.{AreBytes}
 use Rattle.kp_batch.specs.Batch.{Body, IsBody}
@@ -10,13 +10,13 @@ use Rattle.kp_model.specs.Admission.{admit, Duplicate}
 use Rattle.kp_model.specs.World.{LeaderAndIsr, Node, Asks, Answers as AnswersOf}
 use Rattle.kp_model.specs.Letter.{Letter, letter, letter_of}
 use Rattle.kp_model.specs.Calls.{sent_reply}
-use Rattle.kp_model.specs.Local.{Effect as ModelEffect, Local, cut_cause}
-use Rattle.kp_model.specs.Laws.{place_of}
+use Rattle.kp_model.specs.Local.{Effect as ModelEffect, Local, cause, is_covered}
 use Rattle.kp_model.specs.declared.message.MessageBody.{MessageBody}
 use Rattle.kp_control.specs.declared.record.LeaderAndIsr.{LeaderAndIsr as Record}
 use Rattle.kp_control.specs.Set.{record_of}
 use Rattle.kp_replica.specs.Adopting.{IsWithin}
 use Rattle.kp_replica.specs.Altering.{change_act}
+use Rattle.kp_replica.specs.Hearing.{CutsAbove}
 use Rattle.kp_replica.specs.NumberedNode.{NumberedNode, IsSameNode}
 use Rattle.kp_replica.specs.Replies.{role_reply, receipt_reply, taken_reply, cut_reply, shown_reply, mark_of, body_of, IsOffer, IsNamedBy, IsReceiptOf, IsReceiptOfBody}
 use Rattle.kp_replica.specs.declared.act.Act.{Act}
@@ -63,12 +63,13 @@ abbrev pub HandsBytes : Act → Type 0
 HandsBytes (Produce bytes) = AreBytes bytes
 HandsBytes _ = Unit {0}
 
--- What takes no memory, so that it is never refused for want of it: an ask, a batch that comes twice, and a request for the
--- end of a leader epoch (own rule).
+-- What takes no memory, so that it is never refused for want of it: an ask, a batch that comes twice, a request that no batches
+-- answer, and an answer that has none as the logs have parted (own rule).
 abbrev pub TakesNoMemory : Node → ModelAct → Type 0
 TakesNoMemory x model.Ask = Unit {0}
 TakesNoMemory x (model.Produce (Ok body)) = IsBody body × (base : ℕ) × (admit x.log body.content ≡ Duplicate base)
-TakesNoMemory x (Receive (Asks request)) = IsFalse request.fetching
+TakesNoMemory x (Receive (Asks request)) = IsFalse (is_covered x.log request)
+TakesNoMemory x (Receive (AnswersOf a)) = IsFalse (is_covered a.log a.request)
 TakesNoMemory x _ = ⊥
 
 -- ---- what comes of them
@@ -92,7 +93,7 @@ answered_reply (Err refusal) = Refused refusal
 -- what is replied, the letters of the messages that are sent, and the controller's record, which was the given one
 abbrev pub reply_of : Result Effect Refusal → Reply
 reply_of (Ok (Answers answer)) = answer_reply answer
-reply_of (Ok (Sends body)) = sent_reply (letter body).asking (letter body).answering
+reply_of (Ok (Sends body)) = sent_reply (letter body)
 reply_of (Ok (Changes made)) = model.Changed (record_of made)
 reply_of (Err refusal) = Refused refusal
 
@@ -122,22 +123,28 @@ abbrev pub Looks : ModelAct → Type 0
 Looks model.Adopt = Unit {0}
 Looks (model.Join member) = Unit {0}
 Looks (model.Leave member) = Unit {0}
-Looks (Receive (AnswersOf a)) = IsFalse a.request.fetching
+Looks (Receive (AnswersOf a)) = IsFalse (is_covered a.log a.request)
 Looks _ = ⊥
 
 -- What each run has of a node that does so under this record: its log has no epoch above the record's; it is kin to the log
--- of an answer, and the node wouldn't cut it below its watermark.
+-- of a request, also of an answered one, which is kin to the answer's, and the node wouldn't cut it below its watermark.
 abbrev pub IsOfRun : LeaderAndIsr → NumberedNode → ModelAct → Type 0
 IsOfRun c x model.Adopt = IsWithin c x.state.log
+IsOfRun c x (Receive (Asks r)) = IsLog r.log × IsKin r.log x.state.log
 IsOfRun c x (Receive (AnswersOf a)) =
-    IsLog a.log × IsKin x.state.log a.log
-    × (IsFalse a.request.fetching → cut_cause c x.number x.state a ≡ None → x.state.watermark ≤ (place_of x.state a).0)
+    IsLog a.log × IsLog a.request.log × IsKin a.request.log x.state.log × IsKin a.request.log a.log × CutsAbove c x (AnswersOf a)
 IsOfRun c x _ = Unit {0}
 
 -- So the node did where it was shown this record: whatever the record was, where the act doesn't look at it.
 abbrev pub Acts : (shown : LeaderAndIsr) → NumberedNode → NumberedNode → ModelAct → Result Effect Refusal → Type 0
 Acts shown old new act outcome =
     (c : LeaderAndIsr) → (Looks act → c ≡ shown) → IsOfRun c old act → Comes c old new act outcome
+
+-- The same of what a cause refuses, also where the logs aren't those of a run.
+abbrev pub Refuses : (shown : LeaderAndIsr) → NumberedNode → NumberedNode → ModelAct → Result Effect Refusal → Type 0
+Refuses shown old new act outcome =
+    (c : LeaderAndIsr) → (Looks act → c ≡ shown) → (refusal : Refusal) → cause c old.number old.state act ≡ Some refusal
+    → Comes c old new act outcome
 
 -- a receipt that is answered names a batch that stands in this log: base and last offset, and leader epoch
 abbrev pub NamesIn : List Batch → Result Effect Refusal → Type 0

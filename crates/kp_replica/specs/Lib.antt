@@ -7,6 +7,7 @@ pub mod Sending
 pub mod Adopting
 pub mod Taking
 pub mod Cutting
+pub mod Hearing
 pub mod Altering
 pub mod Broker
 pub mod Acts

@@ -12,4 +12,4 @@ leading_of l =
 abbrev pub mode_of : Mode → ModelMode
 mode_of Idle = ModelIdle
 mode_of (Leads l) = ModelLeads (leading_of l)
-mode_of (Follows f) = ModelFollows (record { leader = f.leader; epoch = f.epoch; fetching = f.fetching })
+mode_of (Follows f) = ModelFollows (record { leader = f.leader; epoch = f.epoch })

@@ -15,11 +15,13 @@ use Rattle.kp_replica.specs.declared.adopting.Role.TheVariants as roles
 use Rattle.kp_replica.specs.declared.producing.Receipt.{Receipt}
 use Rattle.kp_replica.specs.declared.reading.Shown.{Shown}
 use Rattle.kp_replica.specs.declared.taking.Taken.{Taken}
+use Rattle.kp_replica.specs.declared.taking.Followed.{Followed}
+use Rattle.kp_replica.specs.declared.taking.Followed.TheVariants as follows
 use Rattle.kp_replica.specs.declared.cutting.CutBack.{CutBack}
 
 abbrev pub role_reply : Result Role Refusal → Reply
 role_reply (Ok (roles.Leads epoch start)) = NowLeads epoch start
-role_reply (Ok (roles.Follows leader epoch fetching)) = NowFollows leader epoch fetching
+role_reply (Ok (roles.Follows leader epoch)) = NowFollows leader epoch
 role_reply (Err refusal) = Refused refusal
 
 abbrev pub receipt_reply : Result Receipt Refusal → Reply
@@ -35,8 +37,13 @@ taken_reply (Ok taken) = Took taken.end taken.watermark
 taken_reply (Err refusal) = Refused refusal
 
 abbrev pub cut_reply : Result CutBack Refusal → Reply
-cut_reply (Ok cut) = Cut cut.end cut.done
+cut_reply (Ok cut) = Cut cut.end
 cut_reply (Err refusal) = Refused refusal
+
+abbrev pub followed_reply : Result Followed Refusal → Reply
+followed_reply (Ok (follows.Took taken)) = taken_reply (Ok taken)
+followed_reply (Ok (follows.Cut cut)) = cut_reply (Ok cut)
+followed_reply (Err refusal) = Refused refusal
 
 abbrev pub checkpoint_reply : Result ℕ Refusal → Reply
 checkpoint_reply (Ok watermark) = CheckpointAt watermark

@@ -1,11 +1,15 @@
 //! What a node may be asked to do, and what comes of it.
 
+ghost use Rattle.std.specs.Prelude.{◌≡◌, Ok};
+ghost use Rattle.kp_replica.specs.Acts.{answer_reply};
+ghost use Rattle.kp_replica.specs.Replies.{followed_reply};
+
 use crate::adopting::Role;
 use crate::altering::IsrChange;
 use crate::cutting::CutBack;
 use crate::producing::Receipt;
 use crate::reading::Shown;
-use crate::taking::Taken;
+use crate::taking::{Followed, Taken};
 use kp_batch::Handed;
 use kp_control::LeaderAndIsr;
 use kp_marker::HandedMarker;
@@ -54,9 +58,9 @@ pub enum Act {
 pub enum Answer {
     Adopted(Role),
     Appended(Receipt),
-    /// It took batches of a fetch answer.
+    /// It took a leader's batches.
     Took(Taken),
-    /// It took back its log's tail.
+    /// It took back its log's tail, on a leader's diverging answer.
     Cut(CutBack),
     /// The high watermark.
     Watermark(Offset),
@@ -80,4 +84,16 @@ pub enum Effect {
     Sends(MessageBody),
     /// The controller's record is changed to this one.
     Changes(LeaderAndIsr),
+}
+
+impl Followed {
+    /// The same, as what a node answers. O(1).
+    pub(crate) fn answer(self) -> Answer
+        ensures { answer_reply result ≡ followed_reply (Ok self) }
+    {
+        match self {
+            Followed::Took(taken) => Answer::Took(taken),
+            Followed::Cut(cut) => Answer::Cut(cut),
+        }
+    }
 }

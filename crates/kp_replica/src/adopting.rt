@@ -14,16 +14,9 @@ use kp_types::{Epoch, NodeId, Offset, Refusal};
 #[derive(Clone, Copy, Debug, PartialEq, Eq)]
 pub enum Role {
     /// It leads from its log's end on.
-    Leads {
-        epoch: Epoch,
-        start: Offset,
-    },
-    /// It follows, fetching where its log is empty, else reconciling.
-    Follows {
-        leader: NodeId,
-        epoch: Epoch,
-        fetching: bool,
-    },
+    Leads { epoch: Epoch, start: Offset },
+    /// It follows this leader, from whom it fetches.
+    Follows { leader: NodeId, epoch: Epoch },
 }
 
 /// The record's leader, where its epoch is above the node's own.
@@ -84,16 +77,13 @@ impl Replica {
             });
             return Ok(Role::Leads { epoch, start });
         }
-        let fetching = self.log.is_empty();
         self.mode = Mode::Follows(Following {
             leader: node,
             epoch,
-            fetching,
         });
         Ok(Role::Follows {
             leader: node,
             epoch,
-            fetching,
         })
     }
 }

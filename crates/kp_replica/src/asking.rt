@@ -1,7 +1,7 @@
 //! What a follower asks its leader.
 
 use crate::replica::{Mode, Replica};
-use kp_model::{EpochRequest, FetchRequest, MessageBody};
+use kp_model::{FetchRequest, MessageBody};
 use kp_types::Refusal;
 
 impl Replica {
@@ -12,9 +12,10 @@ impl Replica {
     ghost use Rattle.kp_replica.specs.NumberedNode.{Does};
     ghost use Rattle.kp_replica.specs.Sending.{DoesSending};
 
-    /// The request to the leader that the node follows: where it fetches, for the batches from its
-    /// log's end on; where it reconciles, for the end of its last batch's leader epoch. F15 exactly
-    /// where it follows none. O(1), and no memory (Kafka protocol guide, 'Fetch'; KIP-101, KIP-320).
+    /// The request to the leader that the node follows, for the batches after its log: it names the log's end, and the leader
+    /// epoch of its last batch, none for an empty log, by which the leader tells whether its own log goes on from there. F15
+    /// exactly where it follows none. O(1), and no memory (Kafka protocol guide, 'Fetch'; KIP-320; KIP-595's truncation on
+    /// fetch is the idea's source, the profile is our own).
     pub fn ask(&self) -> Result<MessageBody, Refusal>
         ensures sent { IfOk result (λ request.
             DoesSending self.now self.now Ask (letter request)) }
@@ -24,20 +25,12 @@ impl Replica {
         let Mode::Follows(following) = self.mode else {
             return Err(Refusal::NotLeader);
         };
-        if following.fetching {
-            return Ok(MessageBody::FetchRequest(FetchRequest {
-                from: self.number,
-                to: following.leader,
-                life: self.life,
-                epoch: following.epoch,
-                offset: self.log.end_offset(),
-            }));
-        }
-        Ok(MessageBody::EpochRequest(EpochRequest {
+        Ok(MessageBody::FetchRequest(FetchRequest {
             from: self.number,
             to: following.leader,
             life: self.life,
             epoch: following.epoch,
+            offset: self.log.end_offset(),
             last_epoch: self.log.last_epoch(),
         }))
     }

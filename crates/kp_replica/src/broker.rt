@@ -28,7 +28,7 @@ impl Broker {
     ghost use Rattle.kp_model.specs.Log.{IsBoundary};
     ghost use Rattle.kp_model.specs.World.{LeaderAndIsr as ModelRecord, Message, fresh};
     ghost use Rattle.kp_control.specs.Set.{record_of};
-    ghost use Rattle.kp_replica.specs.Acts.{Acts, Fits, FitsPlain, IsAct, IsAppended, TakesNoMemory, plain_act};
+    ghost use Rattle.kp_replica.specs.Acts.{Acts, Fits, FitsPlain, IsAct, IsAppended, Refuses, TakesNoMemory, plain_act};
     ghost use Rattle.kp_replica.specs.Broker.{node_at};
     ghost use Rattle.kp_replica.specs.Replies.{IsOffer};
 
@@ -140,9 +140,9 @@ impl Broker {
         }
     }
 
-    /// The message comes to the node, under this record of the controller, at which an epoch answer alone looks. F28 where
-    /// the node is down; for what else is refused, and for the cost, see `serve_fetch`, `serve_epoch`, `take_fetch` and
-    /// `take_epoch` of [`Replica`]. Where memory is refused in a take (F33) the node is down.
+    /// The message comes to the node, under this record of the controller, at which a diverging answer alone looks. F28 where
+    /// the node is down; for what else is refused, and for the cost, see `serve_fetch` and `take_fetch` of [`Replica`]. Where
+    /// memory is refused in a take (F33) the node is down.
     pub fn receive(
         &mut self,
         alloc: Global,
@@ -151,6 +151,8 @@ impl Broker {
     ) -> Result<Effect, Refusal>
         ensures acts { (m : Message) → letter_of m ≡ letter body.now
             → Acts (record_of controller.now) (node_at self.old) (node_at self.new) (Receive m) result }
+        ensures refused { (m : Message) → letter_of m ≡ letter body.now
+            → Refuses (record_of controller.now) (node_at self.old) (node_at self.new) (Receive m) result }
         ensures spared { (m : Message) → letter_of m ≡ letter body.now
             → TakesNoMemory (node_at self.old).state (Receive m) → result ≢ Err Memory }
     {
@@ -159,17 +161,9 @@ impl Broker {
                 let answer = self.serve_fetch(alloc, request)?;
                 Ok(Effect::Sends(MessageBody::FetchAnswer(answer)))
             }
-            MessageBody::EpochRequest(request) => {
-                let answer = self.serve_epoch(request)?;
-                Ok(Effect::Sends(MessageBody::EpochAnswer(answer)))
-            }
             MessageBody::FetchAnswer(answer) => {
-                let taken = self.take_fetch(answer)?;
-                Ok(Effect::Answers(Answer::Took(taken)))
-            }
-            MessageBody::EpochAnswer(answer) => {
-                let cut = self.take_epoch(answer, controller)?;
-                Ok(Effect::Answers(Answer::Cut(cut)))
+                let followed = self.take_fetch(controller, answer)?;
+                Ok(Effect::Answers(followed.answer()))
             }
         }
     }

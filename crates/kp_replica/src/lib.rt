@@ -31,7 +31,7 @@ pub use kept::KeptNode;
 pub use producing::Receipt;
 pub use reading::Shown;
 pub use replica::Replica;
-pub use taking::Taken;
+pub use taking::{Followed, Taken};
 
 /// All bytes hand in one thing, and only one: a batch, or the refusal of what they are. It costs nothing.
 pub fn bytes_are_an_offer()

@@ -1,4 +1,4 @@
-use Rattle.std.proofs.Common.{ℕ, List, Option, Bool, refl, ap, subst, sym}
+use Rattle.std.proofs.Common.{ℕ, List, Option, refl, ap, subst, sym}
 use Rattle.std.specs.Option.{option_map}
 use Rattle.kp_types.specs.declared.refusal.Refusal.TheVariants as refusals
 use Rattle.kp_model.specs.Log.{end_of}
@@ -36,7 +36,6 @@ returns-clause-event c = λ within.
     let m = node_of c.self.inside in
     let l = leader_of c.in-Some.leader in
     let done = adopted_follows r m.number m.state l (ap (option_map leader_of) c.in-Some.ensures.1) (is_up c.self.inside.mode) c.in-Some.ensures.0 c.if-node-self.false in
-    let P : NumberedNode → Bool → Type 0 =
-    λ x t. DoesUnder r x (record m { state = record m.state { mode = Follows (record { leader = l.node; epoch = l.epoch; fetching = t }) } }) Adopt (NowFollows l.node l.epoch t) in
-    subst (λ (x : NumberedNode). P x c.is_empty-fetching.result) c.self.view_is
-    (subst (λ (t : Bool). P m t) (sym c.is_empty-fetching.ensures) (done, (refl, refl)))
+    let P : NumberedNode → Type 0 =
+    λ x. DoesUnder r x (record m { state = record m.state { mode = Follows (record { leader = l.node; epoch = l.epoch }) } }) Adopt (NowFollows l.node l.epoch) in
+    subst P c.self.view_is (done, (refl, refl))
