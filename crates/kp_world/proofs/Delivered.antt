@@ -10,7 +10,7 @@ use Rattle.kp_types.specs.declared.refusal.Refusal.TheVariants as refusals
 use Rattle.kp_model.specs.Log.{IsLog, IsKin}
 use Rattle.kp_model.specs.World.{LeaderAndIsr, Node, Answer as ModelAnswer, Message, Asks, Answers, IsSent, addressee, sender}
 use Rattle.kp_model.specs.Event.{Receive, Refused, Deliver, Reply}
-use Rattle.kp_model.specs.Laws.{MessagesGoToNodes, RunsKeepCount, RunsKeepLogs, RunsKeepKin, NoCutBelowTheWatermark, AreTwoNodes, place_of}
+use Rattle.kp_model.specs.Laws.{MessagesGoToNodes, RunsKeepCount, RunsKeepLogs, RunsKeepKin, NoCutBelowTheWatermark, AreTwoNodes, StandsIn, place_of}
 use Rattle.kp_model.specs.Letter.{Letter, goes_to, letter_of}
 use Rattle.kp_model.specs.Local.{cut_cause}
 use Rattle.kp_model.specs.Run.{Run, last}
@@ -55,15 +55,25 @@ goes (Answers a) = refl
 -- what the laws of runs say of a message
 of_run : RunsKeepLogs → RunsKeepKin → NoCutBelowTheWatermark → (count : ℕ) (r : Run count) (number : ℕ) (m : Message) (c : LeaderAndIsr) (x : NumberedNode) → slice_get (last r).messages number ≡ Some m
     → (last r).controller ≡ c → (last r).nodes x.number ≡ x.state → IsOfRun c x (Receive m)
-of_run keep_logs keep_kin no_cut count r number (Asks q) c x there record_is state = tt
+of_run keep_logs keep_kin no_cut count r number (Asks q) c x there record_is state =
+    let w = last r in
+    let is_of = last_is_of count r in
+    let stands : StandsIn w q.log = inr (Asks q, (number, there), refl) in (
+      keep_logs count r w is_of q.log stands,
+      keep_kin count r w w is_of is_of q.log x.state.log stands (inl (x.number, ap (λ (y : Node). y.log) (sym state))),
+    )
 of_run keep_logs keep_kin no_cut count r number (Answers a) c x there record_is state =
     let w = last r in
     let is_of = last_is_of count r in
-    let sent : IsSent w.messages (Answers a) = (number, there) in (
-      keep_logs count r w is_of a.log (inr (Answers a, sent, inr refl)),
-      keep_kin count r w w is_of is_of x.state.log a.log (inl (x.number, ap (λ (y : Node). y.log) (sym state))) (inr (Answers a, sent, inr refl)),
-      λ asks free. subst (λ (y : Node). y.watermark ≤ (place_of y a).0) state
-          (no_cut count r w is_of x.number a sent asks
+    let sent : IsSent w.messages (Answers a) = (number, there) in
+    let answered : StandsIn w a.log = inr (Answers a, sent, inr refl) in
+    let asked : StandsIn w a.request.log = inr (Answers a, sent, inl refl) in (
+      keep_logs count r w is_of a.log answered,
+      keep_logs count r w is_of a.request.log asked,
+      keep_kin count r w w is_of is_of a.request.log x.state.log asked (inl (x.number, ap (λ (y : Node). y.log) (sym state))),
+      keep_kin count r w w is_of is_of a.request.log a.log asked answered,
+      λ parted free. subst (λ (y : Node). y.watermark ≤ place_of y a) state
+          (no_cut count r w is_of x.number a sent parted
           (subst (λ (k : LeaderAndIsr). cut_cause k x.number (w.nodes x.number) a ≡ None) (sym record_is)
           (subst (λ (y : Node). cut_cause c x.number y a ≡ None) (sym state) free))),
     )

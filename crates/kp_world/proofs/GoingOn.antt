@@ -1,6 +1,6 @@
 -- Each run goes on: whatever comes next has an answer.
 use Rattle.std.proofs.Common.{◌≡◌, ◌≢◌, ℕ, Bool, true, false, cond, List, [], ◌∷◌, ◌++◌, Option, Some, None, refl, sym, ap, ◌∙◌, subst, inl, inr, append_assoc, append-nil, arith}
-use Rattle.std.specs.Prelude.{map, length, not, slice_get, unwrap_or, IsFalse, Ok, Err}
+use Rattle.std.specs.Prelude.{map, not, slice_get, IsFalse, IsTrue, Ok, Err}
 use Rattle.std.proofs.lemmas.Bool.{false≢true}
 use Rattle.std.specs.List.{AllByRecursion}
 use Rattle.std.specs.Option.{option_map_or}
@@ -10,19 +10,19 @@ use Rattle.kp_types.specs.declared.refusal.Refusal.{Refusal}
 use Rattle.kp_types.specs.declared.refusal.Refusal.TheVariants as refusals
 use Rattle.kp_batch.specs.Batch.{Body, IsBody}
 use Rattle.kp_model.specs.Admission.{Admission, Append, Duplicate, Refused as NotAdmitted, admit}
-use Rattle.kp_model.specs.Log.{Batch, end_of}
+use Rattle.kp_model.specs.Log.{Batch, IsLog, IsKin, end_of}
 use Rattle.kp_model.specs.Transactions.{stable}
 use Rattle.kp_model.specs.World.{Leader, LeaderAndIsr, Leading, Mode, Down, Idle, Leads, Follows, Answer, Request, Message, Asks, Answers, Node, World, addressee, with_record}
 use Rattle.kp_model.specs.Event.{Act, Receive, Event, Outcome, Refused, Changed, Shown}
 use Rattle.kp_model.specs.Event as model
-use Rattle.kp_model.specs.Calls.{cut}
-use Rattle.kp_model.specs.Letter.{letter_of}
-use Rattle.kp_model.specs.Laws.{CutIsTheStep, StandsIn, MessagesGoToNodes, NoDeliveryIsRefusedOddly, RunsAreSafe, RunsKeepCount, RunsKeepKin, RunsKeepLogs}
-use Rattle.kp_model.specs.Local.{Adopts, Alters, Appends, Effect, Local, LocalBy, Produces, Raises, Serves, WhereFollows, WhereLeads, admission_cause, altered, answer, ask_cause, ask_reply, asked, becomes, cause, elected, epoch_answer, is_down, last_epoch, piece, raised, reported_after, sends, serve_cause, serve_reply, unless_leads, under, with_member, without_member}
+use Rattle.kp_model.specs.Calls.{DoesSending, answer_letter, answering_at, cut, cut_by, sent_reply, served, taken_some}
+use Rattle.kp_model.specs.Letter.{Answering as LetterAnswering, Batches, Diverging, Letter, letter_of}
+use Rattle.kp_model.specs.Laws.{CutIsTheStep, ServeIsTheStep, TakeIsTheStep, StandsIn, MessagesGoToNodes, NoDeliveryIsRefusedOddly, RunsAreSafe, RunsKeepCount, RunsKeepKin, RunsKeepLogs}
+use Rattle.kp_model.specs.Local.{Adopts, Alters, Appends, Effect, Local, LocalBy, Produces, Raises, WhereFollows, WhereLeads, admission_cause, altered, ask_cause, ask_reply, asked, becomes, cause, cut_cause, elected, is_covered, is_down, piece, raised, sends, serve_cause, take_cause, unless_leads, under, with_member, without_member}
 use Rattle.kp_model.specs.Run.{Moment, Run, extend, last}
 use Rattle.kp_model.proofs.Beginnings.{Begins-nil}
 use Rattle.kp_model.proofs.RunLaws.{last_is_of}
-use Rattle.kp_model.proofs.Steps.{happened, lacked_memory, was_refused}
+use Rattle.kp_model.proofs.Steps.{was_refused}
 use Rattle.kp_model.specs.Step.{Delivers, ElectsBy, IsGiven, NodeStep, Step, answered, elect_cause, moved, told}
 use Rattle.kp_replica.specs.Acts.{IsAsked, TakesNoMemory}
 use Rattle.kp_world.specs.Laws.{IsLawful, MayCome, PlaysGoOn}
@@ -105,6 +105,13 @@ serve_spared Idle log r e = cc
 serve_spared (Leads l) log r e = tests_spared _ _ _ e
 serve_spared (Follows f) log r e = cc
 
+hears_spared : (down moved stale : Bool)
+    → first_of ((down, refusals.Down) ∷ (moved, refusals.StaleRecord) ∷ (stale, refusals.StaleAnswer) ∷ []) ≢ Some refusals.Memory
+hears_spared true moved stale e = cc
+hears_spared false true stale e = cc
+hears_spared false false true e = cc
+hears_spared false false false e = cc
+
 -- no cause of it is want of memory
 cause_spared : (c : LeaderAndIsr) (n : ℕ) (x : Node) (act : Act) → TakesNoMemory x act → cause c n x act ≢ Some refusals.Memory
 cause_spared c n x model.Ask takes e = ask_spared x.mode e
@@ -112,7 +119,8 @@ cause_spared c n x (model.Produce (Ok body)) (lawful, base, is) e =
     leads_spared x.mode (subst (λ (a : Admission). unless_leads x.mode (λ l. admission_cause x.log body a) ≡ Some refusals.Memory) is e)
 cause_spared c n x (model.Produce (Err fault)) takes e = takes
 cause_spared c n x (model.Receive (Asks r)) takes e = serve_spared x.mode x.log r e
-cause_spared c n x (model.Receive (Answers a)) takes e = takes
+cause_spared c n x (model.Receive (Answers a)) takes e =
+    hears_spared _ _ _ (sym (ap (λ (b : Bool). cond b (take_cause x a) (cut_cause c n x a)) takes) ∙ e)
 cause_spared c n x model.Adopt takes e = takes
 cause_spared c n x (model.Mark time producer epoch coordinator commit) takes e = takes
 cause_spared c n x model.Raise takes e = takes
@@ -144,11 +152,7 @@ asks : (c : LeaderAndIsr) (n : ℕ) (x : Node) (mode : Mode) → ask_cause mode 
 asks c n x Down none = absurd cc
 asks c n x Idle none = absurd cc
 asks c n x (Leads l) none = absurd cc
-asks c n x (Follows f) none = (sends c x (Asks (asked n x f)) (ask_reply (asked n x f)), refl, by f.fetching)
-  where
-    by : (b : Bool) → cond b (model.AsksFrom (end_of x.log)) (model.AsksEpoch (unwrap_or (last_epoch x.log) 0)) ≢ Refused refusals.Memory
-    by true e = cc
-    by false e = cc
+asks c n x (Follows f) none = (sends c x (Asks (asked n x f)) (ask_reply (asked n x f)), refl, λ e. cc)
 
 -- a batch that stands already is answered with its offset
 stands : (c : LeaderAndIsr) (x : Node) (body : Body) (base : ℕ) (mode : Mode) (why : Leading → Option Refusal) → IsBody body → admit x.log body.content ≡ Duplicate base
@@ -218,52 +222,60 @@ acting c n x act done = record { effect = done.effect; local = done.local; spare
 acts_locally : (c : LeaderAndIsr) (n : ℕ) (x : Node) (act : Act) → IsAsked act → IsLawful act → Acting c n x act
 acts_locally c n x act asked lawful = acting c n x act (does c n x act (cause c n x act) refl asked lawful)
 
--- who leads answers a request for the end of a leader epoch
-serves : (c : LeaderAndIsr) (n : ℕ) (x : Node) (r : Request) (mode : Mode) (why : Leading → Option Refusal) → IsFalse r.fetching → unless_leads mode why ≡ None
-    → (e : Effect) × WhereLeads mode (λ l. Serves c x r l e) × (e.reply ≢ Refused refusals.Memory)
-serves c n x r Down why asks none = absurd cc
-serves c n x r Idle why asks none = absurd cc
-serves c n x r (Leads l) why asks none =
-    let e = sends c (record x { mode = Leads (record l { reported = reported_after l r }) }) (Answers (answer x r)) (serve_reply x r) in
-    (e, refl, by r.fetching)
-  where
-    by : (b : Bool) → cond b (model.SentBatches (length (piece x.log r)) x.watermark) (model.SentEpoch (epoch_answer x.log r)) ≢ Refused refusals.Memory
-    by true e = cc
-    by false e = cc
-serves c n x r (Follows f) why asks none = absurd cc
+-- no answer is told to lack memory
+sent_spared : (l : Letter) (answering : LetterAnswering) → sent_reply (record l { answering = Some answering }) ≢ Refused refusals.Memory
+sent_spared l (Batches batches watermark) e = cc
+sent_spared l (Diverging end) e = cc
 
--- a message that comes: a fetch request meets want of memory, and so does a fetch answer, which leaves the node down
-receives : (c : LeaderAndIsr) (n : ℕ) (x : Node) (m : Message) (o : Option Refusal) → o ≡ cause c n x (Receive m)
-    → ((a : Answer) → m ≡ Answers a → IsFalse a.request.fetching → (e : Effect) × Local c n x (Receive m) e) → Acting c n x (Receive m)
-receives c n x m (Some refusal) is cuts = record {
+-- what is left to know of a message that comes, whose logs are those of a run
+record Known (c : LeaderAndIsr) (n : ℕ) (x : Node) (m : Message) : Type 0 where
+  asked : (r : Request) → m ≡ Asks r → (l : Leading) → x.mode ≡ Leads l → serve_cause x.log r l ≡ None
+      → DoesSending n x (served x l (letter_of (Asks r))) (Receive (Asks r)) (answer_letter x (letter_of (Asks r)))
+  took : (a : Answer) → m ≡ Answers a → IsTrue (is_covered a.log a.request) → take_cause x a ≡ None → Local c n x (Receive (Answers a)) (taken_some c x [])
+  cuts : (a : Answer) → m ≡ Answers a → IsFalse (is_covered a.log a.request) → Local c n x (Receive (Answers a)) (cut c n x (letter_of (Answers a)))
+
+-- who leads answers a request
+serves : (c : LeaderAndIsr) (n : ℕ) (x : Node) (r : Request) (mode : Mode) → x.mode ≡ mode → Known c n x (Asks r) → unless_leads mode (serve_cause x.log r) ≡ None
+    → Acting c n x (Receive (Asks r))
+serves c n x r Down is known none = absurd cc
+serves c n x r Idle is known none = absurd cc
+serves c n x r (Leads l) is known none =
+    let asked = letter_of (Asks r) in
+    let done = known.asked r refl l is none in
+    record {
+      effect = sends c (served x l asked) done.message (sent_reply (answer_letter x asked));
+      local = done.local c;
+      spared = λ takes. sent_spared asked (answering_at x asked);
+    }
+serves c n x r (Follows f) is known none = absurd cc
+
+-- where a cut isn't refused, its reply is no refusal
+cut_spared : (c : LeaderAndIsr) (x : Node) (place : ℕ) (o : Option Refusal) → o ≡ None → (cut_by o c x place).reply ≢ Refused refusals.Memory
+cut_spared c x place None none e = cc
+cut_spared c x place (Some refusal) none e = absurd cc
+
+-- A message that comes: a request is answered; an answer with batches meets want of memory, which leaves the node down, and one
+-- without is done.
+receives : (c : LeaderAndIsr) (n : ℕ) (x : Node) (m : Message) (o : Option Refusal) → o ≡ cause c n x (Receive m) → Known c n x m → Acting c n x (Receive m)
+receives c n x m (Some refusal) is known = record {
   effect = becomes c x (Refused refusal);
   local = was_refused c n x (Receive m) refusal (sym is);
   spared = λ takes lacks. cause_spared c n x (Receive m) takes (sym is ∙ ap Some (same_refusal refusal refusals.Memory lacks));
 }
-receives c n x (Asks r) None is cuts = by r.fetching refl
+receives c n x (Asks r) None is known = serves c n x r x.mode refl known (sym is)
+receives c n x (Answers a) None is known = by (is_covered a.log a.request) refl
   where
-    by : (b : Bool) → r.fetching ≡ b → Acting c n x (Receive (Asks r))
-    by true fetching = record {
-      effect = becomes c x (Refused refusals.Memory);
-      local = lacked_memory c n x (Receive (Asks r)) (becomes c x (Refused refusals.Memory)) (sym is) refl;
-      spared = λ takes lacks. absurd (false≢true (sym takes ∙ fetching));
+    by : (b : Bool) → is_covered a.log a.request ≡ b → Acting c n x (Receive (Answers a))
+    by true covered = record {
+      effect = taken_some c x [];
+      local = known.took a refl covered (sym (ap (λ (b : Bool). cond b (take_cause x a) (cut_cause c n x a)) covered) ∙ sym is);
+      spared = λ takes. absurd (false≢true (sym takes ∙ covered));
     }
-    by false asks =
-        let done = serves c n x r x.mode _ asks (sym is) in
-        record { effect = done.0; local = happened c n x (Receive (Asks r)) done.0 (sym is) done.1; spared = λ takes. done.2 }
-receives c n x (Answers a) None is cuts = by a.request.fetching refl
-  where
-    by : (b : Bool) → a.request.fetching ≡ b → Acting c n x (Receive (Answers a))
-    by true fetching =
-        let e = becomes c (record x { log = x.log ++ []; mode = Down }) (Refused refusals.Memory) in
-        record {
-          effect = e;
-          local = lacked_memory c n x (Receive (Answers a)) e (sym is) (fetching, record { some = []; begins = Begins-nil (piece a.log a.request); effect_is = refl });
-          spared = λ never. absurd never;
-        }
-    by false asks =
-        let done = cuts a refl asks in
-        record { effect = done.0; local = done.1; spared = λ never. absurd never }
+    by false parted = record {
+      effect = cut c n x (letter_of (Answers a));
+      local = known.cuts a refl parted;
+      spared = λ takes. cut_spared c x _ (cut_cause c n x a) (sym (ap (λ (b : Bool). cond b (take_cause x a) (cut_cause c n x a)) parted) ∙ sym is);
+    }
 
 -- the laws of runs by which messages come
 record Laws : Type 0 where
@@ -271,7 +283,33 @@ record Laws : Type 0 where
   keep : RunsKeepCount
   logs : RunsKeepLogs
   kin : RunsKeepKin
+  serve_is : ServeIsTheStep
+  take_is : TakeIsTheStep
   cut_is : CutIsTheStep
+
+-- so a message of a run that comes to a node is known
+of_run : Laws → (count : ℕ) (r : Run count) (number n : ℕ) (m : Message) → slice_get (last r).messages number ≡ Some m
+    → Known (last r).controller n ((last r).nodes n) m
+of_run laws count r number n m is =
+    let w = last r in
+    let is_of = last_is_of count r in
+    let x = w.nodes n in
+    let own : StandsIn w x.log = inl (n, refl) in
+    let asks : (q : Request) → m ≡ Asks q → StandsIn w q.log = λ q same. inr (Asks q, (number, is ∙ ap Some same), refl) in
+    let told : (a : Answer) → m ≡ Answers a → StandsIn w a.log = λ a same. inr (Answers a, (number, is ∙ ap Some same), inr refl) in
+    let asked : (a : Answer) → m ≡ Answers a → StandsIn w a.request.log = λ a same. inr (Answers a, (number, is ∙ ap Some same), inl refl) in
+    let log : (l : List Batch) → StandsIn w l → IsLog l = laws.logs count r w is_of in
+    let kin : (one other : List Batch) → StandsIn w one → StandsIn w other → IsKin one other = laws.kin count r w w is_of is_of in
+    record {
+      asked = λ q same l leads free.
+          laws.serve_is n x l q leads (log x.log own) (log q.log (asks q same)) (kin q.log x.log (asks q same) own) free;
+      took = λ a same covered free.
+          (laws.take_is w.controller n x a covered (log x.log own) (log a.log (told a same)) (log a.request.log (asked a same))
+          (kin a.request.log x.log (asked a same) own) (kin a.request.log a.log (asked a same) (told a same))).1 [] free (Begins-nil (piece a.log a.request));
+      cuts = λ a same parted.
+          (laws.cut_is w.controller n x a parted (log x.log own) (log a.log (told a same)) (log a.request.log (asked a same))
+          (kin a.request.log x.log (asked a same) own) (kin a.request.log a.log (asked a same) (told a same))).0;
+    }
 
 comes : Laws → (count : ℕ) (r : Run count) (number : ℕ) (o : Option Message) → slice_get (last r).messages number ≡ o → Answering (last r) (model.Deliver number)
 comes laws count r number None is =
@@ -287,13 +325,7 @@ comes laws count r number (Some m) is =
     let is_of = last_is_of count r in
     let n = addressee m in
     let x = w.nodes n in
-    let done = receives w.controller n x m (cause w.controller n x (Receive m)) refl (λ a same asks.
-    let stands : StandsIn w a.log = inr (Answers a, (number, is ∙ ap Some same), inr refl) in (
-      cut w.controller n x (letter_of (Answers a)),
-      subst (λ (k : Message). Local w.controller n x (Receive k) (cut w.controller n x (letter_of (Answers a)))) (sym same)
-          (laws.cut_is w.controller n x a asks (laws.logs count r w is_of x.log (inl (n, refl))) (laws.logs count r w is_of a.log stands)
-          (laws.kin count r w w is_of is_of x.log a.log (inl (n, refl)) stands)).0,
-    )) in
+    let done = receives w.controller n x m (cause w.controller n x (Receive m)) refl (of_run laws count r number n m is) in
     let two = laws.go count r w is_of m (number, is) in
     let step : NodeStep w n (Receive m) (answered w.messages done.effect) (moved w n done.effect) = record {
       counted = omega (arith, two.1, laws.keep count r w is_of);
@@ -360,8 +392,8 @@ goes_on laws count events (e ∷ more) outcomes r counted spared es os come =
       outcomes_are = rest.outcomes_are ∙ append_assoc outcomes (next.outcome ∷ []) rest.added;
     }
 
-pub plays_go_on : RunsAreSafe → NoDeliveryIsRefusedOddly → RunsKeepCount → MessagesGoToNodes → RunsKeepLogs → RunsKeepKin → CutIsTheStep → PlaysGoOn
-plays_go_on safe odd keeps go logs kin cut_is count events more outcomes played come =
-    let laws : Laws = record { go = go; keep = keeps; logs = logs; kin = kin; cut_is = cut_is } in
+pub plays_go_on : RunsAreSafe → NoDeliveryIsRefusedOddly → RunsKeepCount → MessagesGoToNodes → RunsKeepLogs → RunsKeepKin → ServeIsTheStep → TakeIsTheStep → CutIsTheStep → PlaysGoOn
+plays_go_on safe odd keeps go logs kin serve_is take_is cut_is count events more outcomes played come =
+    let laws : Laws = record { go = go; keep = keeps; logs = logs; kin = kin; serve_is = serve_is; take_is = take_is; cut_is = cut_is } in
     let rest = goes_on laws count events more outcomes played.run (keeps count played.run (last played.run) (last_is_of count played.run)) played.spared played.events_are played.outcomes_are come in
     (rest.added, record { run = rest.run; events_are = rest.events_are; outcomes_are = rest.outcomes_are; safe = safe count rest.run; fits = all_fit odd count rest.run; spared = rest.spared })

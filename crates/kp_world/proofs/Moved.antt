@@ -81,7 +81,7 @@ told_receipt log count (Err refusal) telling is named = subst (KeepsReceipt log)
 -- no answer is a refusal
 answers_never : (answer : Answer) (refusal : Refusal) → answer_reply answer ≡ Refused refusal → ⊥
 answers_never (replies.Adopted (roles.Leads epoch start)) refusal e = cc
-answers_never (replies.Adopted (roles.Follows leader epoch fetching)) refusal e = cc
+answers_never (replies.Adopted (roles.Follows leader epoch)) refusal e = cc
 answers_never (replies.Appended receipt) refusal e = by receipt.duplicate e
   where
     by : (b : Bool) → cond b (model.DuplicateOf receipt.base) (model.At receipt.base) ≡ Refused refusal → ⊥
@@ -98,10 +98,9 @@ answers_never (replies.Lines lines) refusal e = cc
 
 -- nor is what is told of a message that was sent
 messages_never : (said : Said) (refusal : Refusal) → said_reply said ≡ Refused refusal → ⊥
-messages_never (says.AsksFrom offset) refusal e = cc
-messages_never (says.AsksEpoch epoch) refusal e = cc
+messages_never (says.AsksFrom offset last) refusal e = cc
 messages_never (says.Batches count watermark) refusal e = cc
-messages_never (says.EpochEnd end) refusal e = cc
+messages_never (says.Diverging end) refusal e = cc
 
 pub same_refusal : (r s : Refusal) → Refused r ≡ Refused s → r ≡ s
 same_refusal r s e = cc

@@ -30,6 +30,6 @@ outcome_of (Err refusal) = record { reply = Refused refusal; number = None }
 abbrev pub IsTold : (count : ℕ) → Result Effect Refusal → Result EventAnswer Refusal → Type 0
 IsTold count (Ok (Answers answer)) told = told ≡ Ok (Answered answer)
 IsTold count (Ok (Sends body)) told =
-    (said : Said) × (told ≡ Ok (Sent count said)) × (said_reply said ≡ sent_reply (letter body).asking (letter body).answering)
+    (said : Said) × (told ≡ Ok (Sent count said)) × (said_reply said ≡ sent_reply (letter body))
 IsTold count (Ok (Changes made)) told = told ≡ Ok (Changed made)
 IsTold count (Err refusal) told = told ≡ Err refusal

@@ -30,8 +30,8 @@ Fits _ reply = Unit {0}
 abbrev pub AllFit : {count : ℕ} → Run count → Type 0
 AllFit r = AllByRecursion (λ m. Fits m.event m.outcome.reply) r.moments
 
--- the event takes no memory in this world: an ask, a batch that comes twice, or a request for the end of a leader epoch that
--- comes (own rule)
+-- the event takes no memory in this world: an ask, a batch that comes twice, a request that comes and is answered without
+-- batches, or such an answer that comes (own rule)
 abbrev pub SparesMemory : World → Event → Type 0
 SparesMemory w (Elect n) = ⊥
 SparesMemory w (Acts n act) = TakesNoMemory (w.nodes n) act

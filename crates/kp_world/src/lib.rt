@@ -31,5 +31,7 @@ pub fn plays_go_on()
     kp_model::messages_go_to_nodes();
     kp_model::runs_keep_logs();
     kp_model::runs_keep_kin();
+    kp_model::serve_is_the_step();
+    kp_model::take_is_the_step();
     kp_model::cut_is_the_step();
 }
