@@ -1,6 +1,9 @@
 pub mod Ties
 pub mod Adopts
 pub mod Judged
+pub mod Heard
+pub mod Serves
+pub mod Takes
 pub mod CutsUnder
 pub mod Callers
 pub mod Changing

@@ -41,9 +41,9 @@ pub kept_low : (m m' : NumberedNode) (act : Act) (reply : Reply) (published : �
 kept_low m m' act reply published keeps does low =
     let same = marks_stay (initial 0) m.number m.state act (becomes (initial 0) m'.state reply) keeps (does (initial 0)).0 in omega arith
 
-pub sent_low : (m m' : NumberedNode) (act : Act) (letter : Letter) (published : ℕ) → KeepsMark act → DoesSending m m' act letter → m.state.watermark ≤ published → m'.state.watermark ≤ published
-sent_low m m' act letter published keeps does low =
-    let same = marks_stay (initial 0) m.number m.state act (sends (initial 0) m'.state does.0.message (sent_reply letter.asking letter.answering)) keeps (does.0.local (initial 0)) in omega arith
+pub sent_low : (m m' : NumberedNode) (act : Act) (message : Message) (letter : Letter) (published : ℕ) → KeepsMark act → Sent m m' act message letter → m.state.watermark ≤ published → m'.state.watermark ≤ published
+sent_low m m' act message letter published keeps sent low =
+    let same = marks_stay (initial 0) m.number m.state act (sends (initial 0) m'.state message (sent_reply letter)) keeps (sent.0.1 (initial 0)) in omega arith
 
 -- a restart takes the watermark back to the checkpoint
 restart_by : (o : Option Refusal) (c : LeaderAndIsr) (n : ℕ) (x : Node) (e : Effect) → LocalBy o c n x Restart e → x.checkpoint ≤ x.watermark → e.node.watermark ≤ x.watermark
@@ -71,10 +71,10 @@ may_go p m m' act reply state number given does = record {
 pub may_send : (p : NodeView) (m m' : NumberedNode) (act : Act) (letter : Letter) → p.state ≡ m.state → p.number ≡ m.number → ((messages : List Message) → AreSent messages p.told → IsGiven messages act)
     → (does : DoesSending m m' act letter) → MayStep p act m'.state (does.0.message ∷ [])
 may_send p m m' act letter state number given does = record {
-  reply = sent_reply letter.asking letter.answering;
+  reply = sent_reply letter;
   given = given;
   local = λ n r shows.
-      subst (λ (z : ℕ × Node). Local (last r).controller z.0 z.1 act (sends (last r).controller m'.state does.0.message (sent_reply letter.asking letter.answering))) (λ j. (sym number j, sym state j)) (does.0.local (last r).controller);
+      subst (λ (z : ℕ × Node). Local (last r).controller z.0 z.1 act (sends (last r).controller m'.state does.0.message (sent_reply letter))) (λ j. (sym number j, sym state j)) (does.0.local (last r).controller);
 }
 
 -- a node got a message

@@ -3,11 +3,13 @@ use Rattle.std.specs.Prelude.{◌≡◌, ℕ, Result, Ok, Err}
 use Rattle.kp_types.specs.declared.refusal.Refusal.{Refusal}
 use Rattle.kp_model.specs.World.{LeaderAndIsr, Node, Message}
 use Rattle.kp_model.specs.Event.{Act, Reply, Refused, Stopped}
-use Rattle.kp_model.specs.Letter.{Letter, epoch_end_answer, letter_of}
+use Rattle.kp_model.specs.Letter.{Letter, fetch_answer, letter_of}
 use Rattle.kp_model.specs.Local.{Local, sends}
 use Rattle.kp_model.specs.Calls.{cut, sent_reply}
+use Rattle.kp_model.specs.declared.message.Answered.{Answered}
+use Rattle.kp_model.specs.declared.message.Answered.TheVariants.{Batches, Diverging}
 use Rattle.kp_model.specs.declared.message.MessageBody.{MessageBody}
-use Rattle.kp_model.specs.declared.message.MessageBody.TheVariants.{FetchAnswer, EpochAnswer}
+use Rattle.kp_model.specs.declared.message.MessageBody.TheVariants.{FetchRequest, FetchAnswer}
 use Rattle.kp_replica.specs.NumberedNode.{NumberedNode, DoesUnder, IsSameNode}
 use Rattle.kp_replica.specs.Replies.{cut_reply, taken_reply}
 use Rattle.kp_replica.specs.declared.cutting.CutBack.{CutBack}
@@ -20,19 +22,26 @@ stop_reply (Err refusal) = Refused refusal
 -- Node n, which was x and is y now, did this and sent this very message, which has this letter, whatever the record was.
 abbrev pub SentBy : ℕ → Node → Node → Act → Message → Letter → Type 0
 SentBy n x y act message letter =
-    (letter_of message ≡ letter)
-    × ((c : LeaderAndIsr) → Local c n x act (sends c y message (sent_reply letter.asking letter.answering)))
+    (letter_of message ≡ letter) × ((c : LeaderAndIsr) → Local c n x act (sends c y message (sent_reply letter)))
 
 abbrev pub Sent : NumberedNode → NumberedNode → Act → Message → Letter → Type 0
 Sent old new act message letter = SentBy old.number old.state new.state act message letter × IsSameNode old new
 
--- Under this record the node took in the answer that came: batches, or where its log was to be cut. A request is never taken in.
-abbrev pub WasTaken : MessageBody → LeaderAndIsr → NumberedNode → NumberedNode → Act → Type 0
-WasTaken (FetchAnswer a) c old new act = (taken : Taken) × DoesUnder c old new act (taken_reply (Ok taken))
-WasTaken (EpochAnswer a) c old new act = (back : CutBack) × DoesUnder c old new act (cut_reply (Ok back))
-WasTaken _ c old new act = ⊥
+-- Under this record the node took in what was answered: batches, or where its log was to be cut.
+abbrev pub WasFollowed : Answered → LeaderAndIsr → NumberedNode → NumberedNode → Act → Type 0
+WasFollowed (Batches fetched) c old new act = (taken : Taken) × DoesUnder c old new act (taken_reply (Ok taken))
+WasFollowed (Diverging end) c old new act = (back : CutBack) × DoesUnder c old new act (cut_reply (Ok back))
 
--- what an epoch answer leaves under this record, by the place where it cuts (KIP-101, KIP-279)
+-- a request is never taken in
+abbrev pub WasTaken : MessageBody → LeaderAndIsr → NumberedNode → NumberedNode → Act → Type 0
+WasTaken (FetchAnswer a) c old new act = WasFollowed a.answered c old new act
+WasTaken (FetchRequest r) c old new act = ⊥
+
+-- what a diverging answer with this letter leaves under this record, by the place where it cuts (KIP-101, KIP-279)
+abbrev pub CutsBack : Answered → Letter → LeaderAndIsr → NumberedNode → NumberedNode → Type 0
+CutsBack (Diverging end) letter c old new = new.state ≡ (cut c old.number old.state letter).node
+CutsBack (Batches fetched) letter c old new = Unit {0}
+
 abbrev pub CutsTo : MessageBody → LeaderAndIsr → NumberedNode → NumberedNode → Type 0
-CutsTo (EpochAnswer a) c old new = new.state ≡ (cut c old.number old.state (epoch_end_answer a)).node
-CutsTo _ c old new = Unit {0}
+CutsTo (FetchAnswer a) c old new = CutsBack a.answered (fetch_answer a) c old new
+CutsTo (FetchRequest r) c old new = Unit {0}

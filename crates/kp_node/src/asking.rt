@@ -16,9 +16,10 @@ use kp_types::Refusal;
 use std::marker::Brand;
 
 impl<B: BoardName> Node<B> {
-    /// A request to the leader that the node follows: for batches from its log's end on, or for the end of its last leader epoch.
+    /// A request to the leader that the node follows, for what comes after its log, by the log's end and its last leader epoch.
     /// The message's pass shows the very message that was sent. F28 where the node is down, F15 where it follows none; neither
-    /// changes anything. O(1), and no memory. (Kafka protocol guide, 'Fetch'; KIP-101.)
+    /// changes anything. O(1), and no memory. (Kafka protocol guide, 'Fetch'; KIP-320; KIP-595's truncation on fetch is the idea's
+    /// source, the profile is our own.)
     pub fn ask(&mut self) -> Result<Message<B>, Refusal>
         ensures sent { IfOk result (λ m. Sent self.old.node self.new.node Ask m.pass (letter m.body)) }
         ensures refused { IfErr result (λ refusal. Does self.old.node self.new.node Ask (Refused refusal)) }

@@ -1,23 +1,26 @@
 //! What a node does with a message that comes.
 
-ghost use Rattle.std.specs.Prelude.{◌≡◌, ◌≤◌, max, IfOk, IfErr, IfSome, IfNone};
+ghost use Rattle.std.specs.Prelude.{◌≡◌, ◌≤◌, max, Option, IfOk, IfErr, IfSome, IfNone};
+ghost use Rattle.kp_model.specs.World.{LeaderAndIsr as ModelRecord};
 ghost use Rattle.kp_model.specs.Event.{Receive, Refused};
-ghost use Rattle.kp_model.specs.Letter.{letter, letter_of, fetch_request, epoch_request, fetch_answer, epoch_end_answer};
-ghost use Rattle.kp_model.specs.Calls.{cut};
+ghost use Rattle.kp_model.specs.Letter.{letter, letter_of, fetch_request, fetch_answer};
+ghost use Rattle.kp_model.specs.declared.message.Answered.TheVariants.{Batches, Diverging};
+ghost use Rattle.kp_model.specs.declared.message.EpochEnd.{EpochEnd};
+ghost use Rattle.kp_model.specs.declared.message.Fetched.{Fetched};
 ghost use Rattle.kp_replica.specs.NumberedNode.{Does, DoesUnder};
-ghost use Rattle.kp_replica.specs.Replies.{taken_reply, cut_reply};
-ghost use Rattle.kp_node.specs.Calls.{CutsTo, Sent, WasTaken};
+ghost use Rattle.kp_node.specs.Calls.{CutsBack, CutsTo, Sent, WasFollowed, WasTaken};
 ghost use Rattle.kp_node.specs.Seated.{SeatedNode};
 
 use crate::node::Node;
 use kp_board::{BoardName, Message, MessagePass};
-use kp_model::{EpochAnswer, EpochRequest, FetchAnswer, FetchRequest, MessageBody};
-use kp_replica::{Broker, CutBack, Taken};
+use kp_control::LeaderAndIsr;
+use kp_model::{Answered, FetchAnswer, FetchRequest, MessageBody};
+use kp_replica::{Broker, Followed};
 use kp_types::Refusal;
 use std::marker::Brand;
 
 impl<B: BoardName> Node<B> {
-    // A fetch request comes.
+    // A request comes: batches answer it, or where the logs diverge.
     fn serve_fetch(
         &mut self,
         request: FetchRequest,
@@ -50,43 +53,13 @@ impl<B: BoardName> Node<B> {
         }
     }
 
-    // An epoch request comes.
-    fn serve_epoch(
-        &mut self,
-        request: EpochRequest,
-        asked: MessagePass<B>,
-    ) -> Result<Message<B>, Refusal>
-        requires { letter_of asked ≡ epoch_request request }
-        ensures served { IfOk result (λ m. Sent self.old.node self.new.node (Receive asked) m.pass (letter m.body)) }
-        ensures refused { IfErr result (λ refusal. Does self.old.node self.new.node (Receive asked) (Refused refusal)) }
-        ensures pass { self.new.pass ≡ record self.old.pass { state = self.new.node.state; told = self.new.pass.told } }
-        ensures mark { self.new.node.state.watermark ≤ self.new.pass.published }
-    {
-        self.board.receive(&mut self.pass, asked);
-        match self.broker.serve_epoch(&request) {
-            Ok(answer) => {
-                let body = MessageBody::EpochAnswer(answer);
-                let pass = self
-                    .board
-                    .load_end_sending::<Brand, Broker, MessageBody>(
-                        &mut self.pass,
-                        &self.broker,
-                        &body,
-                    );
-                Ok(Message { body, pass })
-            }
-            Err(refusal) => {
-                self.board
-                    .load_end::<Brand, Broker>(&mut self.pass, &self.broker);
-                Err(refusal)
-            }
-        }
-    }
-
-    // A fetch answer comes. Where memory is refused the node is down.
-    fn take(&mut self, answer: FetchAnswer, sent: MessagePass<B>) -> Result<Taken, Refusal>
-        requires { letter_of sent ≡ fetch_answer answer }
-        ensures event { Does self.old.node self.new.node (Receive sent) (taken_reply result) }
+    // Batches come, which look at no record. Where memory is refused the node is down.
+    fn take(&mut self, answer: &FetchAnswer, sent: MessagePass<B>) -> Result<Followed, Refusal>
+        requires letter { letter_of sent ≡ fetch_answer answer.now }
+        requires batches { (fetched : Fetched) × (answer.now.answered ≡ Batches fetched) }
+        ensures taken { IfOk result (λ _. (c : ModelRecord)
+            → WasFollowed answer.now.answered c self.old.node self.new.node (Receive sent)) }
+        ensures refused { IfErr result (λ refusal. Does self.old.node self.new.node (Receive sent) (Refused refusal)) }
         ensures pass { self.new.pass ≡ record self.old.pass {
           state = self.new.node.state;
           published = max self.old.pass.published self.new.node.state.watermark;
@@ -94,21 +67,25 @@ impl<B: BoardName> Node<B> {
         } }
     {
         self.board.receive(&mut self.pass, sent);
-        let taken = self.broker.take_fetch(&answer);
+        let unread = LeaderAndIsr::initial(0);
+        let followed = self.broker.take_fetch(&unread, answer);
         let end = self.broker.log().end_offset();
         self.board
             .store_end::<Brand, Broker>(&mut self.pass, end, &self.broker);
         let watermark = self.broker.watermark();
         self.board.publish_mark::<Brand>(&mut self.pass, watermark);
-        taken
+        followed
     }
 
-    // An epoch answer comes: the log is cut under the record that the node finds, and the end word follows.
-    fn cut(&mut self, answer: EpochAnswer, sent: MessagePass<B>) -> Result<CutBack, Refusal>
-        requires { letter_of sent ≡ epoch_end_answer answer }
-        ensures event { DoesUnder self.new.pass.shown self.old.node self.new.node (Receive sent) (cut_reply result) }
-        ensures place { self.new.node.state
-            ≡ (cut self.new.pass.shown self.old.node.number self.old.node.state (epoch_end_answer answer)).node }
+    // A diverging answer comes: the log is cut under the record that the node finds, and the end word follows.
+    fn cut(&mut self, answer: &FetchAnswer, sent: MessagePass<B>) -> Result<Followed, Refusal>
+        requires letter { letter_of sent ≡ fetch_answer answer.now }
+        requires diverging { (end : Option EpochEnd) × (answer.now.answered ≡ Diverging end) }
+        ensures taken { IfOk result (λ _.
+            WasFollowed answer.now.answered self.new.pass.shown self.old.node self.new.node (Receive sent)) }
+        ensures refused { IfErr result (λ refusal.
+            DoesUnder self.new.pass.shown self.old.node self.new.node (Receive sent) (Refused refusal)) }
+        ensures place { CutsBack answer.now.answered (fetch_answer answer.now) self.new.pass.shown self.old.node self.new.node }
         ensures later { self.old.pass.shown.version ≤ self.new.pass.shown.version }
         ensures pass { self.new.pass ≡ record self.old.pass {
           state = self.new.node.state;
@@ -120,18 +97,41 @@ impl<B: BoardName> Node<B> {
         self.board.receive(&mut self.pass, sent);
         let record = self
             .board
-            .step_under_record::<Brand, EpochAnswer>(&mut self.pass, &answer);
-        let cut = self.broker.take_epoch(&answer, &record);
+            .step_under_record::<Brand, FetchAnswer>(&mut self.pass, answer);
+        let followed = self.broker.take_fetch(&record, answer);
         let end = self.broker.log().end_offset();
         self.board.publish_end(&mut self.pass, end);
-        cut
+        followed
     }
 
-    /// A message comes to the node. A leader answers a request: the answer's pass shows the very message that was sent. A follower
-    /// takes in an answer, and its mark word follows a watermark that came with it; an epoch answer is taken in under the
-    /// controller's record that a load of word 0 finds. F28 where the node is down; for what else is refused, and for the cost, see
-    /// `serve_fetch`, `serve_epoch`, `take_fetch` and `take_epoch` of `Replica`. F33 at a fetch answer leaves the node down;
-    /// every other refusal leaves the replica as it was. (Kafka protocol guide, 'Fetch'; KIP-101, KIP-279, KIP-320.)
+    // A leader's answer comes.
+    fn follow(&mut self, answer: &FetchAnswer, sent: MessagePass<B>) -> Result<Followed, Refusal>
+        requires { letter_of sent ≡ fetch_answer answer.now }
+        ensures taken { IfOk result (λ _.
+            WasFollowed answer.now.answered self.new.pass.shown self.old.node self.new.node (Receive sent)) }
+        ensures refused { IfErr result (λ refusal.
+            DoesUnder self.new.pass.shown self.old.node self.new.node (Receive sent) (Refused refusal)) }
+        ensures place { CutsBack answer.now.answered (fetch_answer answer.now) self.new.pass.shown self.old.node self.new.node }
+        ensures later { self.old.pass.shown.version ≤ self.new.pass.shown.version }
+        ensures pass { self.new.pass ≡ record self.old.pass {
+          state = self.new.node.state;
+          shown = self.new.pass.shown;
+          published = max self.old.pass.published self.new.node.state.watermark;
+          told = self.new.pass.told;
+        } }
+    {
+        match answer.answered {
+            Answered::Batches(_) => self.take(answer, sent),
+            Answered::Diverging(_) => self.cut(answer, sent),
+        }
+    }
+
+    /// A message comes to the node. A leader answers a request, with batches or, where its log hasn't all of the asker's, with
+    /// where they diverge: the answer's pass shows the very message that was sent. A follower takes in an answer: batches, whose
+    /// watermark its mark word follows, or a cut of its log, under the controller's record that a load of word 0 finds. F28 where
+    /// the node is down; for what else is refused, and for the cost, see `serve_fetch` and `take_fetch` of `Replica`. F33 at
+    /// batches leaves the node down; every other refusal leaves the replica as it was. (Kafka protocol guide, 'Fetch'; KIP-101,
+    /// KIP-279, KIP-320; KIP-595's truncation on fetch is the idea's source, the profile is our own.)
     pub fn step(&mut self, message: Message<B>) -> Result<Option<Message<B>>, Refusal>
         ensures served { IfOk result (λ o. IfSome o (λ m.
             Sent self.old.node self.new.node (Receive message.pass) m.pass (letter m.body))) }
@@ -154,16 +154,8 @@ impl<B: BoardName> Node<B> {
                 Ok(answer) => Ok(Some(answer)),
                 Err(refusal) => Err(refusal),
             },
-            MessageBody::EpochRequest(request) => match self.serve_epoch(request, pass) {
-                Ok(answer) => Ok(Some(answer)),
-                Err(refusal) => Err(refusal),
-            },
-            MessageBody::FetchAnswer(answer) => match self.take(answer, pass) {
-                Ok(_taken) => Ok(None),
-                Err(refusal) => Err(refusal),
-            },
-            MessageBody::EpochAnswer(answer) => match self.cut(answer, pass) {
-                Ok(_cut) => Ok(None),
+            MessageBody::FetchAnswer(answer) => match self.follow(&answer, pass) {
+                Ok(_followed) => Ok(None),
                 Err(refusal) => Err(refusal),
             },
         }

@@ -1,14 +1,15 @@
 -- What a leader answers to a request, and the step that it makes.
-use Rattle.std.proofs.Common.{List, refl, sym, subst}
+use Rattle.std.proofs.Common.{refl, subst}
 use Rattle.kp_model.specs.Event.{Receive, Refused}
 use Rattle.kp_model.specs.Letter.{fetch_answer, fetch_request}
-use Rattle.kp_model.specs.World.{Message, initial}
+use Rattle.kp_model.specs.World.{initial}
 use Rattle.kp_replica.specs.Broker.{node_at}
 use Rattle.kp_replica.specs.NumberedNode.{Does}
-use Rattle.kp_node.specs.Calls.{Sent, SentBy}
+use Rattle.kp_node.specs.Calls.{Sent}
 use Rattle.kp_node.specs.Seated.{SeatedNode}
-use Rattle.kp_node.proofs.CutsUnder.{asks_keep, first_told}
-use Rattle.kp_node.proofs.Ties.{Tied, gives, kept_low, may_go, may_send, received, sent_by, sent_low, tied_sent, was_sent, was_told}
+use Rattle.kp_node.proofs.Heard.{asks_keep}
+use Rattle.kp_node.proofs.Serves.{answer_to, answers_it, serve_may, was_served}
+use Rattle.kp_node.proofs.Ties.{Tied, gives, kept_low, may_go, received, sent_low, tied_sent, was_told}
 use Rattle.kp_node.proofs.node.Node.serve_fetch.Goals as goal
 
 pub load_end_sending-pass-requires-clause-may : goal.load_end_sending-pass-requires-clause-may
@@ -18,14 +19,13 @@ load_end_sending-pass-requires-clause-may g c =
     let m = node_at c.self.inside.broker in
     let asked = c.args.asked in
     let tied : Tied g.B.BoardName.table.words q m = received g.B.BoardName.table.words p q m asked c.self.invariant c.receive.ensures in
-    let new = node_at c.serve_fetch.new.self in
     let told = was_told p q asked c.receive.ensures in
-    let does = c.in-Ok.ensures.served asked c.requires in
+    let new = node_at c.serve_fetch.new.self in
     let letter = fetch_answer c.in-Ok.answer in (
       Receive asked,
-      does.0.message,
-      subst (λ (ms : List Message). SentBy q.number q.state new.state (Receive (first_told ms)) does.0.message letter) (sym told) (sent_by q m new (Receive asked) letter tied.0 tied.1 does),
-      may_send q m new (Receive asked) letter tied.0 tied.1 (gives p q asked c.receive.ensures) does,
+      answer_to q.state asked,
+      answers_it q m new asked c.args.request letter tied.0 tied.1 told c.requires c.in-Ok.ensures.served,
+      serve_may q m new asked c.args.request letter tied.0 tied.1 told c.requires c.in-Ok.ensures.served,
     )
 
 pub returns-in-Ok-clause-served : goal.returns-in-Ok-clause-served
@@ -35,13 +35,62 @@ returns-in-Ok-clause-served g c =
     let m = node_at c.self.inside.broker in
     let asked = c.args.asked in
     let tied : Tied g.B.BoardName.table.words q m = received g.B.BoardName.table.words p q m asked c.self.invariant c.receive.ensures in
-    let new = node_at c.serve_fetch.new.self in
     let told = was_told p q asked c.receive.ensures in
-    let does = c.in-Ok.ensures.served asked c.requires in
+    let new = node_at c.serve_fetch.new.self in
     let letter = fetch_answer c.in-Ok.answer in
-    let message = c.load_end_sending-pass.result in
-    let fits = subst (λ (ms : List Message). SentBy q.number q.state new.state (Receive (first_told ms)) message letter) told c.load_end_sending-pass.ensures.fits in
-    subst (λ (s : SeatedNode). Sent s.node new (Receive asked) message letter) c.self.view_is (was_sent q m new (Receive asked) message letter tied.0 tied.1 does.1 fits)
+    let step = c.load_end_sending-pass in
+    let sent : Sent m new (Receive asked) step.result letter =
+    was_served q m new asked c.args.request letter tied.0 tied.1 told c.requires c.in-Ok.ensures.served step.ensures.run step.result step.ensures.fits in
+    subst (λ (s : SeatedNode). Sent s.node new (Receive asked) step.result letter) c.self.view_is sent
+
+pub invariant_of-result : goal.invariant_of-result
+invariant_of-result g c =
+    let p = c.self.inside.pass in
+    let q = c.receive.new.pass in
+    let m = node_at c.self.inside.broker in
+    let asked = c.args.asked in
+    let tied : Tied g.B.BoardName.table.words q m = received g.B.BoardName.table.words p q m asked c.self.invariant c.receive.ensures in
+    let told = was_told p q asked c.receive.ensures in
+    let new = node_at c.serve_fetch.new.self in
+    let letter = fetch_answer c.in-Ok.answer in
+    let step = c.load_end_sending-pass in
+    let sent : Sent m new (Receive asked) step.result letter =
+    was_served q m new asked c.args.request letter tied.0 tied.1 told c.requires c.in-Ok.ensures.served step.ensures.run step.result step.ensures.fits in
+    record { tied = sent.0.0 }
+
+pub invariant_of-self : goal.invariant_of-self
+invariant_of-self g c =
+    let p = c.self.inside.pass in
+    let q = c.receive.new.pass in
+    let m = node_at c.self.inside.broker in
+    let asked = c.args.asked in
+    let tied : Tied g.B.BoardName.table.words q m = received g.B.BoardName.table.words p q m asked c.self.invariant c.receive.ensures in
+    let told = was_told p q asked c.receive.ensures in
+    let new = node_at c.serve_fetch.new.self in
+    let letter = fetch_answer c.in-Ok.answer in
+    let step = c.load_end_sending-pass in
+    let sent : Sent m new (Receive asked) step.result letter =
+    was_served q m new asked c.args.request letter tied.0 tied.1 told c.requires c.in-Ok.ensures.served step.ensures.run step.result step.ensures.fits in
+    let after : Tied g.B.BoardName.table.words step.new.pass new = tied_sent g.B.BoardName.table.words q step.new.pass m new _ tied sent.1.0
+    (sent_low m new (Receive asked) step.result letter q.published (asks_keep asked (fetch_request c.args.request) refl c.requires) sent tied.2) step.ensures.pass in
+    after
+
+pub returns-in-Ok-clause-mark : goal.returns-in-Ok-clause-mark
+returns-in-Ok-clause-mark g c =
+    let p = c.self.inside.pass in
+    let q = c.receive.new.pass in
+    let m = node_at c.self.inside.broker in
+    let asked = c.args.asked in
+    let tied : Tied g.B.BoardName.table.words q m = received g.B.BoardName.table.words p q m asked c.self.invariant c.receive.ensures in
+    let told = was_told p q asked c.receive.ensures in
+    let new = node_at c.serve_fetch.new.self in
+    let letter = fetch_answer c.in-Ok.answer in
+    let step = c.load_end_sending-pass in
+    let sent : Sent m new (Receive asked) step.result letter =
+    was_served q m new asked c.args.request letter tied.0 tied.1 told c.requires c.in-Ok.ensures.served step.ensures.run step.result step.ensures.fits in
+    let after : Tied g.B.BoardName.table.words step.new.pass new = tied_sent g.B.BoardName.table.words q step.new.pass m new _ tied sent.1.0
+    (sent_low m new (Receive asked) step.result letter q.published (asks_keep asked (fetch_request c.args.request) refl c.requires) sent tied.2) step.ensures.pass in
+    after.2
 
 pub load_end-requires-clause-may : goal.load_end-requires-clause-may
 load_end-requires-clause-may g c =
@@ -58,18 +107,6 @@ pub returns-in-Err-clause-refused : goal.returns-in-Err-clause-refused
 returns-in-Err-clause-refused g c =
     subst (λ (s : SeatedNode). Does s.node (node_at c.serve_fetch.new.self) (Receive c.args.asked) (Refused c.in-Err.refusal)) c.self.view_is (c.in-Err.ensures.refused c.args.asked c.requires)
 
-pub invariant_of-self : goal.invariant_of-self
-invariant_of-self g c =
-    let p = c.self.inside.pass in
-    let q = c.receive.new.pass in
-    let m = node_at c.self.inside.broker in
-    let asked = c.args.asked in
-    let tied : Tied g.B.BoardName.table.words q m = received g.B.BoardName.table.words p q m asked c.self.invariant c.receive.ensures in
-    let new = node_at c.serve_fetch.new.self in
-    let does = c.in-Ok.ensures.served asked c.requires in
-    tied_sent g.B.BoardName.table.words q c.load_end_sending-pass.new.pass m new _ tied does.1.0
-    (sent_low m new (Receive asked) (fetch_answer c.in-Ok.answer) q.published (asks_keep asked (fetch_request c.args.request) refl c.requires) does tied.2) c.load_end_sending-pass.ensures.pass
-
 pub invariant_of-self-in-Err : goal.invariant_of-self-in-Err
 invariant_of-self-in-Err g c =
     let p = c.self.inside.pass in
@@ -79,21 +116,9 @@ invariant_of-self-in-Err g c =
     let tied : Tied g.B.BoardName.table.words q m = received g.B.BoardName.table.words p q m asked c.self.invariant c.receive.ensures in
     let new = node_at c.serve_fetch.new.self in
     let does = c.in-Err.ensures.refused asked c.requires in
-    tied_sent g.B.BoardName.table.words q c.load_end.new.pass m new _ tied (does (initial 0)).1.0
-    (kept_low m new (Receive asked) (Refused c.in-Err.refusal) q.published (asks_keep asked (fetch_request c.args.request) refl c.requires) does tied.2) c.load_end.ensures
-
-pub returns-in-Ok-clause-mark : goal.returns-in-Ok-clause-mark
-returns-in-Ok-clause-mark g c =
-    let p = c.self.inside.pass in
-    let q = c.receive.new.pass in
-    let m = node_at c.self.inside.broker in
-    let asked = c.args.asked in
-    let tied : Tied g.B.BoardName.table.words q m = received g.B.BoardName.table.words p q m asked c.self.invariant c.receive.ensures in
-    let new = node_at c.serve_fetch.new.self in
-    let does = c.in-Ok.ensures.served asked c.requires in
-    let after : Tied g.B.BoardName.table.words c.load_end_sending-pass.new.pass new = tied_sent g.B.BoardName.table.words q c.load_end_sending-pass.new.pass m new _ tied does.1.0
-    (sent_low m new (Receive asked) (fetch_answer c.in-Ok.answer) q.published (asks_keep asked (fetch_request c.args.request) refl c.requires) does tied.2) c.load_end_sending-pass.ensures.pass in
-    after.2
+    let after : Tied g.B.BoardName.table.words c.load_end.new.pass new = tied_sent g.B.BoardName.table.words q c.load_end.new.pass m new _ tied (does (initial 0)).1.0
+    (kept_low m new (Receive asked) (Refused c.in-Err.refusal) q.published (asks_keep asked (fetch_request c.args.request) refl c.requires) does tied.2) c.load_end.ensures in
+    after
 
 pub returns-in-Err-clause-mark : goal.returns-in-Err-clause-mark
 returns-in-Err-clause-mark g c =

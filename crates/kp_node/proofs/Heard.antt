@@ -1,0 +1,93 @@
+-- What a run knows of a message that comes to one of its nodes: the logs in it are logs, and kin.
+use Rattle.std.proofs.Common.{◌≡◌, ℕ, true, false, List, [], ◌∷◌, Option, None, map, refl, sym, ap, subst, ◌∙◌, inl, inr}
+use Rattle.kp_model.specs.declared.message.Answered.TheVariants as answers
+use Rattle.kp_model.specs.declared.message.EpochEnd.{EpochEnd}
+use Rattle.kp_model.specs.declared.message.FetchAnswer.{FetchAnswer}
+use Rattle.kp_model.specs.declared.message.Fetched.{Fetched}
+use Rattle.kp_model.specs.Log.{Batch, IsLog, IsKin, logged}
+use Rattle.kp_model.specs.World.{Node, Request, Answer, Message, Asks, Answers, IsSent}
+use Rattle.kp_model.specs.Event.{Receive}
+use Rattle.kp_model.specs.Letter.{Letter, answering, answering_of, letter_of, fetch_answer}
+use Rattle.kp_model.specs.Local.{is_covered}
+use Rattle.kp_model.specs.Laws.{KeepsMark, StandsIn}
+use Rattle.kp_model.specs.Run.{Run, last}
+use Rattle.kp_model.proofs.Letters.{hands, tells}
+use Rattle.kp_model.proofs.MessageLogs.{runs_keep_logs, runs_keep_kin}
+use Rattle.kp_model.proofs.RunLaws.{last_is_of}
+use Rattle.kp_replica.specs.Cutting.{told_end}
+use Rattle.kp_board.specs.Views.{no_message}
+use Rattle.kp_node.proofs.Judged.{none_some, some_is}
+
+-- the message that a pass was told of last
+abbrev pub first_told : List Message → Message
+first_told [] = no_message
+first_told (m ∷ ms) = m
+
+-- ---- which message has a letter
+
+pub record IsRequest (m : Message) : Type 0 where
+  pub request : Request
+  pub is : m ≡ Asks request
+
+pub request_in : (m : Message) (l : Letter) → l.answering ≡ None → letter_of m ≡ l → IsRequest m
+request_in (Asks r) l none e = record { request = r; is = refl }
+request_in (Answers a) l none e = absurd (none_some (answering_of a) (sym (ap (λ (k : Letter). k.answering) e ∙ none)))
+
+pub record IsAnswer (m : Message) : Type 0 where
+  pub answer : Answer
+  pub is : m ≡ Answers answer
+
+pub answer_in : (m : Message) (a : FetchAnswer) → letter_of m ≡ fetch_answer a → IsAnswer m
+answer_in (Asks r) a e = absurd (none_some (answering a.answered) (ap (λ (k : Letter). k.answering) e))
+answer_in (Answers b) a e = record { answer = b; is = refl }
+
+answers_so : (b : Answer) (a : FetchAnswer) → letter_of (Answers b) ≡ fetch_answer a → answering_of b ≡ answering a.answered
+answers_so b a e = some_is (answering_of b) (answering a.answered) (ap (λ (k : Letter). k.answering) e)
+
+pub has_batches : (b : Answer) (a : FetchAnswer) (f : Fetched) → letter_of (Answers b) ≡ fetch_answer a → a.answered ≡ answers.Batches f → is_covered b.log b.request ≡ true
+has_batches b a f e is = (hands b (map logged f.batches.items) f.watermark (answers_so b a e ∙ ap answering is)).covered
+
+pub has_none : (b : Answer) (a : FetchAnswer) (end : Option EpochEnd) → letter_of (Answers b) ≡ fetch_answer a → a.answered ≡ answers.Diverging end → is_covered b.log b.request ≡ false
+has_none b a end e is = (tells b (told_end end) (answers_so b a e ∙ ap answering is)).covered
+
+-- a request keeps the watermark
+pub asks_keep : (m : Message) (l : Letter) → l.answering ≡ None → letter_of m ≡ l → KeepsMark (Receive m)
+asks_keep m l none e = let q = request_in m l none e in subst (λ (z : Message). KeepsMark (Receive z)) (sym q.is) tt
+
+-- ---- the logs of a request that comes to a node which is x, and of an answer
+
+pub record AskedWell (x : Node) (r : Request) : Type 0 where
+  pub log : IsLog r.log
+  pub kin : IsKin r.log x.log
+
+pub record AnsweredWell (x : Node) (a : Answer) : Type 0 where
+  pub log : IsLog a.log
+  pub asked : IsLog a.request.log
+  pub own : IsKin a.request.log x.log
+  pub kin : IsKin a.request.log a.log
+
+module _ (n : ℕ) (r : Run n) (k : ℕ) (x : Node) (at : (last r).nodes k ≡ x) where
+  here : StandsIn (last r) x.log
+  here = inl (k, sym (ap (λ (y : Node). y.log) at))
+
+  pub own_log : IsLog x.log
+  own_log = runs_keep_logs n r (last r) (last_is_of n r) x.log here
+
+  are_kin : (one other : List Batch) → StandsIn (last r) one → StandsIn (last r) other → IsKin one other
+  are_kin = runs_keep_kin n r (last r) (last r) (last_is_of n r) (last_is_of n r)
+
+  pub asked_well : (q : Request) → IsSent (last r).messages (Asks q) → AskedWell x q
+  asked_well q sent =
+      let there : StandsIn (last r) q.log = inr (Asks q, sent, refl) in
+      record { log = runs_keep_logs n r (last r) (last_is_of n r) q.log there; kin = are_kin q.log x.log there here }
+
+  pub answered_well : (a : Answer) → IsSent (last r).messages (Answers a) → AnsweredWell x a
+  answered_well a sent =
+      let there : StandsIn (last r) a.log = inr (Answers a, sent, inr refl) in
+      let asked : StandsIn (last r) a.request.log = inr (Answers a, sent, inl refl) in
+      record {
+        log = runs_keep_logs n r (last r) (last_is_of n r) a.log there;
+        asked = runs_keep_logs n r (last r) (last_is_of n r) a.request.log asked;
+        own = are_kin a.request.log x.log asked here;
+        kin = are_kin a.request.log a.log asked there;
+      }
