@@ -18,12 +18,12 @@ use Rattle.kp_world.specs.declared.event.EventAnswer.TheVariants.{Changed, Sent,
 use Rattle.kp_script.specs.Transcript.{is_refusal, refusals_in}
 
 message_told : (said : Said) → is_refusal (said_reply said) ≡ false
-message_told (AsksFrom offset) = refl
+message_told (AsksFrom offset last) = refl
 message_told _ = refl
 
 answer_told : (answer : Answer) → is_refusal (answer_reply answer) ≡ false
 answer_told (Adopted (Leads epoch start)) = refl
-answer_told (Adopted (Follows leader epoch fetching)) = refl
+answer_told (Adopted (Follows leader epoch)) = refl
 answer_told (Appended receipt) =
     cond_both receipt.duplicate (DuplicateOf receipt.base) (At receipt.base) (λ (r : Reply). is_refusal r ≡ false) (λ e. refl) (λ e. refl)
 answer_told _ = refl

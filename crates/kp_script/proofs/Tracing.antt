@@ -169,17 +169,26 @@ pub leads_pushed : (text mid now : List ℕ) (epoch start e : ℕ) → e ≡ epo
 leads_pushed text mid now epoch start e same p q =
     grown mid now text (codes "leads epoch " ++ decimal epoch) (codes " from " ++ decimal start) _ q (p ∙ ap (λ (n : ℕ). text ++ (codes "leads epoch " ++ decimal n)) same) refl
 
-pub follows_pushed : (text a b now : List ℕ) (leader epoch l e : ℕ) → l ≡ leader → e ≡ epoch → a ≡ text ++ (codes "follows " ++ decimal l) → b ≡ a ++ (codes " epoch " ++ decimal e)
-    → now ≡ b ++ codes " reconciling" → now ≡ text ++ spaced (codes "follows" ∷ decimal leader ∷ codes "epoch" ∷ decimal epoch ∷ codes "reconciling" ∷ [])
-follows_pushed text a b now leader epoch l e same is p q r =
-    let first : a ≡ text ++ (codes "follows " ++ decimal leader) = p ∙ ap (λ (n : ℕ). text ++ (codes "follows " ++ decimal n)) same in
-    let second : b ≡ text ++ ((codes "follows " ++ decimal leader) ++ (codes " epoch " ++ decimal epoch)) =
-    grown a b text (codes "follows " ++ decimal leader) (codes " epoch " ++ decimal epoch) _ (q ∙ ap (λ (n : ℕ). a ++ (codes " epoch " ++ decimal n)) is) first refl in
-    grown b now text ((codes "follows " ++ decimal leader) ++ (codes " epoch " ++ decimal epoch)) (codes " reconciling") _ r second
-    (sym (append_assoc (codes "follows " ++ decimal leader) (codes " epoch " ++ decimal epoch) (codes " reconciling")))
+pub follows_pushed : (text mid now : List ℕ) (leader epoch l e : ℕ) → l ≡ leader → e ≡ epoch → mid ≡ text ++ (codes "follows " ++ decimal l) → now ≡ mid ++ (codes " epoch " ++ decimal e)
+    → now ≡ text ++ spaced (codes "follows" ∷ decimal leader ∷ codes "epoch" ∷ decimal epoch ∷ [])
+follows_pushed text mid now leader epoch l e same is p q =
+    grown mid now text (codes "follows " ++ decimal leader) (codes " epoch " ++ decimal epoch) _ (q ∙ ap (λ (n : ℕ). mid ++ (codes " epoch " ++ decimal n)) is)
+    (p ∙ ap (λ (n : ℕ). text ++ (codes "follows " ++ decimal n)) same) refl
 
--- what a reconciling follower asks, word by word
-pub asks_pushed : (text mid now : List ℕ) (number epoch e : ℕ) → e ≡ epoch → mid ≡ text ++ (codes "sent " ++ decimal number) → now ≡ mid ++ (codes " asks epoch " ++ decimal e)
-    → now ≡ text ++ spaced (codes "sent" ∷ decimal number ∷ codes "asks epoch" ∷ decimal epoch ∷ [])
-asks_pushed text mid now number epoch e same p q =
-    grown mid now text (codes "sent " ++ decimal number) (codes " asks epoch " ++ decimal epoch) _ (q ∙ ap (λ (n : ℕ). mid ++ (codes " asks epoch " ++ decimal n)) same) p refl
+-- what a follower asks, word by word
+pub asks_pushed : (text a b c now : List ℕ) (number offset : ℕ) (last : List ℕ) → a ≡ text ++ (codes "sent " ++ decimal number) → b ≡ a ++ (codes " asks from " ++ decimal offset) → c ≡ b ++ 32 ∷ []
+    → now ≡ c ++ last → now ≡ text ++ spaced (codes "sent" ∷ decimal number ∷ codes "asks from" ∷ decimal offset ∷ last ∷ [])
+asks_pushed text a b c now number offset last p q r s =
+    s ∙ ap (λ (t : List ℕ). t ++ last) (r ∙ ap (λ (t : List ℕ). t ++ 32 ∷ []) (q ∙ ap (λ (t : List ℕ). t ++ (codes " asks from " ++ decimal offset)) p))
+    ∙ simp append_assoc
+
+-- what a leader says whose log has parted from the follower's
+pub diverges_pushed : (text a b now : List ℕ) (number : ℕ) (end : List ℕ) → a ≡ text ++ (codes "sent " ++ decimal number) → b ≡ a ++ codes " diverges " → now ≡ b ++ end
+    → now ≡ text ++ spaced (codes "sent" ∷ decimal number ∷ codes "diverges" ∷ end ∷ [])
+diverges_pushed text a b now number end p q r =
+    r ∙ ap (λ (t : List ℕ). t ++ end) (q ∙ ap (λ (t : List ℕ). t ++ codes " diverges ") p) ∙ simp append_assoc
+
+pub ends_pushed : (text mid now : List ℕ) (epoch end e : ℕ) → e ≡ epoch → mid ≡ text ++ (codes "epoch " ++ decimal e) → now ≡ mid ++ (codes " end " ++ decimal end)
+    → now ≡ text ++ spaced (codes "epoch" ∷ decimal epoch ∷ codes "end" ∷ decimal end ∷ [])
+ends_pushed text mid now epoch end e same p q =
+    grown mid now text (codes "epoch " ++ decimal epoch) (codes " end " ++ decimal end) _ q (p ∙ ap (λ (n : ℕ). text ++ (codes "epoch " ++ decimal n)) same) refl

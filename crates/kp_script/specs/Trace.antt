@@ -1,10 +1,10 @@
 -- The text of a trace: a line for each event, with the number of the event's line and what was answered.
-use Rattle.std.specs.Prelude.{ℕ, Bool, true, false, List, [], ◌∷◌, ◌++◌, length, map, codes, Option, Some, None}
+use Rattle.std.specs.Prelude.{ℕ, List, [], ◌∷◌, ◌++◌, length, map, codes, Option, Some, None}
 use Rattle.std.specs.List.{join_with_byte, flat_map, zip}
 use Rattle.std.specs.Fmt.{decimal}
 use Rattle.kp_types.specs.Texts.{refusal_text}
 use Rattle.kp_model.specs.World.{Leader, LeaderAndIsr}
-use Rattle.kp_model.specs.Event.{Line, Reply, Refused, Changed, NowLeads, NowFollows, At, DuplicateOf, AsksFrom, AsksEpoch, SentBatches, SentEpoch, Took, Cut, MarkAt, CheckpointAt, Stopped, Restarted, Shown, Lines, Outcome}
+use Rattle.kp_model.specs.Event.{Line, Reply, Refused, Changed, NowLeads, NowFollows, At, DuplicateOf, AsksFrom, SentBatches, SentDiverging, Took, Cut, MarkAt, CheckpointAt, Stopped, Restarted, Shown, Lines, Outcome}
 use Rattle.kp_script.specs.Call.{spaced}
 use Rattle.kp_script.specs.Hex.{hex_text}
 
@@ -35,15 +35,15 @@ abbrev pub record_text : LeaderAndIsr → List ℕ
 record_text controller =
     spaced (codes "record" ∷ leader_text controller.leader ∷ codes "isr" ∷ nodes_text controller.isr ∷ codes "version" ∷ decimal controller.version ∷ [])
 
--- what a follower does first: it fetches, or it reconciles its log
-abbrev pub stage_text : (fetching : Bool) → List ℕ
-stage_text true = codes "fetching"
-stage_text false = codes "reconciling"
+-- a log's last epoch, of which an empty log has none
+abbrev pub epoch_text : Option ℕ → List ℕ
+epoch_text (Some epoch) = codes "epoch " ++ decimal epoch
+epoch_text None = codes "no epoch"
 
--- whether a follower's log is cut as far as it has to be, or it asks again
-abbrev pub progress_text : (done : Bool) → List ℕ
-progress_text true = codes "done"
-progress_text false = codes "again"
+-- where a leader epoch ends in the leader's log, where that has one
+abbrev pub end_text : Option (ℕ × ℕ) → List ℕ
+end_text (Some (epoch, end)) = spaced (codes "epoch" ∷ decimal epoch ∷ codes "end" ∷ decimal end ∷ [])
+end_text None = codes "no epoch"
 
 -- the number of a message
 abbrev pub number_text : Option ℕ → List ℕ
@@ -63,19 +63,15 @@ abbrev pub reply_text : (node : ℕ) → (number : Option ℕ) → Reply → Lis
 reply_text node number (Refused refusal) = refusal_text refusal
 reply_text node number (Changed controller) = record_text controller
 reply_text node number (NowLeads epoch start) = spaced (codes "leads epoch" ∷ decimal epoch ∷ codes "from" ∷ decimal start ∷ [])
-reply_text node number (NowFollows leader epoch fetching) =
-    spaced (codes "follows" ∷ decimal leader ∷ codes "epoch" ∷ decimal epoch ∷ stage_text fetching ∷ [])
+reply_text node number (NowFollows leader epoch) = spaced (codes "follows" ∷ decimal leader ∷ codes "epoch" ∷ decimal epoch ∷ [])
 reply_text node number (At base) = spaced (codes "at" ∷ decimal base ∷ [])
 reply_text node number (DuplicateOf base) = spaced (codes "duplicate" ∷ decimal base ∷ [])
-reply_text node number (AsksFrom offset) = sent_text number (codes "asks from" ∷ decimal offset ∷ [])
-reply_text node number (AsksEpoch epoch) = sent_text number (codes "asks epoch" ∷ decimal epoch ∷ [])
+reply_text node number (AsksFrom offset last) = sent_text number (codes "asks from" ∷ decimal offset ∷ epoch_text last ∷ [])
 reply_text node number (SentBatches count watermark) =
     sent_text number (codes "batches" ∷ decimal count ∷ codes "mark" ∷ decimal watermark ∷ [])
-reply_text node number (SentEpoch (Some (epoch, end))) =
-    sent_text number (codes "epoch" ∷ decimal epoch ∷ codes "end" ∷ decimal end ∷ [])
-reply_text node number (SentEpoch None) = sent_text number (codes "no epoch" ∷ [])
+reply_text node number (SentDiverging end) = sent_text number (codes "diverges" ∷ end_text end ∷ [])
 reply_text node number (Took end watermark) = spaced (codes "end" ∷ decimal end ∷ codes "mark" ∷ decimal watermark ∷ [])
-reply_text node number (Cut end done) = spaced (codes "cut" ∷ decimal end ∷ progress_text done ∷ [])
+reply_text node number (Cut end) = spaced (codes "cut" ∷ decimal end ∷ [])
 reply_text node number (MarkAt watermark) = spaced (codes "mark" ∷ decimal watermark ∷ [])
 reply_text node number (CheckpointAt watermark) = spaced (codes "checkpoint" ∷ decimal watermark ∷ [])
 reply_text node number Stopped = codes "stopped"

@@ -6,19 +6,19 @@ ghost use Rattle.kp_types.specs.Texts.{refusal_text};
 ghost use Rattle.kp_control.specs.Set.{leader_of, members_of, record_of};
 ghost use Rattle.kp_model.specs.Calls.{said_reply};
 ghost use Rattle.kp_replica.specs.Acts.{answer_reply};
-ghost use Rattle.kp_replica.specs.Replies.{role_reply, receipt_reply, cut_reply, shown_reply};
+ghost use Rattle.kp_replica.specs.Replies.{role_reply, receipt_reply, shown_reply};
 ghost use Rattle.kp_visible.specs.Lines.{line_of};
 ghost use Rattle.kp_world.specs.Answers.{number_in, outcome_of, told_reply};
 ghost use Rattle.kp_script.specs.Call.{node_of};
 ghost use Rattle.kp_script.specs.Seen.{seen_call};
-ghost use Rattle.kp_script.specs.Trace.{leader_text, life_text, line_text, lines_text, nodes_text, record_text, reply_text, outcome_text, trace_text};
+ghost use Rattle.kp_script.specs.Trace.{end_text, epoch_text, leader_text, life_text, line_text, lines_text, nodes_text, record_text, reply_text, outcome_text, trace_text};
 
 use crate::script::Line;
 use crate::text::{push_hex, push_named, push_number};
 use kp_control::{Leader, LeaderAndIsr, NodeSet};
-use kp_model::Said;
-use kp_replica::{Answer, CutBack, Receipt, Role, Shown};
-use kp_types::{NodeId, Offset, Refusal};
+use kp_model::{EpochEnd, Said};
+use kp_replica::{Answer, Receipt, Role, Shown};
+use kp_types::{Epoch, NodeId, Offset, Refusal};
 use kp_visible::{ReadRecord, ReadRecords};
 use kp_world::EventAnswer;
 use std::alloc::AllocError;
@@ -103,18 +103,9 @@ fn push_role(text: &mut Vec<u8>, node: NodeId, role: &Role) -> Result<(), AllocE
             push_named(text, b"leads epoch ", u64::from(epoch))?;
             push_named(text, b" from ", start)
         }
-        Role::Follows {
-            leader,
-            epoch,
-            fetching,
-        } => {
+        Role::Follows { leader, epoch } => {
             push_named(text, b"follows ", u64::from(leader))?;
-            push_named(text, b" epoch ", u64::from(epoch))?;
-            if fetching {
-                text.extend_from_slice(b" fetching")
-            } else {
-                text.extend_from_slice(b" reconciling")
-            }
+            push_named(text, b" epoch ", u64::from(epoch))
         }
     }
 }
@@ -131,6 +122,30 @@ fn push_receipt(text: &mut Vec<u8>, node: NodeId, receipt: &Receipt) -> Result<(
     }
 }
 
+/// Appends a log's last epoch.
+fn push_epoch(text: &mut Vec<u8>, epoch: Option<Epoch>) -> Result<(), AllocError>
+    ensures { OnOk result (text.new.items ≡ text.old.items ++ epoch_text epoch) }
+{
+    match epoch {
+        Some(epoch) => push_named(text, b"epoch ", u64::from(epoch)),
+        None => text.extend_from_slice(b"no epoch"),
+    }
+}
+
+/// Appends where a leader epoch ends in the leader's log.
+fn push_end(text: &mut Vec<u8>, end: Option<EpochEnd>) -> Result<(), AllocError>
+    ensures { OnOk result
+        (text.new.items ≡ text.old.items ++ end_text (option_map (λ e. (e.epoch, e.end)) end)) }
+{
+    match end {
+        Some(found) => {
+            push_named(text, b"epoch ", u64::from(found.epoch))?;
+            push_named(text, b" end ", found.end)
+        }
+        None => text.extend_from_slice(b"no epoch"),
+    }
+}
+
 /// Appends that the message of this number was sent, and what the message says.
 fn push_sent(text: &mut Vec<u8>, node: NodeId, number: u64, said: &Said) -> Result<(), AllocError>
     ensures { OnOk result
@@ -138,30 +153,19 @@ fn push_sent(text: &mut Vec<u8>, node: NodeId, number: u64, said: &Said) -> Resu
 {
     push_named(text, b"sent ", number)?;
     match said {
-        Said::AsksFrom(offset) => push_named(text, b" asks from ", *offset),
-        Said::AsksEpoch(epoch) => push_named(text, b" asks epoch ", u64::from(*epoch)),
+        Said::AsksFrom { offset, last_epoch } => {
+            push_named(text, b" asks from ", *offset)?;
+            text.push(b' ')?;
+            push_epoch(text, *last_epoch)
+        }
         Said::Batches { count, watermark } => {
             push_named(text, b" batches ", *count)?;
             push_named(text, b" mark ", *watermark)
         }
-        Said::EpochEnd(Some(found)) => {
-            push_named(text, b" epoch ", u64::from(found.epoch))?;
-            push_named(text, b" end ", found.end)
+        Said::Diverging(end) => {
+            text.extend_from_slice(b" diverges ")?;
+            push_end(text, *end)
         }
-        Said::EpochEnd(None) => text.extend_from_slice(b" no epoch"),
-    }
-}
-
-/// Appends what a follower's log was cut to.
-fn push_cut(text: &mut Vec<u8>, node: NodeId, cut: &CutBack) -> Result<(), AllocError>
-    ensures { OnOk result
-        (text.new.items ≡ text.old.items ++ reply_text node None (cut_reply (Ok cut.now))) }
-{
-    push_named(text, b"cut ", cut.end)?;
-    if cut.done {
-        text.extend_from_slice(b" done")
-    } else {
-        text.extend_from_slice(b" again")
     }
 }
 
@@ -203,7 +207,7 @@ fn push_answer(text: &mut Vec<u8>, node: NodeId, answer: &Answer) -> Result<(), 
             push_named(text, b"end ", taken.end)?;
             push_named(text, b" mark ", taken.watermark)
         }
-        Answer::Cut(cut) => push_cut(text, node, cut),
+        Answer::Cut(cut) => push_named(text, b"cut ", cut.end),
         Answer::Watermark(watermark) => push_named(text, b"mark ", *watermark),
         Answer::Checkpoint(watermark) => push_named(text, b"checkpoint ", *watermark),
         Answer::Stopped => text.extend_from_slice(b"stopped"),

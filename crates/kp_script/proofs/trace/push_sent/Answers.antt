@@ -1,9 +1,17 @@
-use Rattle.kp_script.proofs.Tracing.{asks_pushed, on_ok}
+use Rattle.kp_script.specs.Trace.{epoch_text}
+use Rattle.kp_script.proofs.Tracing.{asks_pushed, diverges_pushed, on_ok}
 use Rattle.kp_script.proofs.trace.push_sent.Goals as goal
 
-pub returns-in-AsksEpoch : goal.returns-in-AsksEpoch
-returns-in-AsksEpoch c =
-    rw c.in-AsksEpoch.is
-    (on_ok c.push_named-in-AsksEpoch.result c.push_named-in-AsksEpoch.ensures
-    (λ e. asks_pushed c.args.text.now.items c.push_named.new.text.items c.push_named-in-AsksEpoch.new.text.items c.args.number c.in-AsksEpoch.epoch c.from.result c.from.ensures
-    c.in_ok-push_named.ensures e))
+pub returns-in_ok-push-in-AsksFrom : goal.returns-in_ok-push-in-AsksFrom
+returns-in_ok-push-in-AsksFrom c =
+    rw c.in-AsksFrom.is
+    (on_ok c.push_epoch.result c.push_epoch.ensures
+    (λ e. asks_pushed c.args.text.now.items c.push_named.new.text.items c.push_named-in-AsksFrom.new.text.items c.push.new.self.items c.push_epoch.new.text.items c.args.number
+    c.in-AsksFrom.offset (epoch_text c.in-AsksFrom.last_epoch) c.in_ok-push_named.ensures c.in_ok-push_named-in-AsksFrom.ensures c.in_ok-push-in-AsksFrom.ensures.items e))
+
+pub returns-in_ok-extend_from_slice-in-Diverging : goal.returns-in_ok-extend_from_slice-in-Diverging
+returns-in_ok-extend_from_slice-in-Diverging c =
+    rw c.in-Diverging.is
+    (on_ok c.push_end.result c.push_end.ensures
+    (λ e. diverges_pushed c.args.text.now.items c.push_named.new.text.items c.extend_from_slice.new.self.items c.push_end.new.text.items c.args.number _ c.in_ok-push_named.ensures
+    c.in_ok-extend_from_slice-in-Diverging.ensures.items e))
