@@ -5,13 +5,16 @@ use crate::node_tests::bytes_of;
 use kp_batch::Batch;
 use kp_control::LeaderAndIsr;
 use kp_log::PartitionLog;
-use kp_model::{EpochRequest, FetchAnswer, FetchRequest, MessageBody};
+use kp_model::{Answered, EpochEnd, FetchAnswer, FetchRequest, Fetched, MessageBody};
 use kp_replica::{Act, Answer, Broker, Effect, IsrChange, PlainAct, Role};
 use kp_types::{Epoch, NodeId, Offset, Refusal};
 use std::alloc::{AllocError, Global};
 
 /// Batches of these base offsets, leader epochs and words.
 type Batches = &'static [(Offset, Epoch, &'static str)];
+
+/// What a request shows: its leader epoch, its log's end, and its log's last epoch.
+type Asked = (Epoch, Offset, Option<Epoch>);
 
 /// What happens next.
 #[derive(Clone, Copy)]
@@ -26,12 +29,12 @@ pub(crate) enum Call {
     Ask(NodeId),
     /// The message of this number gets to where it goes. It stays, and may come again.
     Deliver(usize),
-    /// Node 0 gets a request of node 1 in this epoch, for the batches from this offset on.
-    Fetch(Epoch, Offset),
-    /// Node 0 gets a request of node 1 in the first epoch, for the end of the second.
-    FindEnd(Epoch, Option<Epoch>),
+    /// Node 0 gets such a request of node 1.
+    Fetch(Epoch, Offset, Option<Epoch>),
     /// Node 1 gets an answer that no leader made: to such a request, with these batches and this watermark.
-    Take((Epoch, Offset), Batches, Offset),
+    Take(Asked, Batches, Offset),
+    /// Node 1 gets an answer that no leader made: to such a request of this life, that the logs diverge, with this end.
+    Part(Asked, u64, Option<(Epoch, Offset)>),
     Raise(NodeId),
     /// The node, a leader, changes the in-sync replicas.
     Alter(NodeId, IsrChange),
@@ -72,31 +75,25 @@ pub(crate) fn push_record(text: &mut String, record: &LeaderAndIsr) -> Result<()
 pub(crate) fn push_role(text: &mut String, role: Role) -> Result<(), AllocError> {
     match role {
         Role::Leads { epoch, start } => write!(text, "leads epoch {epoch} from {start}"),
-        Role::Follows {
-            leader,
-            epoch,
-            fetching,
-        } => {
-            let part = if fetching { "fetching" } else { "reconciling" };
-            write!(text, "follows {leader} epoch {epoch} {part}")
-        }
+        Role::Follows { leader, epoch } => write!(text, "follows {leader} epoch {epoch}"),
     }
 }
 
 pub(crate) fn push_body(text: &mut String, body: &MessageBody) -> Result<(), AllocError> {
     match body {
-        MessageBody::FetchRequest(request) => write!(text, "asks from {}", request.offset),
-        MessageBody::EpochRequest(request) => match request.last_epoch {
-            Some(epoch) => write!(text, "asks epoch {epoch}"),
-            None => text.push_str("asks no epoch"),
+        MessageBody::FetchRequest(request) => match request.last_epoch {
+            Some(epoch) => write!(text, "asks from {} epoch {epoch}", request.offset),
+            None => write!(text, "asks from {} no epoch", request.offset),
         },
-        MessageBody::FetchAnswer(answer) => {
-            let (count, watermark) = (answer.batches.len(), answer.watermark);
-            write!(text, "batches {count} mark {watermark}")
-        }
-        MessageBody::EpochAnswer(answer) => match answer.end {
-            Some(found) => write!(text, "epoch {} end {}", found.epoch, found.end),
-            None => text.push_str("no epoch"),
+        MessageBody::FetchAnswer(answer) => match &answer.answered {
+            Answered::Batches(fetched) => {
+                let (count, watermark) = (fetched.batches.len(), fetched.watermark);
+                write!(text, "batches {count} mark {watermark}")
+            }
+            Answered::Diverging(Some(found)) => {
+                write!(text, "diverges epoch {} end {}", found.epoch, found.end)
+            }
+            Answered::Diverging(None) => text.push_str("diverges no epoch"),
         },
     }
 }
@@ -141,10 +138,7 @@ fn push_answer(text: &mut String, node: &Broker, answer: &Answer) -> Result<(), 
         Answer::Adopted(role) => push_role(text, *role),
         Answer::Appended(receipt) => write!(text, "at {}", receipt.base),
         Answer::Took(taken) => write!(text, "end {} mark {}", taken.end, taken.watermark),
-        Answer::Cut(cut) => {
-            let next = if cut.done { "done" } else { "again" };
-            write!(text, "cut {} {next}", cut.end)
-        }
+        Answer::Cut(cut) => write!(text, "cut {}", cut.end),
         Answer::Watermark(watermark) => write!(text, "mark {watermark}"),
         Answer::Checkpoint(checkpoint) => write!(text, "checkpoint {checkpoint}"),
         Answer::Stopped => text.push_str("stopped"),
@@ -152,22 +146,14 @@ fn push_answer(text: &mut String, node: &Broker, answer: &Answer) -> Result<(), 
     }
 }
 
-fn fetch_request(epoch: Epoch, offset: Offset) -> FetchRequest {
+fn fetch_request(asked: Asked, life: u64) -> FetchRequest {
+    let (epoch, offset, last_epoch) = asked;
     FetchRequest {
         from: 1,
         to: 0,
-        life: 0,
+        life,
         epoch,
         offset,
-    }
-}
-
-fn epoch_request(epoch: Epoch, last_epoch: Option<Epoch>) -> EpochRequest {
-    EpochRequest {
-        from: 1,
-        to: 0,
-        life: 0,
-        epoch,
         last_epoch,
     }
 }
@@ -251,6 +237,18 @@ impl Play {
         self.tell(text, node, effect)
     }
 
+    // Node 1 gets this answer.
+    fn hear(
+        &mut self,
+        alloc: Global,
+        text: &mut String,
+        request: FetchRequest,
+        answered: Answered,
+    ) -> Result<(), Refusal> {
+        let answer = FetchAnswer { request, answered };
+        self.receive(alloc, text, &MessageBody::FetchAnswer(answer))
+    }
+
     // What the leader makes of the record that it knows is what it said before that it would make.
     fn alter(
         &mut self,
@@ -288,18 +286,27 @@ impl Play {
             }
             Call::Ask(node) => self.act(alloc, text, *node, Act::Plain(PlainAct::Ask)),
             Call::Deliver(number) => self.deliver(alloc, text, *number),
-            Call::Fetch(epoch, offset) => {
-                let request = fetch_request(*epoch, *offset);
+            Call::Fetch(epoch, offset, last) => {
+                let request = fetch_request((*epoch, *offset, *last), 0);
                 self.receive(alloc, text, &MessageBody::FetchRequest(request))
             }
-            Call::FindEnd(epoch, last) => {
-                let request = epoch_request(*epoch, *last);
-                self.receive(alloc, text, &MessageBody::EpochRequest(request))
+            Call::Take(asked, batches, watermark) => {
+                let fetched = Fetched::new(forge(alloc, batches)?, *watermark)?;
+                self.hear(
+                    alloc,
+                    text,
+                    fetch_request(*asked, 0),
+                    Answered::Batches(fetched),
+                )
             }
-            Call::Take((epoch, offset), batches, watermark) => {
-                let request = fetch_request(*epoch, *offset);
-                let answer = FetchAnswer::new(request, forge(alloc, batches)?, *watermark)?;
-                self.receive(alloc, text, &MessageBody::FetchAnswer(answer))
+            Call::Part(asked, life, end) => {
+                let end = end.map(|(epoch, end)| EpochEnd { epoch, end });
+                self.hear(
+                    alloc,
+                    text,
+                    fetch_request(*asked, *life),
+                    Answered::Diverging(end),
+                )
             }
             Call::Raise(node) => self.act(alloc, text, *node, Act::Plain(PlainAct::Raise)),
             Call::Alter(node, change) => self.alter(alloc, text, *node, *change),

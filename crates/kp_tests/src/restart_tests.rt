@@ -17,7 +17,7 @@ const CAUGHT_UP: [Call; 12] = [
     Call::Append(0, "p10"),
     Call::Append(0, "p20"),
     Call::Append(0, "d9.0.6.2"),
-    Call::Fetch(0, 7),
+    Call::Fetch(0, 7, Some(0)),
     Call::Raise(0),
     Call::Elect(0),
     Call::Adopt(0),
@@ -27,9 +27,9 @@ const CAUGHT_UP: [Call; 12] = [
 // A node that has told nothing, then an end below the start, then one at the start; under another record, and again.
 const JOINS: [Call; 9] = [
     Call::Alter(0, IsrChange::Join(1)),
-    Call::Fetch(1, 8),
+    Call::Fetch(1, 8, Some(0)),
     Call::Alter(0, IsrChange::Join(1)),
-    Call::Fetch(1, 10),
+    Call::Fetch(1, 10, Some(0)),
     Call::SwapRecords,
     Call::Alter(0, IsrChange::Join(1)),
     Call::SwapRecords,
@@ -54,12 +54,12 @@ const NOTED: [Call; 6] = [
     Call::Elect(0),
     Call::Elect(0),
     Call::Adopt(1),
-    Call::Take((2, 0), &[(0, 1, "p10")], 1),
+    Call::Take((2, 0, None), &[(0, 1, "p10")], 1),
     Call::Checkpoint(1),
 ];
 
 const AGAIN: [Call; 4] = [
-    Call::Take((2, 1), &[(1, 1, "p20"), (2, 2, "p30")], 3),
+    Call::Take((2, 1, Some(1)), &[(1, 1, "p20"), (2, 2, "p30")], 3),
     Call::Restart(1),
     Call::Stop(1),
     Call::Restart(1),
