@@ -13,7 +13,9 @@ try:
     from kafka import __version__ as version
     from kafka.errors import CorruptRecordException
     from kafka.record.default_records import DefaultRecordBatch, DefaultRecordBatchBuilder
+    from kafka.record.legacy_records import LegacyRecordBatchBuilder
     from kafka.record.memory_records import MemoryRecords
+    from kafka.record.util import calc_crc32c
 except ImportError:
     if sys.executable != DEBIAN and os.access(DEBIAN, os.X_OK):
         os.execv(DEBIAN, [DEBIAN, *sys.argv])

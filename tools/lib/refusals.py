@@ -1,7 +1,7 @@
 """Calls the program with a growth of memory, or a call of the system, refused to it (tools/refuse).
 
 What refuses is tools/lib/refuse.c, which is compiled here and loaded into the program. It also counts the calls that the program
-makes, in a file which it shares with this module.
+makes, and the bytes that its growths ask for, in a file which it shares with this module.
 """
 import errno
 import os
@@ -14,7 +14,8 @@ from typing import NamedTuple
 from .compare import TOP, Differs
 
 CALLS = ("growth", "read", "write", "open", "mkdir", "list")  # as in refuse.c
-COUNTS = struct.Struct(f"={len(CALLS)}Q")
+BYTES = ("most", "all")  # that one growth, and all of them, ask for
+COUNTS = struct.Struct(f"={len(CALLS) + len(BYTES)}Q")
 SECONDS, ENDLESS = 20, 2 ** 63
 
 
@@ -120,10 +121,10 @@ class Caller:
         return Outcome(done.stdout.decode("latin-1"), done.stderr.decode("latin-1"), done.returncode, tuple(sorted(left.items())))
 
     def called(self, row, kind=None, first=None):
-        """How many of each call the program made, and what it left."""
+        """How many of each call the program made, how many bytes its growths asked for, and what it left."""
         put(self.counts, bytes(COUNTS.size))
         left = self.outcome(row, env=self.surroundings(kind, first))
-        return dict(zip(CALLS, COUNTS.unpack(bytes_of(self.counts)))), left
+        return dict(zip(CALLS + BYTES, COUNTS.unpack(bytes_of(self.counts)))), left
 
     def called_within(self, row, kib):
         """What the program leaves that has so many KiB of address space."""

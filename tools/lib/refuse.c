@@ -1,7 +1,8 @@
 /* Refuses growths of memory and calls of the system to the program that it is loaded into (LD_PRELOAD), for tools/refuse.
 
-   REFUSE_COUNTS  a file of CALLS numbers of eight bytes, 0 at first: how many of each call were met. It is mapped, so it is right
-                  also where the program crashes or is killed.
+   REFUSE_COUNTS  a file of NUMBERS numbers of eight bytes, 0 at first: how many of each call were met, the most bytes that a growth
+                  asked for, and how many all of them asked for. It is mapped, so it is right also where the program crashes or is
+                  killed.
    REFUSE_CALL    which call is refused, by its place in `enum call`
    REFUSE_FIRST   from which one on, counted from 1
    REFUSE_LAST    up to which one
@@ -23,6 +24,7 @@
 #include <unistd.h>
 
 enum call { GROWTH, READ, WRITE, OPEN, MKDIR, LIST, CALLS };
+enum { MOST = CALLS, ALL, NUMBERS };
 
 void *__libc_malloc(size_t size);
 void *__libc_calloc(size_t count, size_t size);
@@ -45,7 +47,7 @@ __attribute__((constructor)) static void begin(void)
     if (!path)
         return;
     int file = syscall(SYS_openat, AT_FDCWD, path, O_RDWR | O_CLOEXEC);
-    void *found = mmap(NULL, CALLS * sizeof *counts, PROT_READ | PROT_WRITE, MAP_SHARED, file, 0);
+    void *found = mmap(NULL, NUMBERS * sizeof *counts, PROT_READ | PROT_WRITE, MAP_SHARED, file, 0);
     syscall(SYS_close, file);
     if (found == MAP_FAILED)
         _exit(99); /* no status of the program */
@@ -73,26 +75,40 @@ static int fails(enum call call)
     return 1;
 }
 
-/* Memory */
+/* Memory. What is asked for is noted, whether it is refused or not. */
+
+static int grows(size_t size)
+{
+    if (counts) {
+        uint64_t most = atomic_load(&counts[MOST]);
+        while (most < size && !atomic_compare_exchange_weak(&counts[MOST], &most, size))
+            ;
+        atomic_fetch_add(&counts[ALL], size);
+    }
+    return !fails(GROWTH);
+}
 
 void *malloc(size_t size)
 {
-    return fails(GROWTH) ? NULL : __libc_malloc(size);
+    return grows(size) ? __libc_malloc(size) : NULL;
 }
 
 void *calloc(size_t count, size_t size)
 {
-    return fails(GROWTH) ? NULL : __libc_calloc(count, size);
+    size_t whole;
+    if (__builtin_mul_overflow(count, size, &whole))
+        whole = SIZE_MAX;
+    return grows(whole) ? __libc_calloc(count, size) : NULL;
 }
 
 void *realloc(void *block, size_t size)
 {
-    return fails(GROWTH) ? NULL : __libc_realloc(block, size);
+    return grows(size) ? __libc_realloc(block, size) : NULL;
 }
 
 void *memalign(size_t align, size_t size)
 {
-    return fails(GROWTH) ? NULL : __libc_memalign(align, size);
+    return grows(size) ? __libc_memalign(align, size) : NULL;
 }
 
 void *aligned_alloc(size_t align, size_t size)

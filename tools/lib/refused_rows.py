@@ -16,7 +16,7 @@ from .chances import lines
 from .compare import TOP
 from .decoder import inspect
 from .known_calls import NO_CALL
-from .refusals import bytes_of
+from .refusals import KINDS, bytes_of
 
 EVENTS_AT_ONCE = 512  # so many lines of a trace are written at a time
 MEMORY, DEVICE = "kpart: F33 Memory\n", "kpart: F32 Device\n"
@@ -48,7 +48,9 @@ def begins(found, wanted):
 
 
 class Row:
-    """A call: its words, the files that stand there, and FILE and FOLDER among its words. Its answer is a text, or a complaint."""
+    """A call: its words, the files that stand there, and FILE and FOLDER among its words. Its answer is a text, or a complaint.
+    `kinds` may be refused to it, and it `grows` in memory."""
+    kinds, grows = tuple(KINDS), True
 
     def __init__(self, name, words, out, err, status, files=(), path=None, folder=None):
         self.name, self.words, self.files, self.path, self.folder = name, words, dict(files), path, folder

@@ -1,0 +1,91 @@
+"""The tests of kp_tests, and what may come of each where a growth of memory is refused to it (tools/refuse tests).
+
+The test program lists its tests by `--list`, and runs the one that its first word names. A test that ends as it should says so, and its
+status is 0. Else its words stand on standard error, and it ends by SIGABRT: `is` of crates/kp_tests/src/shown.rt says `F33 Memory in
+place of ..`, and an assertion of two values what was found and what is wanted.
+"""
+import re
+import signal
+import subprocess
+
+from .refused_rows import Row
+
+PASSED = "\ntest result: ok\n"
+# What names want of memory: the text of a refusal, or a found value that has one.
+NAMED = r"F33 Memory( in place of .*)?\n|assertion `left == right` failed.*\n  left: .*(Err\(Memory\)|F33 Memory).*\n right: .*\n"
+
+# Those that hold also where one growth is refused. Where all later ones are, too, they may say a text that has F33 in it.
+ALWAYS = (
+    "exchange_tests::a_request_without_memory_reports_nothing",
+    "exchange_tests::a_take_without_memory_keeps_a_beginning",
+    "restart_tests::a_restart_without_memory_keeps_the_node",
+)
+
+
+def found(left):
+    """An assertion of two values of which this one was found."""
+    return r"assertion `left == right` failed(: [^`]*)?\n  left: " + left + r"\n right: .*\n"
+
+
+# What else a test may say, in words that a wrong answer could have, too. A board, a race, a clap error: their words don't tell which
+# refusal it was. A device of memory fails as a device. The first turns of a test of seats may be refused, which nothing tells, and a
+# world that stops tells what came before.
+NO_BOARD, NO_RACE, OTHER_TEXT = "no board\n", "a refused race\n", found('".*"')
+OWN = {
+    "board_tests::elections_add_up": NO_BOARD,
+    "board_tests::one_looks_while_another_elects": NO_BOARD,
+    "cli_tests::a_failed_complaint_keeps_the_status": found(r"\(\[\], [01], [12]\)"),
+    "cli_tests::a_mistake_is_named": found(r"Ok\(\(false, true, 2\)\)"),
+    "cli_tests::help_has_the_texts": found(r"Ok\(\(false, true, 2\)\)"),
+    "cluster_tests::all_nodes_agree": NO_RACE,
+    "cluster_tests::gate_two_nodes": found(r"Ok\(false\)"),
+    "device_tests::interrupted_calls_are_tried_again": "F32 Device\n",
+    "device_tests::short_writes_go_on_and_failed_ones_are_counted": found(r"\(\[.*\], (Ok\(\(\)\)|Err\(Device\)), [01]\)"),
+    "node_tests::receipts_name_what_stands": OTHER_TEXT,
+    "seat_tests::a_cut_is_shown": OTHER_TEXT,
+    "seat_tests::a_cut_of_an_older_record_is_refused": OTHER_TEXT,
+    "seat_tests::a_message_comes_twice": OTHER_TEXT,
+    "seat_tests::an_answer_of_an_earlier_life_cuts_nothing": OTHER_TEXT,
+    "worker_tests::all_nodes_agree_by_chance": NO_RACE,
+    "worker_tests::nodes_restart_around_their_steps": NO_RACE,
+    "worker_tests::refused_threads_and_sends_leave_what_stops": found(r"Ok\(Ended \{ .* \}\)"),
+    "worker_tests::three_nodes_acknowledge_batches": NO_RACE,
+}
+# Tests of workers end once these are told so, for which there has to be memory again; so of them one growth at a time is refused. Nor
+# could words then tell nodes that disagree from nodes that do nothing.
+WORKERS = ("cluster_tests::", "worker_tests::")
+
+
+class Test(Row):
+    """A run of one test."""
+    grows = False
+
+    def __init__(self, name):
+        super().__init__(name, [name], "", "", 0)
+        self.kinds = ("growth",) if name.startswith(WORKERS) else ("growth", "growths")
+
+    def is_whole(self, got):
+        return got.status == 0 and got.err == "" and got.out.endswith(PASSED)
+
+    def judged(self, kind, got):
+        """What came of a refusal, in a word; None where that may not be."""
+        if self.is_whole(got):
+            return "whole"
+        if got.status != -signal.SIGABRT or got.out:
+            return None
+        if self.name in ALWAYS:
+            return "F33" if kind.lasting and "F33 Memory\n" in got.err else None
+        if re.fullmatch(NAMED, got.err, re.DOTALL):
+            return "F33"
+        return "unnamed" if re.fullmatch(OWN.get(self.name, "(?!)"), got.err) else None
+
+
+def tests(program):
+    """The tests of the program by their names, each as a row."""
+    said = subprocess.run([program, "--list"], stdin=subprocess.DEVNULL, capture_output=True, text=True, check=True).stdout
+    *names, count = said.splitlines()
+    assert count == f"tests: {len(names)}" and all(name.endswith(": test") for name in names), said
+    known = {name: Test(name) for name in (it.removesuffix(": test") for it in names)}
+    strange = {*ALWAYS, *OWN} - {*known}
+    assert not strange, f"there is no test {', '.join(sorted(strange))}"
+    return known
