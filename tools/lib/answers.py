@@ -3,23 +3,24 @@ import re
 from collections import Counter
 
 from . import scripts
-from .cluster import Answer, Follows, Idle, World
+from .cluster import Answer, Follows, Idle, World, end_and_epoch
 from .decoder import Refused
 
 
 def kind_of(message):
-    request = message.request if isinstance(message, Answer) else message
-    return f"{'a fetch' if request.fetching else 'an epoch'} {'request' if request is message else 'answer'}"
+    if not isinstance(message, Answer):
+        return "a request"
+    return "a diverging answer" if message.diverges() else "an answer with batches"
 
 
-def not_awaited(node, request):
-    """The first thing by which an answer to this request isn't the one that the node awaits."""
-    mode = node.mode
+def not_awaited(node, answer):
+    """The first thing by which this isn't an answer that the node awaits; its life if that is all."""
+    mode, request = node.mode, answer.request
     if not isinstance(mode, Follows):
         return "no follower"
-    causes = {"another leader epoch": mode.epoch != request.epoch, "the other kind": mode.fetching != request.fetching,
-              "another life": not request.fetching and node.life != request.life,
-              "another end" if request.fetching else "another last epoch": True}
+    (end, epoch), asked = end_and_epoch(node.log), end_and_epoch(request.log)
+    causes = {"another leader epoch": mode.epoch != request.epoch, "another end": end != asked[0],
+              "another last epoch": epoch != asked[1], "another life": True}
     return next(name for name, holds in causes.items() if holds)
 
 
@@ -46,17 +47,24 @@ def cause(world, line, answer):
     if isinstance(message, Answer) and answer[:3] in ("F22", "F29"):
         node = world.nodes[message.request.sender]
         idle = "idle" if isinstance(node.mode, Idle) else "the record has moved on"
-        return idle if answer[:3] == "F22" else not_awaited(node, message.request)
+        return idle if answer[:3] == "F22" else not_awaited(node, message)
     return None
+
+
+def is_of_an_earlier_life(world, message):
+    """Whether it is an answer to what its node asked in an earlier life."""
+    return isinstance(message, Answer) and message.request.life != world.nodes[message.request.sender].life
 
 
 def form(world, line, answer):
     """An event and its answer without their numbers, of reads without records. Where it is refused, the world is as before."""
     verb, number = line.split()[:2]
+    message = world.messages[int(number)] if verb == "deliver" and int(number) < len(world.messages) else None
     if verb == "deliver":
-        verb += f" {kind_of(world.messages[int(number)]) if int(number) < len(world.messages) else 'no message'}"
+        verb += f" {kind_of(message) if message else 'no message'}"
     if answer[0] != "F":
-        return f"{verb}: {re.sub('[0-9]+(,[0-9]+)*', 'N', re.sub('^read.*', 'read 0', answer))}"
+        late = ", of an earlier life" if is_of_an_earlier_life(world, message) else ""
+        return f"{verb}: {re.sub('[0-9]+(,[0-9]+)*', 'N', re.sub('^read.*', 'read 0', answer))}{late}"
     why = cause(world, line, answer)
     return f"{verb}: {re.sub(' [0-9]+$', '', answer)}{f', {why}' if why else ''}"
 

@@ -8,7 +8,7 @@ late, in another order, twice, in another life, and some numbers were never sent
 """
 from . import scripts
 from .batch import end_of
-from .cluster import Answer, Down, Follows, Idle, Leads, World, last_epoch
+from .cluster import Answer, Down, Follows, Idle, Leads, World, end_and_epoch, last_epoch
 from .decoder import Refused
 from .definitions import batches_of, coordinator, kept_batches
 from .logs import Maker, Numbers
@@ -191,11 +191,32 @@ class Replicas(Chance):
             return self.reign()
         if self.unread and self.n.once_in(9):
             self.unread.pop()
+        if self.unread and self.parts(self.unread[-1]) and self.n.once_in(4):
+            return self.overtake(self.unread.pop())
         if self.unread:
             return f"deliver {self.unread.pop()}"
         if self.behind():
             return self.adopt()
         return self.ask_least() if self.of_mode(Follows) else self.write()
+
+    def parts(self, number):
+        """Whether the message is an answer that the logs have parted."""
+        message = self.world.messages[number]
+        return isinstance(message, Answer) and message.diverges()
+
+    def overtake(self, number):
+        """Before an answer that the logs have parted comes, the record moves on, or its node stops and comes up, and mostly follows
+        again; or it comes twice."""
+        node, chosen = self.world.messages[number].request.sender, self.n.below(5)
+        self.planned = [f"deliver {number}"]
+        if chosen < 2:
+            return self.elect()
+        if chosen == 2 or node not in self.up():
+            return f"deliver {number}"
+        self.planned = [f"restart {node}", f"adopt {node}", f"deliver {number}"]
+        if self.n.once_in(4):
+            del self.planned[1]
+        return f"stop {node}"
 
     def ask_least(self):
         """A follower that has reported the least to the present leader."""
@@ -205,11 +226,10 @@ class Replicas(Chance):
         return f"ask {min(self.of_mode(Follows), key=lambda n: leader.mode.reported.get(n, -1))}"
 
     def fits(self, message):
-        """Whether it is an answer by whose offset or epoch its node would ask now, be it stale or not."""
+        """Whether it is an answer by whose end and last leader epoch its node would ask again, be it stale or not."""
         if not isinstance(message, Answer):
             return False
-        asked, own = message.request.log, self.world.nodes[message.request.sender].log
-        return end_of(asked) == end_of(own) if message.request.fetching else last_epoch(asked) == last_epoch(own)
+        return end_and_epoch(message.request.log) == end_and_epoch(self.world.nodes[message.request.sender].log)
 
     def late(self):
         """A message that has waited, an answer that fits, any or a late one once more, or a number never sent."""
@@ -256,8 +276,8 @@ class Replicas(Chance):
     def bounce(self):
         """A node stops and comes up at once, mostly one to which an answer is on its way, so that it is of an earlier life."""
         n, messages = self.n, self.world.messages
-        due = [messages[k].request for k in self.unread if isinstance(messages[k], Answer)]
-        waiting = [request.sender for request in sorted(due, key=lambda request: request.fetching)]
+        due = [messages[k] for k in self.unread if isinstance(messages[k], Answer)]
+        waiting = [answer.request.sender for answer in sorted(due, key=lambda answer: not answer.diverges())]
         chosen = n.one_of([m for m in waiting if m in self.up()][:2] or self.up() or range(self.count))
         self.planned = [f"restart {chosen}", f"adopt {chosen}"][:n.one_of([1, 2, 2, 2])]
         return f"stop {chosen}"

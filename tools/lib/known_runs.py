@@ -8,14 +8,14 @@ def opening(count, followers=None, first=2):
     """Of so many nodes, all in sync, node 0 is elected and leads; then so many others follow it, all where none is given.
     Their answers stand in the lines from the first one on."""
     isr = ",".join(map(str, range(count)))
-    follows = ["follows 0 epoch 0 fetching"] * (count - 1 if followers is None else followers)
+    follows = ["follows 0 epoch 0"] * (count - 1 if followers is None else followers)
     answers = [f"record leader 0 epoch 0 isr {isr} version 1", "leads epoch 0 from 0", *follows]
     return "".join(f"{line} {answer}\n" for line, answer in enumerate(answers, first))
 
 
 # A follower's first fetch, of one batch.
 FETCHED = opening(2) + """5 at 0
-6 sent 0 asks from 0
+6 sent 0 asks from 0 no epoch
 7 sent 1 batches 1 mark 0
 8 end 1 mark 0
 """
@@ -26,13 +26,13 @@ ELECTED = FETCHED + """9 at 1
 11 leads epoch 1 from 1
 """
 
-# What is on a deposed leader alone lies where the next one's watermark has passed already; the answer to the old one is sent.
+# What is on a deposed leader alone lies where the next one's watermark has passed already; the answer that their logs part is sent.
 DEPOSED = ELECTED + """12 record leader 1 epoch 1 isr 1 version 3
 13 at 1
 14 mark 2
-15 follows 1 epoch 1 reconciling
-16 sent 2 asks epoch 0
-17 sent 3 epoch 0 end 1
+15 follows 1 epoch 1
+16 sent 2 asks from 2 epoch 0
+17 sent 3 diverges epoch 0 end 1
 """
 
 # Command line, and what it leaves.
@@ -108,17 +108,17 @@ status 1
 """,
     "run made_example_replicate.script": opening(3, first=3) + """7 at 0
 8 at 1
-10 sent 0 asks from 0
+10 sent 0 asks from 0 no epoch
 11 sent 1 batches 2 mark 0
 12 end 2 mark 0
 14 F29 StaleAnswer
-16 sent 2 asks from 0
+16 sent 2 asks from 0 no epoch
 17 sent 3 batches 2 mark 0
 18 end 2 mark 0
 20 mark 0
-21 sent 4 asks from 2
+21 sent 4 asks from 2 epoch 0
 22 sent 5 batches 0 mark 0
-23 sent 6 asks from 2
+23 sent 6 asks from 2 epoch 0
 24 sent 7 batches 0 mark 0
 25 mark 2
 27 sent 8 batches 0 mark 2
@@ -126,17 +126,17 @@ status 1
 30 read 2 0=61 1=62
 31 read 2 0=61 1=62
 32 read 0
-33 sent 9 asks from 2
+33 sent 9 asks from 2 epoch 0
 34 sent 10 batches 0 mark 2
 35 end 2 mark 2
 36 read 2 0=61 1=62
 status 1
 """,
     "run made_example_failover.script": opening(2, first=3) + """6 at 0
-7 sent 0 asks from 0
+7 sent 0 asks from 0 no epoch
 8 sent 1 batches 1 mark 0
 9 end 1 mark 0
-10 sent 2 asks from 1
+10 sent 2 asks from 1 epoch 0
 11 sent 3 batches 0 mark 0
 12 mark 1
 13 at 1
@@ -145,17 +145,17 @@ status 1
 17 at 1
 19 at 2
 20 mark 1
-22 follows 1 epoch 1 reconciling
-23 sent 4 asks epoch 0
-24 sent 5 epoch 0 end 1
-25 cut 1 done
-27 sent 6 asks from 1
+22 follows 1 epoch 1
+23 sent 4 asks from 3 epoch 0
+24 sent 5 diverges epoch 0 end 1
+25 cut 1
+27 sent 6 asks from 1 epoch 0
 28 sent 7 batches 1 mark 0
 29 end 2 mark 1
-30 sent 8 asks from 2
+30 sent 8 asks from 2 epoch 1
 31 sent 9 batches 0 mark 0
 32 mark 2
-33 sent 10 asks from 2
+33 sent 10 asks from 2 epoch 1
 34 sent 11 batches 0 mark 2
 35 end 2 mark 2
 37 read 2 0=61 1=63
@@ -170,7 +170,7 @@ status 1
     "run election_of_a_follower.script": ELECTED + "status 0\n",
     "run answer_comes_twice.script": FETCHED + """9 F29 StaleAnswer
 10 mark 0
-11 sent 2 asks from 1
+11 sent 2 asks from 1 epoch 0
 12 sent 3 batches 0 mark 0
 13 mark 1
 14 end 1 mark 0
@@ -178,17 +178,17 @@ status 1
 """,
     "run followers_of_one_leader.script": opening(3) + """6 at 0
 7 at 1
-8 sent 0 asks from 0
+8 sent 0 asks from 0 no epoch
 9 sent 1 batches 2 mark 0
 10 end 2 mark 0
-11 sent 2 asks from 2
+11 sent 2 asks from 2 epoch 0
 12 sent 3 batches 0 mark 0
 13 mark 0
-14 sent 4 asks from 0
+14 sent 4 asks from 0 no epoch
 15 sent 5 batches 2 mark 0
 16 mark 0
 17 end 2 mark 0
-18 sent 6 asks from 2
+18 sent 6 asks from 2 epoch 0
 19 sent 7 batches 0 mark 0
 20 mark 2
 21 end 2 mark 0
@@ -198,10 +198,10 @@ status 1
 25 F15 NotLeader
 status 1
 """,
-    "run fenced_by_leader_epoch.script": opening(2) + """5 sent 0 asks from 0
+    "run fenced_by_leader_epoch.script": opening(2) + """5 sent 0 asks from 0 no epoch
 6 record leader 0 epoch 1 isr 0,1 version 2
-7 follows 0 epoch 1 fetching
-8 sent 1 asks from 0
+7 follows 0 epoch 1
+8 sent 1 asks from 0 no epoch
 9 at 0
 10 F18 UnknownLeaderEpoch
 11 leads epoch 1 from 1
@@ -215,15 +215,15 @@ status 1
 16 record leader 1 epoch 3 isr 0,1 version 4
 17 leads epoch 3 from 2
 18 at 2
-19 follows 1 epoch 3 reconciling
-20 sent 2 asks epoch 2
-21 sent 3 epoch 1 end 2
-22 cut 2 again
-23 sent 4 asks epoch 0
-24 sent 5 epoch 0 end 1
-25 cut 1 done
+19 follows 1 epoch 3
+20 sent 2 asks from 3 epoch 2
+21 sent 3 diverges epoch 1 end 2
+22 cut 2
+23 sent 4 asks from 2 epoch 0
+24 sent 5 diverges epoch 0 end 1
+25 cut 1
 26 F29 StaleAnswer
-27 sent 6 asks from 1
+27 sent 6 asks from 1 epoch 0
 28 sent 7 batches 2 mark 0
 29 end 3 mark 0
 30 mark 1
@@ -233,8 +233,8 @@ status 1
 4 record leader 1 epoch 1 isr 0,1 version 2
 5 leads epoch 1 from 0
 6 at 0
-7 follows 1 epoch 1 fetching
-8 sent 0 asks from 0
+7 follows 1 epoch 1
+8 sent 0 asks from 0 no epoch
 9 sent 1 batches 1 mark 0
 10 end 3 mark 0
 11 at 3
@@ -249,27 +249,27 @@ status 1
 20 at 5
 21 node 0 life 0 end 7 mark 0 stable 0
 22 node 1 life 0 end 6 mark 0 stable 0
-23 follows 0 epoch 4 reconciling
-24 sent 2 asks epoch 3
-25 sent 3 epoch 2 end 5
-26 cut 4 again
-27 sent 4 asks epoch 1
-28 sent 5 epoch 1 end 3
-29 cut 3 done
-30 sent 6 asks from 3
+23 follows 0 epoch 4
+24 sent 2 asks from 6 epoch 3
+25 sent 3 diverges epoch 2 end 5
+26 cut 4
+27 sent 4 asks from 4 epoch 1
+28 sent 5 diverges epoch 1 end 3
+29 cut 3
+30 sent 6 asks from 3 epoch 1
 31 sent 7 batches 2 mark 0
 32 end 7 mark 0
 33 mark 3
-34 sent 8 asks from 7
+34 sent 8 asks from 7 epoch 4
 35 sent 9 batches 0 mark 3
 36 mark 7
 37 read 7 0=61 1=62 2=63 3=65 4=66 5=69 6=6a
 status 0
 """,
     "run late_messages.script": "3 F15 NotLeader\n4 F29 StaleAnswer\n" + opening(3, 0, first=5) + """8 F15 NotLeader
-9 follows 0 epoch 0 fetching
+9 follows 0 epoch 0
 10 at 0
-11 sent 0 asks from 0
+11 sent 0 asks from 0 no epoch
 12 F29 StaleAnswer
 14 sent 1 batches 1 mark 0
 15 at 1
@@ -277,65 +277,65 @@ status 0
 18 end 2 mark 0
 19 F29 StaleAnswer
 20 F29 StaleAnswer
-22 sent 3 asks from 2
+22 sent 3 asks from 2 epoch 0
 23 sent 4 batches 0 mark 0
 24 end 2 mark 0
 25 end 2 mark 0
 27 record leader 0 epoch 1 isr 0,1,2 version 2
-28 follows 0 epoch 1 reconciling
+28 follows 0 epoch 1
 29 F29 StaleAnswer
-30 sent 5 asks epoch 0
+30 sent 5 asks from 2 epoch 0
 31 F18 UnknownLeaderEpoch
 32 leads epoch 1 from 2
 33 F17 FencedLeaderEpoch
-34 sent 6 epoch 0 end 2
+34 sent 6 batches 0 mark 0
 36 record leader 2 epoch 2 isr 0,1,2 version 3
-37 F22 StaleRecord
+37 end 2 mark 0
 38 leads epoch 2 from 0
-39 follows 2 epoch 2 reconciling
+39 follows 2 epoch 2
 40 F29 StaleAnswer
-42 sent 7 asks epoch 0
-43 sent 8 no epoch
-44 cut 0 done
+42 sent 7 asks from 2 epoch 0
+43 sent 8 diverges no epoch
+44 cut 0
 45 F29 StaleAnswer
 46 node 1 life 0 end 0 mark 0 stable 0
-47 sent 9 asks from 0
+47 sent 9 asks from 0 no epoch
 48 sent 10 batches 0 mark 0
 49 end 0 mark 0
 50 F22 StaleRecord
-52 follows 2 epoch 2 reconciling
+52 follows 2 epoch 2
 53 F15 NotLeader
 54 F15 NotLeader
 55 F15 NotLeader
 status 1
 """,
     "run reports_end_with_a_leadership.script": opening(3) + """6 at 0
-7 sent 0 asks from 0
+7 sent 0 asks from 0 no epoch
 8 sent 1 batches 1 mark 0
 9 end 1 mark 0
-10 sent 2 asks from 0
+10 sent 2 asks from 0 no epoch
 11 sent 3 batches 1 mark 0
 12 end 1 mark 0
-13 sent 4 asks from 1
+13 sent 4 asks from 1 epoch 0
 14 sent 5 batches 0 mark 0
-15 sent 6 asks from 1
+15 sent 6 asks from 1 epoch 0
 16 sent 7 batches 0 mark 0
 18 record leader 0 epoch 1 isr 0,1,2 version 2
 19 leads epoch 1 from 1
 20 mark 0
-21 follows 0 epoch 1 reconciling
-22 follows 0 epoch 1 reconciling
-24 sent 8 asks epoch 0
-25 sent 9 epoch 0 end 1
+21 follows 0 epoch 1
+22 follows 0 epoch 1
+24 sent 8 asks from 1 epoch 0
+25 sent 9 batches 0 mark 0
 26 mark 0
-27 cut 1 done
-28 sent 10 asks from 1
+27 end 1 mark 0
+28 sent 10 asks from 1 epoch 0
 29 sent 11 batches 0 mark 0
 30 mark 0
-31 sent 12 asks epoch 0
-32 sent 13 epoch 0 end 1
-33 cut 1 done
-34 sent 14 asks from 1
+31 sent 12 asks from 1 epoch 0
+32 sent 13 batches 0 mark 0
+33 end 1 mark 0
+34 sent 14 asks from 1 epoch 0
 35 sent 15 batches 0 mark 0
 36 mark 1
 38 end 1 mark 0
@@ -347,7 +347,7 @@ status 0
 """,
     "run taken_back_and_forgotten.script": opening(2) + """5 at 0
 6 at 1
-7 sent 0 asks from 0
+7 sent 0 asks from 0 no epoch
 8 sent 1 batches 2 mark 0
 9 end 2 mark 0
 11 at 2
@@ -359,18 +359,18 @@ status 0
 18 at 2
 19 duplicate 1
 20 at 3
-22 follows 1 epoch 1 reconciling
-23 sent 2 asks epoch 0
-24 sent 3 epoch 0 end 2
-25 cut 2 done
+22 follows 1 epoch 1
+23 sent 2 asks from 5 epoch 0
+24 sent 3 diverges epoch 0 end 2
+25 cut 2
 26 node 0 life 0 end 2 mark 0 stable 0
-27 sent 4 asks from 2
+27 sent 4 asks from 2 epoch 0
 28 sent 5 batches 2 mark 0
 29 end 4 mark 0
-30 sent 6 asks from 4
+30 sent 6 asks from 4 epoch 1
 31 sent 7 batches 0 mark 0
 32 mark 4
-33 sent 8 asks from 4
+33 sent 8 asks from 4 epoch 1
 34 sent 9 batches 0 mark 4
 35 end 4 mark 4
 36 read 2 0=61 2=63
@@ -389,10 +389,10 @@ status 0
 status 1
 """,
     "run made_example_insync.script": opening(3, 1, first=3) + """6 at 0
-7 sent 0 asks from 0
+7 sent 0 asks from 0 no epoch
 8 sent 1 batches 1 mark 0
 9 end 1 mark 0
-10 sent 2 asks from 1
+10 sent 2 asks from 1 epoch 0
 11 sent 3 batches 0 mark 0
 12 record leader 0 epoch 0 isr 0,1 version 2
 13 mark 1
@@ -400,11 +400,11 @@ status 1
 16 stopped
 17 life 1 end 1 mark 1
 18 leads epoch 0 from 1
-19 follows 0 epoch 0 fetching
-20 sent 4 asks from 0
+19 follows 0 epoch 0
+20 sent 4 asks from 0 no epoch
 21 sent 5 batches 1 mark 1
 22 end 1 mark 1
-23 sent 6 asks from 1
+23 sent 6 asks from 1 epoch 0
 24 sent 7 batches 0 mark 1
 25 record leader 0 epoch 0 isr 0,1,2 version 3
 status 0
@@ -425,23 +425,23 @@ status 1
 """,
     "run answer_of_an_earlier_life.script": FETCHED + """9 stopped
 10 life 1 end 1 mark 0
-11 follows 0 epoch 0 reconciling
-12 sent 2 asks epoch 0
-13 sent 3 epoch 0 end 1
+11 follows 0 epoch 0
+12 sent 2 asks from 1 epoch 0
+13 sent 3 batches 0 mark 0
 14 stopped
 15 life 2 end 1 mark 0
-16 follows 0 epoch 0 reconciling
-17 F29 StaleAnswer
+16 follows 0 epoch 0
+17 end 1 mark 0
 18 node 1 life 2 end 1 mark 0 stable 0
-status 1
+status 0
 """,
-    "run never_held_and_undone.script": DEPOSED + """18 cut 1 done
+    "run never_held_and_undone.script": DEPOSED + """18 cut 1
 19 F23 NotCaughtUp
-20 sent 4 asks from 1
+20 sent 4 asks from 1 epoch 0
 21 sent 5 batches 1 mark 2
 22 F23 NotCaughtUp
 23 end 2 mark 2
-24 sent 6 asks from 2
+24 sent 6 asks from 2 epoch 1
 25 sent 7 batches 0 mark 2
 26 record leader 1 epoch 1 isr 0,1 version 4
 27 read 2 0=61 1=63
@@ -450,26 +450,30 @@ status 1
     "run record_moves_on_before_the_cut.script": DEPOSED + """18 record leader 1 epoch 2 isr 1 version 4
 19 F22 StaleRecord
 20 F22 StaleRecord
-21 sent 4 asks epoch 0
-22 sent 5 epoch 0 end 1
+21 sent 4 asks from 2 epoch 0
+22 sent 5 diverges epoch 0 end 1
 23 F22 StaleRecord
 24 F22 StaleRecord
-25 sent 6 asks epoch 0
-26 sent 7 epoch 0 end 1
+25 sent 6 asks from 2 epoch 0
+26 sent 7 diverges epoch 0 end 1
 27 F22 StaleRecord
 28 read 0
 29 node 0 life 0 end 2 mark 0 stable 0
+31 follows 1 epoch 2
+32 F29 StaleAnswer
+33 F29 StaleAnswer
+34 node 0 life 0 end 2 mark 0 stable 0
 status 1
 """,
     "run joins_at_the_start_of_a_leadership.script": opening(2) + """6 at 0
-7 sent 0 asks from 0
+7 sent 0 asks from 0 no epoch
 8 sent 1 batches 1 mark 0
 9 end 7 mark 0
-10 sent 2 asks from 7
+10 sent 2 asks from 7 epoch 0
 11 sent 3 batches 0 mark 0
 12 mark 7
 14 at 7
-15 sent 4 asks from 7
+15 sent 4 asks from 7 epoch 0
 16 sent 5 batches 1 mark 7
 17 end 8 mark 7
 18 at 8
@@ -477,20 +481,17 @@ status 1
 21 leads epoch 1 from 10
 22 node 0 life 0 end 10 mark 7 stable 7
 23 record leader 0 epoch 1 isr 0 version 3
-24 follows 0 epoch 1 reconciling
-25 sent 6 asks epoch 0
-26 sent 7 epoch 0 end 10
-27 cut 8 done
+24 follows 0 epoch 1
+26 F23 NotCaughtUp
+27 sent 6 asks from 8 epoch 0
+28 sent 7 batches 1 mark 7
 29 F23 NotCaughtUp
-30 sent 8 asks from 8
-31 sent 9 batches 1 mark 7
-32 F23 NotCaughtUp
-33 end 10 mark 7
-34 F23 NotCaughtUp
-35 sent 10 asks from 10
-36 sent 11 batches 0 mark 7
-37 record leader 0 epoch 1 isr 0,1 version 4
-38 mark 10
+30 end 10 mark 7
+31 F23 NotCaughtUp
+32 sent 8 asks from 10 epoch 0
+33 sent 9 batches 0 mark 7
+34 record leader 0 epoch 1 isr 0,1 version 4
+35 mark 10
 status 1
 """,
     "run in_sync_changes.script": """3 F22 StaleRecord
@@ -500,7 +501,7 @@ status 1
 7 F15 NotLeader
 8 leads epoch 0 from 0
 9 F22 StaleRecord
-10 follows 0 epoch 0 fetching
+10 follows 0 epoch 0
 12 F23 NotCaughtUp
 13 F23 NotCaughtUp
 14 F21 NotInSync
@@ -508,7 +509,7 @@ status 1
 16 record leader 0 epoch 0 isr 0,1 version 2
 17 F21 NotInSync
 18 F21 NotInSync
-20 sent 0 asks from 0
+20 sent 0 asks from 0 no epoch
 21 sent 1 batches 0 mark 0
 22 record leader 0 epoch 0 isr 0,1 version 3
 24 at 0
@@ -517,11 +518,11 @@ status 1
 27 mark 1
 28 F23 NotCaughtUp
 29 end 0 mark 0
-30 sent 2 asks from 0
+30 sent 2 asks from 0 no epoch
 31 sent 3 batches 1 mark 1
 32 end 1 mark 1
 33 F23 NotCaughtUp
-34 sent 4 asks from 1
+34 sent 4 asks from 1 epoch 0
 35 sent 5 batches 0 mark 1
 36 record leader 0 epoch 0 isr 0,1 version 5
 38 record leader 0 epoch 1 isr 0,1 version 6
@@ -541,7 +542,7 @@ status 1
 status 1
 """,
     "run stopped_node.script": "2 F28 Down\n" + opening(2, first=3) + """6 at 0
-7 sent 0 asks from 0
+7 sent 0 asks from 0 no epoch
 8 sent 1 batches 1 mark 0
 10 stopped
 11 F28 Down
@@ -549,34 +550,34 @@ status 1
 13 life 1 end 0 mark 0
 14 F29 StaleAnswer
 15 F15 NotLeader
-16 follows 0 epoch 0 fetching
+16 follows 0 epoch 0
 17 end 1 mark 0
-18 sent 2 asks from 1
+18 sent 2 asks from 1 epoch 0
 20 stopped
 """ + "".join(f"{line} F28 Down\n" for line in range(21, 38)) + """39 record leader 0 epoch 1 isr 0,1 version 2
-40 follows 0 epoch 1 reconciling
-41 sent 3 asks epoch 0
+40 follows 0 epoch 1
+41 sent 3 asks from 1 epoch 0
 42 F28 Down
 43 life 1 end 1 mark 0
 44 F28 Down
 45 F15 NotLeader
 46 leads epoch 1 from 1
-47 sent 4 epoch 0 end 1
+47 sent 4 batches 0 mark 0
 48 stopped
 49 F28 Down
 50 life 2 end 1 mark 0
-51 F22 StaleRecord
+51 F29 StaleAnswer
 52 F29 StaleAnswer
 53 F17 FencedLeaderEpoch
-54 mark 0
+54 mark 1
 status 1
 """,
     "run committed_batch_survives.script": opening(2) + """5 at 0
 6 checkpoint 0
-7 sent 0 asks from 0
+7 sent 0 asks from 0 no epoch
 8 sent 1 batches 1 mark 0
 9 end 1 mark 0
-10 sent 2 asks from 1
+10 sent 2 asks from 1 epoch 0
 11 sent 3 batches 0 mark 0
 12 mark 1
 13 at 1
@@ -588,14 +589,14 @@ status 1
 21 record leader 1 epoch 1 isr 0,1 version 2
 22 leads epoch 1 from 1
 23 at 1
-24 follows 1 epoch 1 reconciling
-25 sent 4 asks epoch 0
-26 sent 5 epoch 0 end 1
-27 cut 1 done
-28 sent 6 asks from 1
+24 follows 1 epoch 1
+25 sent 4 asks from 2 epoch 0
+26 sent 5 diverges epoch 0 end 1
+27 cut 1
+28 sent 6 asks from 1 epoch 0
 29 sent 7 batches 1 mark 0
 30 end 2 mark 0
-31 sent 8 asks from 2
+31 sent 8 asks from 2 epoch 1
 32 sent 9 batches 0 mark 0
 33 mark 2
 34 end 2 mark 0
@@ -631,7 +632,7 @@ status 0
 25 read 1 2=62
 status 1
 """,
-    "run leads_again_in_the_same_epoch.script": FETCHED + """9 sent 2 asks from 1
+    "run leads_again_in_the_same_epoch.script": FETCHED + """9 sent 2 asks from 1 epoch 0
 10 sent 3 batches 0 mark 0
 11 mark 1
 12 at 1
@@ -645,7 +646,7 @@ status 1
 22 F23 NotCaughtUp
 23 mark 1
 24 end 3 mark 0
-25 sent 5 asks from 3
+25 sent 5 asks from 3 epoch 0
 26 sent 6 batches 0 mark 1
 27 record leader 0 epoch 0 isr 0,1 version 2
 28 mark 3
@@ -659,20 +660,103 @@ status 1
 37 F21 NotInSync
 status 1
 """,
-    "run fetch_answer_of_an_earlier_life.script": FETCHED + """9 sent 2 asks from 1
+    "run fetch_answer_of_an_earlier_life.script": FETCHED + """9 sent 2 asks from 1 epoch 0
 10 at 1
 11 sent 3 batches 1 mark 0
 13 stopped
 14 life 1 end 1 mark 0
 15 F29 StaleAnswer
-16 follows 0 epoch 0 reconciling
-17 F29 StaleAnswer
-18 sent 4 asks epoch 0
-19 sent 5 epoch 0 end 2
-20 cut 1 done
+16 follows 0 epoch 0
+17 end 2 mark 0
+18 sent 4 asks from 2 epoch 0
+19 sent 5 batches 0 mark 0
+20 end 2 mark 0
+21 end 2 mark 0
+22 F29 StaleAnswer
+23 mark 2
+status 1
+""",
+    "run diverging_answer_of_an_earlier_life.script": ELECTED + """12 follows 1 epoch 1
+13 sent 2 asks from 2 epoch 0
+14 sent 3 diverges epoch 0 end 1
+16 stopped
+17 F28 Down
+18 life 1 end 2 mark 0
+19 F22 StaleRecord
+20 follows 1 epoch 1
 21 F29 StaleAnswer
-22 end 2 mark 0
-23 mark 1
+22 node 0 life 1 end 2 mark 0 stable 0
+23 sent 4 asks from 2 epoch 0
+24 sent 5 diverges epoch 0 end 1
+25 cut 1
+26 F29 StaleAnswer
+27 F29 StaleAnswer
+28 node 0 life 1 end 1 mark 0 stable 0
+30 at 1
+31 sent 6 asks from 1 epoch 0
+32 sent 7 batches 1 mark 0
+33 end 2 mark 0
+34 F29 StaleAnswer
+35 node 0 life 1 end 2 mark 0 stable 0
+status 1
+""",
+    "run diverging_request_comes_again.script": ELECTED + """12 follows 1 epoch 1
+13 sent 2 asks from 2 epoch 0
+14 at 1
+15 at 2
+17 sent 3 diverges epoch 0 end 1
+18 mark 0
+19 cut 1
+20 sent 4 asks from 1 epoch 0
+21 sent 5 batches 2 mark 0
+23 sent 6 diverges epoch 0 end 1
+24 mark 1
+25 F29 StaleAnswer
+26 end 3 mark 0
+27 sent 7 asks from 3 epoch 1
+28 sent 8 batches 0 mark 1
+30 sent 9 diverges epoch 0 end 1
+31 sent 10 batches 2 mark 1
+32 mark 3
+33 end 3 mark 1
+34 F29 StaleAnswer
+35 F29 StaleAnswer
+36 read 3 0=61 1=63 2=64
+status 1
+""",
+    "run cut_at_the_smaller_end.script": ELECTED + """12 at 1
+13 record leader 0 epoch 2 isr 0,1 version 3
+14 leads epoch 2 from 2
+15 record leader 0 epoch 2 isr 0 version 4
+16 mark 2
+17 follows 0 epoch 2
+19 sent 2 asks from 2 epoch 1
+20 sent 3 diverges epoch 0 end 2
+21 cut 1
+22 node 1 life 0 end 1 mark 0 stable 0
+23 sent 4 asks from 1 epoch 0
+24 sent 5 batches 1 mark 2
+25 end 2 mark 2
+26 read 2 0=61 1=62
+status 0
+""",
+    "run nothing_in_common.script": """2 record leader 0 epoch 0 isr 0,1 version 1
+3 leads epoch 0 from 0
+4 at 0
+5 record leader 1 epoch 1 isr 0,1 version 2
+6 leads epoch 1 from 0
+7 at 0
+8 follows 1 epoch 1
+10 sent 0 asks from 1 epoch 0
+11 sent 1 diverges no epoch
+12 mark 0
+13 cut 0
+14 F29 StaleAnswer
+15 sent 2 asks from 0 no epoch
+16 sent 3 batches 1 mark 0
+17 end 2 mark 0
+18 F29 StaleAnswer
+19 node 0 life 0 end 2 mark 0 stable 0
 status 1
 """,
 }
