@@ -151,14 +151,16 @@ class Cluster(Script):
         self.logs[node].fetch(self.logs[leader], self.most)
 
     def reconcile(self, node, leader):
-        """The node takes back what its leader lacks. Each has batches of the epoch in which they last agreed."""
-        own, done = self.logs[node], False
-        while not done:
-            yield from self.ask(node)
+        """The node takes back what its leader lacks, until the leader has all of its log. Each has batches of the epoch in which
+        they last agreed."""
+        own = self.logs[node]
+        while True:
             epoch, end = self.logs[leader].end_for(own.epochs[-1])
+            if epoch == own.epochs[-1] and own.end <= end:
+                return
+            yield from self.ask(node)
             own_epoch, own_end = own.end_for(epoch)
-            done = own_epoch == epoch
-            own.truncate(min(end, own_end) if done else own_end)
+            own.truncate(min(end, own_end) if own_epoch == epoch else own_end)
 
     def catch_up(self, node, leader):
         while self.logs[node].end < self.logs[leader].end:
