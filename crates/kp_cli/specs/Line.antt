@@ -50,16 +50,13 @@ race_rule name least greatest = record (new_rule name) {
   required = true;
 }
 
+-- `race --nodes N --producers P`, and what it is told besides
+abbrev pub racers_app : App
+racers_app = with_rule (with_rule (new_app (codes "race")) (race_rule (codes "nodes") 1 7)) (race_rule (codes "producers") 1 8)
+
 -- `race --nodes N --producers P --batches B --moves M`
 abbrev pub race_app : App
-race_app =
-    with_rule
-    (with_rule
-    (with_rule
-    (with_rule (new_app (codes "race")) (race_rule (codes "nodes") 1 7))
-    (race_rule (codes "producers") 1 8))
-    (race_rule (codes "batches") 0 10000))
-    (race_rule (codes "moves") 0 1000)
+race_app = with_rule (with_rule racers_app (race_rule (codes "batches") 0 10000)) (race_rule (codes "moves") 0 1000)
 
 -- `kpart`, of which a subcommand has to be used; it can be asked for its version
 abbrev pub kpart_app : App

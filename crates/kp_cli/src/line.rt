@@ -5,10 +5,10 @@ ghost use Rattle.std.specs.Prelude.{map, string_bytes, true};
 ghost use Rattle.std.specs.Option.{option_map};
 ghost use Rattle.std.specs.Str.Parse.{IsNumeral, digits_value, without_leading_plus};
 ghost use Rattle.clap.specs.Words.{FailsBy, app_of, fault_of, first_of, found_of, one_of, rows_of, rule_of};
-ghost use Rattle.clap.specs.Words.{subcommand_of, subcommand_rows_of, with_rule};
+ghost use Rattle.clap.specs.Words.{subcommand_of, subcommand_rows_of, with_rule, with_subcommand};
 ghost use Rattle.clap.specs.declared.builder.command.Command.TheViews.{out-Command};
 ghost use Rattle.kp_cli.specs.Line.{IsCallOf, IsRaceOf, NamesCall, NamesRace, file_rule, inspect_app, interval_rule, keep_rule, kpart, kpart_reading};
-ghost use Rattle.kp_cli.specs.Line.{race_app, race_rule, run_app, segment_rule};
+ghost use Rattle.kp_cli.specs.Line.{kpart_app, race_app, race_rule, racers_app, run_app, segment_rule};
 
 use crate::Call;
 use clap::builder::ValueParser;
@@ -97,67 +97,84 @@ fn number_argument<'a>(
         .help(help)
 }
 
-fn run_command<'a>(alloc: Global) -> Result<Command<'a>, AllocError>
-    ensures { IfOk result (λ command. (app_of command ≡ run_app)
-        × ((out-Command command).has_globals ≡ false)) }
-{
-    let command = Command::new(alloc, "run")
-        .about("Runs a script and prints its trace")
-        .arg(file_argument(alloc, "the script to run"))?
-        .arg(keep_argument(alloc))?;
-    Ok(command)
-}
-
-fn inspect_command<'a>(alloc: Global) -> Result<Command<'a>, AllocError>
-    ensures { IfOk result (λ command. (app_of command ≡ inspect_app)
-        × ((out-Command command).has_globals ≡ false)) }
-{
-    let command = Command::new(alloc, "inspect")
-        .about("Reads a log and prints its batches, segments and tables")
-        .arg(file_argument(alloc, "the log to read"))?
-        .arg(segment_argument(alloc))?
-        .arg(interval_argument(alloc))?;
-    Ok(command)
-}
-
 /// The command with one more argument, which is none of its subcommands'.
 fn with_argument<'a>(command: Command<'a>, argument: Arg<'a>) -> Result<Command<'a>, AllocError>
     requires { argument.global ≡ false }
     ensures rule { IfOk result (λ made. app_of made ≡ with_rule (app_of command.entry) (rule_of argument.entry)) }
     ensures local { IfOk result (λ made. (out-Command command.entry).has_globals ≡ false → (out-Command made).has_globals ≡ false) }
 {
-    let made = command.arg(argument)?;
-    Ok(made)
+    command.arg(argument)
+}
+
+fn run_command<'a>(alloc: Global) -> Result<Command<'a>, AllocError>
+    ensures { IfOk result (λ command. (app_of command ≡ run_app)
+        × ((out-Command command).has_globals ≡ false)) }
+{
+    let command = Command::new(alloc, "run").about("Runs a script and prints its trace");
+    let command = with_argument(command, file_argument(alloc, "the script to run"))?;
+    with_argument(command, keep_argument(alloc))
+}
+
+fn inspect_command<'a>(alloc: Global) -> Result<Command<'a>, AllocError>
+    ensures { IfOk result (λ command. (app_of command ≡ inspect_app)
+        × ((out-Command command).has_globals ≡ false)) }
+{
+    let command = Command::new(alloc, "inspect").about(
+        "Reads a log and prints its batches, segments and tables",
+    );
+    let command = with_argument(command, file_argument(alloc, "the log to read"))?;
+    let command = with_argument(command, segment_argument(alloc))?;
+    with_argument(command, interval_argument(alloc))
+}
+
+/// What a race is told of who takes part: `race --nodes N --producers P`.
+fn racers_command<'a>(alloc: Global) -> Result<Command<'a>, AllocError>
+    ensures { IfOk result (λ command. (app_of command ≡ racers_app)
+        × ((out-Command command).has_globals ≡ false)) }
+{
+    let nodes = "how many nodes, from 1 to 7";
+    let producers = "how many producers, from 1 to 8";
+    let command = Command::new(alloc, "race").about(
+        "Runs nodes, producers and elections in threads, and prints whether all nodes agree",
+    );
+    let nodes = number_argument(alloc, "nodes", "N", 1, MOST_RACE_NODES, nodes);
+    let command = with_argument(command, nodes)?;
+    let producers = number_argument(alloc, "producers", "P", 1, MOST_PRODUCERS, producers);
+    with_argument(command, producers)
 }
 
 fn race_command<'a>(alloc: Global) -> Result<Command<'a>, AllocError>
     ensures { IfOk result (λ command. (app_of command ≡ race_app)
         × ((out-Command command).has_globals ≡ false)) }
 {
-    let nodes = "how many nodes, from 1 to 7";
-    let producers = "how many producers, from 1 to 8";
     let batches = "how many batches of one record by each producer, from 0 to 10000";
     let moves = "how many elections meanwhile, from 0 to 1000";
-    let command = Command::new(alloc, "race").about(
-        "Runs nodes, producers and elections in threads, and prints whether all nodes agree",
-    );
-    let command = with_argument(
-        command,
-        number_argument(alloc, "nodes", "N", 1, MOST_RACE_NODES, nodes),
-    )?;
-    let command = with_argument(
-        command,
-        number_argument(alloc, "producers", "P", 1, MOST_PRODUCERS, producers),
-    )?;
-    let command = with_argument(
-        command,
-        number_argument(alloc, "batches", "B", 0, MOST_BATCHES, batches),
-    )?;
-    let command = with_argument(
-        command,
-        number_argument(alloc, "moves", "M", 0, MOST_MOVES, moves),
-    )?;
-    Ok(command)
+    let command = racers_command(alloc)?;
+    let batches = number_argument(alloc, "batches", "B", 0, MOST_BATCHES, batches);
+    let command = with_argument(command, batches)?;
+    let moves = number_argument(alloc, "moves", "M", 0, MOST_MOVES, moves);
+    with_argument(command, moves)
+}
+
+/// The command with one more subcommand.
+fn add_subcommand<'a>(
+    command: Command<'a>,
+    subcommand: Command<'a>,
+) -> Result<Command<'a>, AllocError>
+    requires { (out-Command subcommand).has_globals ≡ false }
+    ensures { IfOk result (λ made. app_of made ≡ with_subcommand (app_of command.entry) (app_of subcommand.entry).top) }
+{
+    command.subcommand(subcommand)
+}
+
+/// The program, with no subcommand yet.
+fn program<'a>(alloc: Global) -> Command<'a>
+    ensures { app_of result ≡ kpart_app }
+{
+    Command::new(alloc, "kpart")
+        .about("A replicated partition log with Kafka's replication rules")
+        .version(VERSION)
+        .subcommand_required(true)
 }
 
 /// What reads a file.
@@ -165,14 +182,9 @@ fn reading_command<'a>(alloc: Global) -> Result<Command<'a>, AllocError>
     ensures { IfOk result (λ command. app_of command ≡ kpart_reading) }
 {
     let run = run_command(alloc)?;
+    let reading = add_subcommand(program(alloc), run)?;
     let inspect = inspect_command(alloc)?;
-    let command = Command::new(alloc, "kpart")
-        .about("A replicated partition log with Kafka's replication rules")
-        .version(VERSION)
-        .subcommand_required(true)
-        .subcommand(run)?
-        .subcommand(inspect)?;
-    Ok(command)
+    add_subcommand(reading, inspect)
 }
 
 fn whole_command<'a>(alloc: Global) -> Result<Command<'a>, AllocError>
@@ -180,8 +192,7 @@ fn whole_command<'a>(alloc: Global) -> Result<Command<'a>, AllocError>
 {
     let race = race_command(alloc)?;
     let reading = reading_command(alloc)?;
-    let command = reading.subcommand(race)?;
-    Ok(command)
+    add_subcommand(reading, race)
 }
 
 /// The matches that clap has for `words`, of which the first is the program's name.
