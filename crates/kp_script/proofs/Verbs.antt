@@ -1,6 +1,6 @@
 -- Calls by their verbs: no two verbs have one text, and none has a space.
 use Rattle.std.proofs.Common.{◌≡◌, ◌≢◌, ℕ, ◌<◌, Bool, true, not, eqb, List, [], ◌∷◌, ◌++◌, MatchBool, refl, sym, ◌∙◌, subst, codes}
-use Rattle.std.specs.Prelude.{bytes_eq, IfNone, IfSome, None, Option, Some}
+use Rattle.std.specs.Prelude.{bytes_eq, IfSome, None, Option, Some}
 use Rattle.std.specs.Fmt.{decimal}
 use Rattle.std.specs.List.{list_all}
 use Rattle.std.proofs.lemmas.Bool.{and_parts, eqb-false, not-true}
@@ -9,7 +9,7 @@ use Rattle.kp_replica.specs.declared.act.PlainAct.{PlainAct}
 use Rattle.kp_replica.specs.declared.act.PlainAct.TheVariants.{Adopt, Mark, Ask, Raise, Alter, Checkpoint, Stop, Restart, Show, Read, Committed}
 use Rattle.kp_replica.specs.declared.altering.IsrChange.TheVariants.{Join, Leave}
 use Rattle.kp_script.specs.Call.{Call, Sender, Elect, Append, Raw, Acts, Deliver, IsCallInRange, SpellsNoCall, verb_text, fields_text}
-use Rattle.kp_script.specs.Read.{Lacks, AreFields, AreNoFields, IsNoNodeVerb}
+use Rattle.kp_script.specs.Read.{Lacks, AreFields, AreNoFields, IsNoLongVerb, IsNoNodeVerb}
 use Rattle.kp_script.specs.Seen.{seen_call}
 use Rattle.kp_script.specs.declared.call.Call.{Call as ParsedCall}
 use Rattle.kp_script.proofs.Splitting.{one_parting}
@@ -85,17 +85,6 @@ no_call count line verb bytes parted lacks none call is e =
     let parts = one_parting 32 verb (verb_text call) bytes (fields_text call) lacks (verb_lacks call) (sym parted ∙ e) in
     none call is.range parts.0 parts.1
 
--- The text is no verb of a call that has more, or other, fields than a node.
-pub record IsNoLongVerb (text : List ℕ) : Type 0 where
-  pub append : text ≢ codes "append"
-  pub raw : text ≢ codes "raw"
-  pub mark : text ≢ codes "mark"
-  pub join : text ≢ codes "join"
-  pub leave : text ≢ codes "leave"
-  pub deliver : text ≢ codes "deliver"
-  pub read : text ≢ codes "read"
-  pub committed : text ≢ codes "committed"
-
 -- A call of such a verb names a node that there is, and it is all that its fields say.
 pub record NamesNode (count : ℕ) (call : Call) : Type 0 where
   pub node : ℕ
@@ -140,6 +129,5 @@ pub found_with : (o : Option ParsedCall) (count node : ℕ) (verb bytes : List �
 found_with None count node verb bytes is within h = tt
 found_with (Some call) count node verb bytes is within h = subst (λ (xs : List ℕ). AreFields count verb xs (seen_call call)) (sym is) (h count within)
 
-pub none_with : (o : Option ParsedCall) (count : ℕ) (verb bytes : List ℕ) → IsNoLongVerb verb → IfNone o (IsNoNodeVerb verb) → IfNone o (AreNoFields count verb bytes)
-none_with None count verb bytes none h = λ call range v e. no_verb verb none h call v
-none_with (Some call) count verb bytes none h = tt
+pub no_fields_with : (count : ℕ) (verb bytes : List ℕ) → IsNoLongVerb verb → IsNoNodeVerb verb → AreNoFields count verb bytes
+no_fields_with count verb bytes none other = λ call range v e. no_verb verb none other call v

@@ -37,6 +37,17 @@ AreFields count verb bytes call = IsCallInRange count call × (verb ≡ verb_tex
 abbrev pub AreNoFields : (count : ℕ) → (verb bytes : List ℕ) → Type 0
 AreNoFields count verb bytes = (call : Call) → IsCallInRange count call → verb ≡ verb_text call → bytes ≢ fields_text call
 
+-- No call that has more, or other, fields than a node has this verb.
+pub record IsNoLongVerb (verb : List ℕ) : Type 0 where
+  pub append : verb ≢ codes "append"
+  pub raw : verb ≢ codes "raw"
+  pub mark : verb ≢ codes "mark"
+  pub join : verb ≢ codes "join"
+  pub leave : verb ≢ codes "leave"
+  pub deliver : verb ≢ codes "deliver"
+  pub read : verb ≢ codes "read"
+  pub committed : verb ≢ codes "committed"
+
 -- No call that names a node and nothing else has this verb.
 pub record IsNoNodeVerb (verb : List ℕ) : Type 0 where
   pub elect : verb ≢ codes "elect"

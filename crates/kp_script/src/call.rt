@@ -1,9 +1,9 @@
 //! The header and the calls, and the readers of their lines.
 
-ghost use Rattle.std.specs.Prelude.{◌≡◌, ℕ, ◌<◌, IfSome, IfNone};
+ghost use Rattle.std.specs.Prelude.{◌≡◌, ◌≢◌, ℕ, ◌<◌, codes, IfSome, IfNone};
 ghost use Rattle.std.specs.Fmt.{decimal};
 ghost use Rattle.kp_script.specs.Call.{IsHeaderText, IsCallText, SpellsNoHeader, SpellsNoCall, HasOneCall};
-ghost use Rattle.kp_script.specs.Read.{AreFields, AreNoFields, IsNoNodeVerb};
+ghost use Rattle.kp_script.specs.Read.{AreFields, AreNoFields, IsNoLongVerb, IsNoNodeVerb};
 ghost use Rattle.kp_script.specs.Seen.{seen_header, seen_call};
 
 use crate::fields::{append_of, mark_of, node_and_offset_of, node_of, raw_of, two_nodes_of};
@@ -124,26 +124,14 @@ pub fn header_of(line: &[u8]) -> Option<Header>
     })
 }
 
-/// The call of this verb that names a node and nothing else.
-fn node_call<'a>(verb: &[u8], node: NodeId) -> Option<Call<'a>>
+/// The call of this verb by which a node stops, starts again, or notes where to start from.
+#[inline(always)]
+fn life_call<'a>(verb: &[u8], node: NodeId) -> Option<Call<'a>>
     ensures found { IfSome result (λ call. (count : ℕ) → node < count
         → AreFields count verb.now (decimal node) (seen_call call)) }
-    ensures none { IfNone result (IsNoNodeVerb verb.now) }
+    ensures none { IfNone result ((verb.now ≢ codes "checkpoint") × (verb.now ≢ codes "stop") × (verb.now ≢ codes "restart")) }
 {
     match verb {
-        b"elect" => Some(Call::Elect { node }),
-        b"adopt" => Some(Call::Acts {
-            node,
-            act: PlainAct::Adopt,
-        }),
-        b"ask" => Some(Call::Acts {
-            node,
-            act: PlainAct::Ask,
-        }),
-        b"raise" => Some(Call::Acts {
-            node,
-            act: PlainAct::Raise,
-        }),
         b"checkpoint" => Some(Call::Acts {
             node,
             act: PlainAct::Checkpoint,
@@ -156,24 +144,71 @@ fn node_call<'a>(verb: &[u8], node: NodeId) -> Option<Call<'a>>
             node,
             act: PlainAct::Restart,
         }),
-        b"show" => Some(Call::Acts {
-            node,
-            act: PlainAct::Show,
-        }),
         _ => None,
     }
 }
 
-/// The call that this verb and the whole of these fields spell, where there are so many nodes.
+/// The call of this verb by which a node is elected, takes up the record or raises its high watermark; or [`life_call`].
 #[inline(always)]
-fn call_with<'a>(verb: &[u8], fields: &'a [u8], count: NodeId) -> Option<Call<'a>>
-    ensures found { IfSome result (λ call. AreFields count verb.now fields.now (seen_call call)) }
-    ensures none { IfNone result (AreNoFields count verb.now fields.now) }
+fn lead_call<'a>(verb: &[u8], node: NodeId) -> Option<Call<'a>>
+    ensures found { IfSome result (λ call. (count : ℕ) → node < count
+        → AreFields count verb.now (decimal node) (seen_call call)) }
+    ensures none { IfNone result ((verb.now ≢ codes "elect") × (verb.now ≢ codes "adopt") × (verb.now ≢ codes "raise")
+        × (verb.now ≢ codes "checkpoint") × (verb.now ≢ codes "stop") × (verb.now ≢ codes "restart")) }
 {
     match verb {
-        b"append" => append_of(fields, count),
-        b"raw" => raw_of(fields, count),
-        b"mark" => mark_of(fields, count),
+        b"elect" => Some(Call::Elect { node }),
+        b"adopt" => Some(Call::Acts {
+            node,
+            act: PlainAct::Adopt,
+        }),
+        b"raise" => Some(Call::Acts {
+            node,
+            act: PlainAct::Raise,
+        }),
+        _ => life_call(verb, node),
+    }
+}
+
+/// The call of this verb that names a node and nothing else.
+fn node_call<'a>(verb: &[u8], node: NodeId) -> Option<Call<'a>>
+    ensures found { IfSome result (λ call. (count : ℕ) → node < count
+        → AreFields count verb.now (decimal node) (seen_call call)) }
+    ensures none { IfNone result (IsNoNodeVerb verb.now) }
+{
+    match verb {
+        b"ask" => Some(Call::Acts {
+            node,
+            act: PlainAct::Ask,
+        }),
+        b"show" => Some(Call::Acts {
+            node,
+            act: PlainAct::Show,
+        }),
+        _ => lead_call(verb, node),
+    }
+}
+
+/// The call of this verb whose fields are a node alone, the whole of these.
+#[inline(always)]
+fn named_call<'a>(verb: &[u8], fields: &'a [u8], count: NodeId) -> Option<Call<'a>>
+    ensures found { IfSome result (λ call. AreFields count verb.now fields.now (seen_call call)) }
+    ensures none { IfNone result (IsNoLongVerb verb.now → AreNoFields count verb.now fields.now) }
+{
+    match node_of(fields, count) {
+        Some(node) => node_call(verb, node),
+        None => None,
+    }
+}
+
+/// The call of this verb whose fields are numbers, the whole of these.
+#[inline(always)]
+fn numbers_call<'a>(verb: &[u8], fields: &'a [u8], count: NodeId) -> Option<Call<'a>>
+    ensures found { IfSome result (λ call. AreFields count verb.now fields.now (seen_call call)) }
+    ensures none { IfNone result (verb.now ≢ codes "append" → verb.now ≢ codes "raw" → verb.now ≢ codes "mark"
+        → AreNoFields count verb.now fields.now) }
+{
+    match verb {
         b"join" => two_nodes_of(fields, count).map(|(node, member)| {
             let change = IsrChange::Join(member);
             Call::Acts {
@@ -199,10 +234,21 @@ fn call_with<'a>(verb: &[u8], fields: &'a [u8], count: NodeId) -> Option<Call<'a
         b"deliver" => number_below(fields, GREATEST_MESSAGE + 1).map(|number| Call::Deliver {
             number,
         }),
-        _ => match node_of(fields, count) {
-            Some(node) => node_call(verb, node),
-            None => None,
-        },
+        _ => named_call(verb, fields, count),
+    }
+}
+
+/// The call that this verb and the whole of these fields spell, where there are so many nodes.
+#[inline(always)]
+fn call_with<'a>(verb: &[u8], fields: &'a [u8], count: NodeId) -> Option<Call<'a>>
+    ensures found { IfSome result (λ call. AreFields count verb.now fields.now (seen_call call)) }
+    ensures none { IfNone result (AreNoFields count verb.now fields.now) }
+{
+    match verb {
+        b"append" => append_of(fields, count),
+        b"raw" => raw_of(fields, count),
+        b"mark" => mark_of(fields, count),
+        _ => numbers_call(verb, fields, count),
     }
 }
 
