@@ -1,8 +1,8 @@
 """The tests of kp_tests, and what may come of each where a growth of memory is refused to it (tools/refuse tests).
 
 The test program lists its tests by `--list`, and runs the one that its first word names. A test that ends as it should says so, and its
-status is 0. Else its words stand on standard error, and it ends by SIGABRT: `is` of crates/kp_tests/src/shown.rt says `F33 Memory in
-place of ..`, and an assertion of two values what was found and what is wanted.
+status is 0. Else its words stand on standard error, and it ends by SIGABRT: of crates/kp_tests/src/shown.rt `is` says `F33 Memory in
+place of ..`, and `unrefused` `F33 Memory`; an assertion of two values says what was found and what is wanted.
 """
 import re
 import signal
@@ -27,29 +27,11 @@ def found(left):
     return r"assertion `left == right` failed(: [^`]*)?\n  left: " + left + r"\n right: .*\n"
 
 
-# What else a test may say, in words that a wrong answer could have, too. A board, a race, a clap error: their words don't tell which
-# refusal it was. A device of memory fails as a device. The first turns of a test of seats may be refused, which nothing tells, and a
-# world that stops tells what came before.
-NO_BOARD, NO_RACE, OTHER_TEXT = "no board\n", "a refused race\n", found('".*"')
+# What else a test may say, in words that a wrong answer could have, too: a worker tells nobody that its step was refused. The steps
+# behind it then don't come, nor the sends that are counted.
 OWN = {
-    "board_tests::elections_add_up": NO_BOARD,
-    "board_tests::one_looks_while_another_elects": NO_BOARD,
-    "cli_tests::a_failed_complaint_keeps_the_status": found(r"\(\[\], [01], [12]\)"),
-    "cli_tests::a_mistake_is_named": found(r"Ok\(\(false, true, 2\)\)"),
-    "cli_tests::help_has_the_texts": found(r"Ok\(\(false, true, 2\)\)"),
-    "cluster_tests::all_nodes_agree": NO_RACE,
     "cluster_tests::gate_two_nodes": found(r"Ok\(false\)"),
-    "device_tests::interrupted_calls_are_tried_again": "F32 Device\n",
-    "device_tests::short_writes_go_on_and_failed_ones_are_counted": found(r"\(\[.*\], (Ok\(\(\)\)|Err\(Device\)), [01]\)"),
-    "node_tests::receipts_name_what_stands": OTHER_TEXT,
-    "seat_tests::a_cut_is_shown": OTHER_TEXT,
-    "seat_tests::a_cut_of_an_older_record_is_refused": OTHER_TEXT,
-    "seat_tests::a_message_comes_twice": OTHER_TEXT,
-    "seat_tests::an_answer_of_an_earlier_life_cuts_nothing": OTHER_TEXT,
-    "worker_tests::all_nodes_agree_by_chance": NO_RACE,
-    "worker_tests::nodes_restart_around_their_steps": NO_RACE,
     "worker_tests::refused_threads_and_sends_leave_what_stops": found(r"Ok\(Ended \{ .* \}\)"),
-    "worker_tests::three_nodes_acknowledge_batches": NO_RACE,
 }
 # Tests of workers end once these are told so, for which there has to be memory again; so of them one growth at a time is refused. Nor
 # could words then tell nodes that disagree from nodes that do nothing.

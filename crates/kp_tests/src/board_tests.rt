@@ -2,6 +2,7 @@
 
 ghost use Rattle.std.specs.Prelude.{◌≡◌, ◌≤◌};
 
+use crate::shown::unrefused;
 use kp_board::{Board, BoardName, Opened};
 use kp_types::{NodeId, Refusal};
 use std::alloc::Global;
@@ -61,9 +62,7 @@ fn elect_by_two<B: BoardName + Send + Sync>(
 fn elections_add_up(rt: HostRuntime) {
     let alloc = rt.alloc();
     let found = elect_by_two::<Brand>(&rt, alloc, board_of(&rt, alloc, 2));
-    let Ok((elected, version)) = found else {
-        panic!(&rt; "no board");
-    };
+    let (elected, version) = unrefused(&rt, found);
     assert_eq!(rt; elected, version);
     assert!(rt; version >= TRIES);
 }
@@ -86,9 +85,7 @@ fn look_and_elect<B: BoardName + Send + Sync>(
 fn one_looks_while_another_elects(rt: HostRuntime) {
     let alloc = rt.alloc();
     let found = look_and_elect::<Brand>(&rt, alloc, board_of(&rt, alloc, 2));
-    let Ok((elected, seen, version)) = found else {
-        panic!(&rt; "no board");
-    };
+    let (elected, seen, version) = unrefused(&rt, found);
     assert_eq!(rt; (elected, version), (TRIES, TRIES));
     assert!(rt; seen <= TRIES);
 }

@@ -1,9 +1,11 @@
 //! Nodes by threads: workers run at one time, and bring a batch to every node over channels, also over a rough carrier.
 
-ghost use Rattle.std.specs.Prelude.{◌≡◌};
+ghost use Rattle.std.specs.Prelude.{◌≡◌, ◌≤◌, IfOk, vec_len};
+ghost use Rattle.kp_model.specs.World.{most_nodes};
 
 use crate::board_tests::board_of;
 use crate::node_tests::bytes_of;
+use crate::shown::unrefused;
 use kp_board::{Board, BoardName, Opened, Pass};
 use kp_cluster::{Cluster, Gate, Open, start};
 use kp_node::Node;
@@ -31,6 +33,25 @@ const ROUNDS: u32 = 1_000;
 
 pub(crate) type Shared<B> = Arc<Mutex<Node<B>>, Global>;
 
+fn adopt<B: BoardName, R: Wait>(rt: &R, node: &Mutex<Node<B>>) -> Result<(), Refusal> {
+    let adopted = node.lock(rt).adopt();
+    adopted?;
+    Ok(())
+}
+
+// Node 0 is elected, and takes that up.
+fn lead<B: BoardName, R: Wait>(
+    rt: &R,
+    board: &Board<B>,
+    nodes: &Vec<Shared<B>>,
+) -> Result<(), Refusal> {
+    board.elect(&mut board.pass(), 0)?;
+    match nodes.first() {
+        Some(first) => adopt(rt, first),
+        None => Ok(()),
+    }
+}
+
 // A board and its nodes, of which node 0 leads.
 fn led<B: BoardName, R: Wait>(
     rt: &R,
@@ -40,11 +61,48 @@ fn led<B: BoardName, R: Wait>(
     requires { opened ≡ B.table }
 {
     let (board, nodes) = nodes_of::<B>(alloc, opened, &LIMITS)?;
-    board.elect(&mut board.pass(), 0)?;
-    if let Some(first) = nodes.first() {
-        first.lock(rt).adopt()?;
-    }
+    lead(rt, &board, &nodes)?;
     Ok((board, nodes))
+}
+
+// The nodes, shared with their callers.
+pub(crate) fn shares_of<B: BoardName>(
+    alloc: Global,
+    nodes: &Vec<Shared<B>>,
+) -> Result<Vec<Shared<B>>, Refusal> {
+    let mut shares = Vec::new(alloc);
+    for node in nodes {
+        shares.push(Arc::try_clone(node)?)?;
+    }
+    Ok(shares)
+}
+
+// The same of at most seven nodes.
+pub(crate) fn few_shares_of<B: BoardName>(
+    alloc: Global,
+    nodes: &Vec<Shared<B>>,
+) -> Result<Vec<Shared<B>>, Refusal>
+    ensures { IfOk result (λ shares. vec_len shares ≤ most_nodes) }
+{
+    let shares = shares_of(alloc, nodes)?;
+    if shares.len() > 7 {
+        return Err(Refusal::BadCount);
+    }
+    Ok(shares)
+}
+
+// The workers, if all were started; else they are ended.
+fn whole_or_none<B: BoardName, C: Carry<Parcel<B>> + Drop, R: Threads + Wait>(
+    rt: &R,
+    started: Result<Cluster<B, C>, (Cluster<B, C>, Refusal)>,
+) -> Result<Cluster<B, C>, Refusal> {
+    match started {
+        Ok(cluster) => Ok(cluster),
+        Err((cluster, refusal)) => {
+            stop_all(rt, cluster);
+            Err(refusal)
+        }
+    }
 }
 
 // Starts a worker for each of at most seven nodes; none are left where that is refused.
@@ -57,24 +115,26 @@ fn started<
     rt: &R,
     alloc: Global,
     nodes: &Vec<Shared<B>>,
-    carrier: C,
+    carrier: Arc<C, Global>,
     gate: Arc<G, Global>,
 ) -> Result<Cluster<B, C>, Refusal> {
-    let mut shares = Vec::new(alloc);
-    for node in nodes {
-        shares.push(Arc::try_clone(node)?)?;
-    }
-    if shares.len() > 7 {
-        return Err(Refusal::BadCount);
-    }
-    let carrier = Arc::new(alloc, carrier)?;
-    match start(rt, alloc, shares, carrier, gate) {
-        Ok(cluster) => Ok(cluster),
-        Err((cluster, refusal)) => {
-            stop_all(rt, cluster);
-            Err(refusal)
-        }
-    }
+    let shares = few_shares_of(alloc, nodes)?;
+    whole_or_none(rt, start(rt, alloc, shares, carrier, gate))
+}
+
+// Workers of three nodes over plain channels.
+fn over_channels<
+    B: BoardName + Send + Sync + 'static,
+    R: Threads + Wait + Copy + Drop + Send + Sync + 'static,
+    G: Gate + Send + Sync + Drop + 'static,
+>(
+    rt: &R,
+    alloc: Global,
+    nodes: &Vec<Shared<B>>,
+    gate: Arc<G, Global>,
+) -> Result<Cluster<B, Channels<Parcel<B>, R>>, Refusal> {
+    let carrier = Arc::new(alloc, Channels::new(*rt, alloc, 3)?)?;
+    started(rt, alloc, nodes, carrier, gate)
 }
 
 // Holds each step of node 1 until node 2 has had its answer. Counts those that it then let through.
@@ -109,6 +169,40 @@ impl Gate for OneAfterTwo {
     }
 }
 
+fn new_gate(alloc: Global) -> Result<Arc<OneAfterTwo, Global>, Refusal> {
+    let gate = OneAfterTwo {
+        steps_of_two: AtomicU64::new(0),
+        let_through: AtomicU64::new(0),
+    };
+    Ok(Arc::new(alloc, gate)?)
+}
+
+fn turn_both<B: BoardName, C: Carry<Parcel<B>>>(cluster: &Cluster<B, C>) -> Result<(), Refusal> {
+    let one = cluster.turn(1);
+    let two = cluster.turn(2);
+    one?;
+    two
+}
+
+// Whether the gate let node 1 through, where it and node 2 have a turn.
+fn lets_through<
+    B: BoardName + Send + Sync + 'static,
+    R: Threads + Wait + Copy + Drop + Send + Sync + 'static,
+>(
+    rt: &R,
+    alloc: Global,
+    nodes: &Vec<Shared<B>>,
+    gate: &Arc<OneAfterTwo, Global>,
+) -> Result<bool, Refusal> {
+    let own = Arc::try_clone(gate)?;
+    let cluster = over_channels(rt, alloc, nodes, own)?;
+    let turned = turn_both(&cluster);
+    let passed = reaches(&gate.let_through, 1);
+    stop_all(rt, cluster);
+    turned?;
+    Ok(passed)
+}
+
 // Whether node 1 had its turn while node 2 had its own and an answer.
 fn one_after_two<
     B: BoardName + Send + Sync + 'static,
@@ -116,23 +210,9 @@ fn one_after_two<
 >(rt: &R, alloc: Global, opened: Opened) -> Result<bool, Refusal>
     requires { opened ≡ B.table }
 {
+    let gate = new_gate(alloc)?;
     let (_board, nodes) = led::<B, R>(rt, alloc, opened)?;
-    let gate = Arc::new(
-        alloc,
-        OneAfterTwo {
-            steps_of_two: AtomicU64::new(0),
-            let_through: AtomicU64::new(0),
-        },
-    )?;
-    let carrier = Channels::new(*rt, alloc, 3)?;
-    let cluster = started(rt, alloc, &nodes, carrier, Arc::try_clone(&gate)?)?;
-    let one = cluster.turn(1);
-    let two = cluster.turn(2);
-    let passed = reaches(&gate.let_through, 1);
-    stop_all(rt, cluster);
-    one?;
-    two?;
-    Ok(passed)
+    lets_through(rt, alloc, &nodes, &gate)
 }
 
 #[test]
@@ -179,6 +259,72 @@ fn turn_until<B: BoardName, R: Wait, C: Carry<Parcel<B>>>(
     Ok(false)
 }
 
+// Channels between three places, that count into `waiting`.
+type Counting<B, R> = Watched<Channels<Parcel<B>, R>>;
+
+fn counting_channels<B: BoardName, R: Wait + Copy + Drop>(
+    rt: &R,
+    alloc: Global,
+    waiting: &Arc<Waiting, Global>,
+) -> Result<Counting<B, R>, Refusal> {
+    let channels = Channels::new(*rt, alloc, 3)?;
+    let shared = Arc::try_clone(waiting)?;
+    Ok(Watched::new(channels, shared))
+}
+
+type Carrier<B, R> = Arc<Rough<B, Counting<B, R>, R>, Global>;
+
+// A carrier over them, by which messages fare so.
+fn carrier_of<B: BoardName, R: Wait + Copy + Drop>(
+    rt: &R,
+    alloc: Global,
+    board: &Arc<Board<B>, Global>,
+    waiting: &Arc<Waiting, Global>,
+    choices: &[Choice],
+) -> Result<Carrier<B, R>, Refusal> {
+    let board = Arc::try_clone(board)?;
+    let choices = Vec::from_slice(alloc, choices)?;
+    let channels = counting_channels(rt, alloc, waiting)?;
+    let carrier = Rough::new(*rt, alloc, board, channels, choices);
+    Ok(Arc::new(alloc, carrier)?)
+}
+
+// Node 0 is handed a batch.
+fn hand_in<B: BoardName, R: Wait>(
+    rt: &R,
+    alloc: Global,
+    nodes: &Vec<Shared<B>>,
+    pass: &mut Pass<B>,
+) -> Result<(), Refusal> {
+    let bytes = bytes_of(alloc, "p10")?;
+    if let Some(first) = nodes.first() {
+        let produced = first.lock(rt).produce(pass, bytes);
+        produced?;
+    }
+    Ok(())
+}
+
+// Whether the batch of node 0 comes to all three nodes, where messages fare so.
+fn comes_to_all<
+    B: BoardName + Send + Sync + 'static,
+    R: Threads + Wait + Copy + Drop + Send + Sync + 'static,
+>(
+    rt: &R,
+    alloc: Global,
+    board: &Arc<Board<B>, Global>,
+    nodes: &Vec<Shared<B>>,
+    pass: &mut Pass<B>,
+    choices: &[Choice],
+) -> Result<bool, Refusal> {
+    let gate = Arc::new(alloc, Open)?;
+    let waiting = Arc::new(alloc, Waiting::new())?;
+    let carrier = carrier_of(rt, alloc, board, &waiting, choices)?;
+    let cluster = started(rt, alloc, nodes, carrier, gate)?;
+    let came = turn_until(rt, &cluster, &*waiting, nodes, pass);
+    stop_all(rt, cluster);
+    came
+}
+
 // Whether a batch that node 0 was handed comes to all three nodes, where messages fare so.
 fn read_back<
     B: BoardName + Send + Sync + 'static,
@@ -188,21 +334,12 @@ fn read_back<
 {
     let (board, nodes) = led::<B, R>(rt, alloc, opened)?;
     let mut pass = board.pass();
-    if let Some(first) = nodes.first() {
-        first.lock(rt).produce(&mut pass, bytes_of(alloc, "p10")?)?;
-    }
-    let waiting = Arc::new(alloc, Waiting::new())?;
-    let watched = Watched::new(Channels::new(*rt, alloc, 3)?, Arc::try_clone(&waiting)?);
-    let choices = Vec::from_slice(alloc, choices)?;
-    let carrier = Rough::new(*rt, alloc, board, watched, choices);
-    let cluster = started(rt, alloc, &nodes, carrier, Arc::new(alloc, Open)?)?;
-    let came = turn_until(rt, &cluster, &*waiting, &nodes, &mut pass);
-    stop_all(rt, cluster);
-    came
+    hand_in(rt, alloc, &nodes, &mut pass)?;
+    comes_to_all(rt, alloc, &board, &nodes, &mut pass, choices)
 }
 
 // Each choice that lets messages come, alone, and all together.
-const FARES: [&[Choice]; 4] = [
+static FARES: [&[Choice]; 4] = [
     &[],
     &[Choice::Twice],
     &[Choice::Hold(1)],
@@ -220,7 +357,7 @@ const FARES: [&[Choice]; 4] = [
 #[test]
 fn a_batch_comes_to_all_nodes(rt: HostRuntime) {
     let alloc = rt.alloc();
-    for choices in FARES {
+    for choices in &FARES {
         let found = read_back::<Brand, HostRuntime>(&rt, alloc, board_of(&rt, alloc, 3), choices);
         assert_eq!(rt; found, Ok(true));
     }
@@ -247,10 +384,7 @@ pub(crate) fn raced_on<
     gate: Arc<G, Global>,
 ) -> Result<Outcome, Refusal> {
     let waiting = Arc::new(alloc, Waiting::new())?;
-    let watched = Watched::new(Channels::new(*rt, alloc, 3)?, Arc::try_clone(&waiting)?);
-    let choices = Vec::from_slice(alloc, choices)?;
-    let carrier = Rough::new(*rt, alloc, Arc::try_clone(board)?, watched, choices);
-    let carrier = Arc::new(alloc, carrier)?;
+    let carrier = carrier_of(rt, alloc, board, &waiting, choices)?;
     run_race(rt, alloc, &**board, nodes, &carrier, &*waiting, gate, &PLAN)
 }
 
@@ -261,8 +395,9 @@ pub(crate) fn raced<
 >(rt: &R, alloc: Global, opened: Opened, choices: &[Choice]) -> Result<Outcome, Refusal>
     requires { opened ≡ B.table }
 {
+    let gate = Arc::new(alloc, Open)?;
     let (board, nodes) = nodes_of::<B>(alloc, opened, &LIMITS)?;
-    raced_on(rt, alloc, &board, &nodes, choices, Arc::new(alloc, Open)?)
+    raced_on(rt, alloc, &board, &nodes, choices, gate)
 }
 
 // They agree, and no more is acknowledged than was handed in, or stands.
@@ -293,9 +428,6 @@ fn all_nodes_agree(rt: HostRuntime) {
     let alloc = rt.alloc();
     for choice in CHOICES {
         let found = raced::<Brand, HostRuntime>(&rt, alloc, board_of(&rt, alloc, 3), &[choice]);
-        let Ok(outcome) = found else {
-            panic!(&rt; "a refused race");
-        };
-        assert!(rt; holds_alone(choice, &outcome));
+        assert!(rt; holds_alone(choice, &unrefused(&rt, found)));
     }
 }

@@ -1,34 +1,37 @@
 //! Refusals as text, devices that fail or write little at once, and the checksum.
 
-use crate::shown::{hex, is};
+use crate::shown::{hex, is, unrefused};
 use kp_crc::crc32c;
 use kp_types::{Counted, Faulty, Refusal};
 use std::alloc::Global;
 use std::io::{self, ErrorKind, Read, Write};
+use std::process::Abort;
 
 fn text_of(alloc: Global, refusal: Refusal) -> Result<String, Refusal> {
     Ok(refusal.to_string(alloc)?)
 }
 
 // Numbers and names of docs/FORMATS.md.
+static NAMES: [(Refusal, &str); 13] = [
+    (Refusal::Truncated, "F1 Truncated"),
+    (Refusal::BadRecord(61), "F8 BadRecord 61"),
+    (Refusal::FencedLeaderEpoch, "F17 FencedLeaderEpoch"),
+    (Refusal::UnknownLeaderEpoch, "F18 UnknownLeaderEpoch"),
+    (Refusal::NotBoundary, "F19 NotBoundary"),
+    (Refusal::BelowSettled, "F20 BelowSettled"),
+    (Refusal::StaleRecord, "F22 StaleRecord"),
+    (Refusal::NotCaughtUp, "F23 NotCaughtUp"),
+    (Refusal::RecordFull, "F24 RecordFull"),
+    (Refusal::Down, "F28 Down"),
+    (Refusal::StaleAnswer, "F29 StaleAnswer"),
+    (Refusal::BadScript(1), "F31 BadScript 1"),
+    (Refusal::Memory, "F33 Memory"),
+];
+
 #[test]
 fn refusals_have_numbers_and_names(rt: HostRuntime) {
-    for (refusal, want) in [
-        (Refusal::Truncated, "F1 Truncated"),
-        (Refusal::BadRecord(61), "F8 BadRecord 61"),
-        (Refusal::FencedLeaderEpoch, "F17 FencedLeaderEpoch"),
-        (Refusal::UnknownLeaderEpoch, "F18 UnknownLeaderEpoch"),
-        (Refusal::NotBoundary, "F19 NotBoundary"),
-        (Refusal::BelowSettled, "F20 BelowSettled"),
-        (Refusal::StaleRecord, "F22 StaleRecord"),
-        (Refusal::NotCaughtUp, "F23 NotCaughtUp"),
-        (Refusal::RecordFull, "F24 RecordFull"),
-        (Refusal::Down, "F28 Down"),
-        (Refusal::StaleAnswer, "F29 StaleAnswer"),
-        (Refusal::BadScript(1), "F31 BadScript 1"),
-        (Refusal::Memory, "F33 Memory"),
-    ] {
-        is(&rt, text_of(rt.alloc(), refusal), want);
+    for (refusal, want) in &NAMES {
+        is(&rt, text_of(rt.alloc(), *refusal), want);
     }
 }
 
@@ -44,14 +47,16 @@ fn read_failing(alloc: Global, fails: u64) -> Result<String, Refusal> {
 }
 
 // The first call reads all there is, and the second finds the end.
+static READS: [(u64, &str); 3] = [
+    (0, "F32 Device 1"),
+    (1, "F32 Device 1"),
+    (2, "68656c6c6f 0"),
+];
+
 #[test]
 fn a_read_fails_where_it_is_told_to(rt: HostRuntime) {
-    for (fails, want) in [
-        (0, "F32 Device 1"),
-        (1, "F32 Device 1"),
-        (2, "68656c6c6f 0"),
-    ] {
-        is(&rt, read_failing(rt.alloc(), fails), want);
+    for (fails, want) in &READS {
+        is(&rt, read_failing(rt.alloc(), *fails), want);
     }
 }
 
@@ -78,31 +83,24 @@ impl Write for Narrow {
 // What is written of `hello`, whether it was refused, and how many calls failed.
 type Out = (Vec<u8>, Result<(), Refusal>, u64);
 
-fn left(alloc: Global, bytes: &[u8], written: Result<(), Refusal>, faults: u64) -> Out {
-    (
-        bytes.to_vec(alloc).unwrap_or(Vec::new(alloc)),
-        written,
-        faults,
-    )
-}
-
-fn write_narrow(alloc: Global, room: usize) -> Out {
-    let narrow = Narrow {
-        bytes: Vec::new(alloc),
-        room,
-    };
-    let mut writer = Counted::new(narrow);
+// Each device has room for all bytes from the start, so that no write fails for want of memory.
+fn write_narrow(alloc: Global, room: usize) -> Result<Out, Refusal> {
+    let bytes = Vec::with_capacity(alloc, 16)?;
+    let mut writer = Counted::new(Narrow { bytes, room });
     let written = writer.write_all(b"hello");
-    left(alloc, &writer.device().bytes, written, writer.faults())
+    let left = writer.device().bytes.as_slice().to_vec(alloc)?;
+    Ok((left, written, writer.faults()))
 }
 
-fn write_failing(alloc: Global, fails: u64) -> Out {
-    let mut writer = Counted::new(Faulty::new(Vec::new(alloc), fails));
+fn write_failing(alloc: Global, fails: u64) -> Result<Out, Refusal> {
+    let mut writer = Counted::new(Faulty::new(Vec::with_capacity(alloc, 16)?, fails));
     let written = writer.write_all(b"hello");
-    left(alloc, &writer.device().bytes, written, writer.faults())
+    let left = writer.device().bytes.as_slice().to_vec(alloc)?;
+    Ok((left, written, writer.faults()))
 }
 
-fn out_is(rt: &impl std::process::Abort, out: &Out, bytes: &[u8], failed: u64) {
+fn out_is(rt: &impl Abort, found: Result<Out, Refusal>, bytes: &[u8], failed: u64) {
+    let out = unrefused(rt, found);
     let refused = if failed == 0 {
         Ok(())
     } else {
@@ -111,20 +109,20 @@ fn out_is(rt: &impl std::process::Abort, out: &Out, bytes: &[u8], failed: u64) {
     assert_eq!(rt; (out.0.as_slice(), out.1, out.2), (bytes, refused, failed));
 }
 
-fn short_ones_go_on(rt: &impl std::process::Abort, alloc: Global) {
+fn short_ones_go_on(rt: &impl Abort, alloc: Global) {
     for (room, bytes, failed) in [
         (9, b"hello".as_slice(), 0),
         (5, b"hello", 0),
         (4, b"hell", 1),
         (0, b"", 1),
     ] {
-        out_is(rt, &write_narrow(alloc, room), bytes, failed);
+        out_is(rt, write_narrow(alloc, room), bytes, failed);
     }
 }
 
-fn failed_ones_are_counted(rt: &impl std::process::Abort, alloc: Global) {
+fn failed_ones_are_counted(rt: &impl Abort, alloc: Global) {
     for (fails, bytes, failed) in [(0, b"".as_slice(), 1), (1, b"hello", 0)] {
-        out_is(rt, &write_failing(alloc, fails), bytes, failed);
+        out_is(rt, write_failing(alloc, fails), bytes, failed);
     }
 }
 
@@ -171,8 +169,11 @@ impl Write for Interrupting {
 
 // What is read of `hello`, what of it is written, and how many calls failed, where calls are interrupted.
 fn interrupted(alloc: Global) -> Result<(Vec<u8>, Vec<u8>, u64), Refusal> {
+    // There is room for what is written, too.
+    let mut bytes = Vec::with_capacity(alloc, 16)?;
+    bytes.extend_from_slice(b"hello")?;
     let mut both = Counted::new(Interrupting {
-        device: Faulty::new(b"hello".to_vec(alloc)?, u64::MAX),
+        device: Faulty::new(bytes, u64::MAX),
         interrupted: false,
     });
     let read = both.read_all(alloc)?;
@@ -183,15 +184,11 @@ fn interrupted(alloc: Global) -> Result<(Vec<u8>, Vec<u8>, u64), Refusal> {
 
 #[test]
 fn interrupted_calls_are_tried_again(rt: HostRuntime) {
-    match interrupted(rt.alloc()) {
-        Ok((read, kept, faults)) => {
-            assert_eq!(rt;
-                (read.as_slice(), kept.as_slice(), faults),
-                (b"hello".as_slice(), b"hellohello".as_slice(), 0)
-            );
-        }
-        Err(refusal) => panic!(rt; "{refusal}"),
-    }
+    let (read, kept, faults) = unrefused(&rt, interrupted(rt.alloc()));
+    assert_eq!(rt;
+        (read.as_slice(), kept.as_slice(), faults),
+        (b"hello".as_slice(), b"hellohello".as_slice(), 0)
+    );
 }
 
 // The check value of CRC-32C.

@@ -3,8 +3,9 @@
 
 use crate::shown::is;
 use kp_epochs::Epochs;
+use kp_model::EpochEnd;
 use kp_types::{Epoch, Offset, Refusal};
-use std::alloc::Global;
+use std::alloc::{AllocError, Global};
 
 // Its batches, by their epochs and base offsets.
 const BATCHES: [(Epoch, Offset); 5] = [(1, 0), (1, 2), (2, 3), (4, 5), (4, 6)];
@@ -17,15 +18,19 @@ fn leader(alloc: Global) -> Result<Epochs, Refusal> {
     Ok(epochs)
 }
 
+fn push_end(text: &mut String, epoch: Epoch, found: Option<EpochEnd>) -> Result<(), AllocError> {
+    match found {
+        Some(found) => write!(text, "{epoch}: {} {}, ", found.epoch, found.end),
+        None => write!(text, "{epoch}: none, "),
+    }
+}
+
 // What it answers for each of these epochs.
 fn ends(alloc: Global, asked: &[Epoch]) -> Result<String, Refusal> {
     let epochs = leader(alloc)?;
     let mut text = String::new(alloc);
     for epoch in asked {
-        match epochs.end_for(*epoch, 7) {
-            Some(found) => write!(text, "{epoch}: {} {}, ", found.epoch, found.end)?,
-            None => write!(text, "{epoch}: none, ")?,
-        }
+        push_end(&mut text, *epoch, epochs.end_for(*epoch, 7))?;
     }
     Ok(text)
 }

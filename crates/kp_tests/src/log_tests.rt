@@ -41,37 +41,53 @@ fn push_places(text: &mut String, log: &PartitionLog, offsets: [u64; 4]) -> Resu
     Ok(())
 }
 
-// The names of the segments of the log of these batches, and what is found in it.
-fn found_in(alloc: Global, words: &str) -> Result<String, Refusal> {
-    let log = log_of(alloc, &SPACED, words)?;
-    let mut text = String::new(alloc);
+fn push_names(text: &mut String, log: &PartitionLog) -> Result<(), AllocError> {
     for name in log.tables().segments().names() {
         write!(text, "{name} ")?;
     }
-    push_places(&mut text, &log, [0, 1, 2, 3])?;
-    push_times(&mut text, &log, [0, 10, 15, 30, 31])?;
+    Ok(())
+}
+
+// The names of the log's segments, and what is found in it.
+fn push_found(text: &mut String, log: &PartitionLog) -> Result<(), AllocError> {
+    push_names(text, log)?;
+    push_places(text, log, [0, 1, 2, 3])?;
+    push_times(text, log, [0, 10, 15, 30, 31])
+}
+
+fn told_of(alloc: Global, log: &PartitionLog) -> Result<String, Refusal> {
+    let mut text = String::new(alloc);
+    push_found(&mut text, log)?;
     Ok(text)
 }
 
+// The same of the log of these batches.
+fn found_in(alloc: Global, words: &str) -> Result<String, Refusal> {
+    let log = log_of(alloc, &SPACED, words)?;
+    told_of(alloc, &log)
+}
+
 // Nothing; times 10, 30 and 20, in one segment and in three.
+static FOUND: [(&str, &str); 3] = [
+    (
+        "",
+        "0 nowhere 1 nowhere 2 nowhere 3 nowhere 0 none 10 none 15 none 30 none 31 none ",
+    ),
+    (
+        "t5.0.0 p30 a5.0.7",
+        "00000000000000000000.log \
+         0 in 0 1 in 1 2 in 2 3 nowhere 0 at 0 10 10 at 0 10 15 at 1 30 30 at 1 30 31 none ",
+    ),
+    (
+        "p10.443 p30.443 p20.443",
+        "00000000000000000000.log 00000000000000000001.log 00000000000000000002.log \
+         0 in 0 1 in 1 2 in 2 3 nowhere 0 at 0 10 10 at 0 10 15 at 1 30 30 at 1 30 31 none ",
+    ),
+];
+
 #[test]
 fn look_ups_find_offsets_and_times(rt: HostRuntime) {
-    for (words, want) in [
-        (
-            "",
-            "0 nowhere 1 nowhere 2 nowhere 3 nowhere 0 none 10 none 15 none 30 none 31 none ",
-        ),
-        (
-            "t5.0.0 p30 a5.0.7",
-            "00000000000000000000.log \
-             0 in 0 1 in 1 2 in 2 3 nowhere 0 at 0 10 10 at 0 10 15 at 1 30 30 at 1 30 31 none ",
-        ),
-        (
-            "p10.443 p30.443 p20.443",
-            "00000000000000000000.log 00000000000000000001.log 00000000000000000002.log \
-             0 in 0 1 in 1 2 in 2 3 nowhere 0 at 0 10 10 at 0 10 15 at 1 30 30 at 1 30 31 none ",
-        ),
-    ] {
+    for (words, want) in &FOUND {
         is(&rt, found_in(rt.alloc(), words), want);
     }
 }
@@ -80,7 +96,7 @@ fn look_ups_find_offsets_and_times(rt: HostRuntime) {
 // 69 and 78 bytes: only in front of the third lie more than 100. An entry's last number is how many batches stand before it, or
 // how many a look-up may pass over. A value of 442 bytes makes a batch of 512: a head of 61, the record's length in 2 (449 is
 // the number 898, 8207) and 449 more, of which 7 are no value. Two such batches fill a segment; one byte more rolls the log.
-const UNDONE: [(Limits, &str, &str, &str); 3] = [
+static UNDONE: [(Limits, &str, &str, &str); 3] = [
     (
         SPACED,
         "t5.0.0 p30",
@@ -106,10 +122,10 @@ const UNDONE: [(Limits, &str, &str, &str); 3] = [
 
 #[test]
 fn a_log_has_the_tables_of_its_batches(rt: HostRuntime) {
-    for (limits, before, last, want) in UNDONE {
+    for (limits, before, last, want) in &UNDONE {
         is(
             &rt,
-            there_and_back(rt.alloc(), &limits, before, last, ""),
+            there_and_back(rt.alloc(), limits, before, last, ""),
             want,
         );
     }

@@ -14,7 +14,7 @@ use kp_marker::{HandedMarker, Kind, Marker};
 use kp_replica::{Act, Answer, PlainAct, Receipt};
 use kp_script::{Call, Line, push_trace};
 use kp_types::{Limits, MAX_BATCH, NodeId, Refusal};
-use kp_world::{Event, EventAnswer, Stopped, Trace, run};
+use kp_world::{Event, EventAnswer, Trace, run};
 use std::alloc::{AllocError, Global};
 
 // The bytes of the batch of a word.
@@ -76,7 +76,8 @@ const LIMITS: Limits = Limits {
     max_batch: MAX_BATCH,
 };
 
-// The answers of a run, also of one that stopped, as the trace of events that name node 5; and the whole of each receipt.
+// The answers of a run, as the trace of events that name node 5, and the whole of each receipt. A run stops where its own lists
+// can't grow.
 fn played(alloc: Global, count: NodeId, events: Vec<Event>) -> Result<String, Refusal>
     requires some { 0 < count }
     requires most { count ≤ 7 }
@@ -84,7 +85,7 @@ fn played(alloc: Global, count: NodeId, events: Vec<Event>) -> Result<String, Re
 {
     match run(alloc, count, &LIMITS, events) {
         Ok(trace) => told_run(alloc, &trace),
-        Err(Stopped { trace, .. }) => told_run(alloc, &trace),
+        Err(_) => Err(Refusal::Memory),
     }
 }
 
@@ -134,9 +135,9 @@ fn markers_have_ranges(rt: HostRuntime) {
 
 // Three records come twice, the second time in the leader's next epoch.
 fn three_twice(alloc: Global) -> Result<String, Refusal> {
+    let marker = HandedMarker::new(MARKER).ok_or(Refusal::BadCount)?;
     let bytes = bytes_of(alloc, "d9.0.0.3")?;
     let again = bytes.share()?;
-    let marker = HandedMarker::new(MARKER).ok_or(Refusal::BadCount)?;
     let events = vec![in alloc;
         Event::Elect { node: 0 },
         acts(0, Act::Plain(PlainAct::Adopt)),

@@ -158,6 +158,16 @@ fn fetch_request(asked: Asked, life: u64) -> FetchRequest {
     }
 }
 
+/// Appends what was sent, and its number.
+pub(crate) fn push_sent(
+    text: &mut String,
+    number: usize,
+    body: &MessageBody,
+) -> Result<(), AllocError> {
+    write!(text, "sent {number} ")?;
+    push_body(text, body)
+}
+
 fn forge(alloc: Global, batches: Batches) -> Result<Vec<Batch>, Refusal> {
     let mut forged = Vec::new(alloc);
     for (base, epoch, word) in batches {
@@ -189,18 +199,24 @@ impl Play {
     }
 
     fn send(&mut self, text: &mut String, body: MessageBody) -> Result<(), Refusal> {
-        write!(text, "sent {} ", self.mail.len())?;
-        push_body(text, &body)?;
+        push_sent(text, self.mail.len(), &body)?;
         Ok(self.mail.push(body)?)
+    }
+
+    fn tell_answer(
+        &mut self,
+        text: &mut String,
+        node: NodeId,
+        answer: &Answer,
+    ) -> Result<(), Refusal> {
+        let broker = broker(&mut self.nodes, node)?;
+        Ok(push_answer(text, broker, answer)?)
     }
 
     // What came of it is carried out, and told.
     fn tell(&mut self, text: &mut String, node: NodeId, effect: Effect) -> Result<(), Refusal> {
         match effect {
-            Effect::Answers(answer) => {
-                let broker = broker(&mut self.nodes, node)?;
-                Ok(push_answer(text, broker, &answer)?)
-            }
+            Effect::Answers(answer) => self.tell_answer(text, node, &answer),
             Effect::Sends(body) => self.send(text, body),
             Effect::Changes(record) => self.change(text, record),
         }
@@ -257,65 +273,100 @@ impl Play {
         node: NodeId,
         change: IsrChange,
     ) -> Result<(), Refusal> {
-        let foreseen = match broker(&mut self.nodes, node)? {
-            Broker::Up(replica) => replica.would_alter(change),
-            Broker::Down(kept) => Err(kept.refusal()),
-        };
-        self.act(alloc, text, node, Act::Plain(PlainAct::Alter { change }))?;
+        let foreseen = self.foreseen(node, change);
+        self.plain(alloc, text, node, PlainAct::Alter { change })?;
         if foreseen? != self.record {
             return Err(Refusal::BadCount);
         }
         Ok(())
     }
 
-    // Makes the call, and appends what it answers.
-    fn answer(&mut self, alloc: Global, text: &mut String, call: &Call) -> Result<(), Refusal> {
+    fn foreseen(&mut self, node: NodeId, change: IsrChange) -> Result<LeaderAndIsr, Refusal> {
+        match broker(&mut self.nodes, node)? {
+            Broker::Up(replica) => replica.would_alter(change),
+            Broker::Down(kept) => Err(kept.refusal()),
+        }
+    }
+
+    fn plain(
+        &mut self,
+        alloc: Global,
+        text: &mut String,
+        node: NodeId,
+        act: PlainAct,
+    ) -> Result<(), Refusal> {
+        self.act(alloc, text, node, Act::Plain(act))
+    }
+
+    fn elect(&mut self, text: &mut String, node: NodeId) -> Result<(), Refusal> {
+        let elected = self.record.elected(node)?;
+        self.change(text, elected)
+    }
+
+    fn append(
+        &mut self,
+        alloc: Global,
+        text: &mut String,
+        node: NodeId,
+        word: &str,
+    ) -> Result<(), Refusal> {
+        let bytes = bytes_of(alloc, word)?;
+        self.act(alloc, text, node, Act::Produce { bytes })
+    }
+
+    fn take(
+        &mut self,
+        alloc: Global,
+        text: &mut String,
+        asked: Asked,
+        batches: Batches,
+        watermark: Offset,
+    ) -> Result<(), Refusal> {
+        let fetched = Fetched::new(forge(alloc, batches)?, watermark)?;
+        let request = fetch_request(asked, 0);
+        self.hear(alloc, text, request, Answered::Batches(fetched))
+    }
+
+    fn show(&mut self, text: &mut String, node: NodeId) -> Result<(), Refusal> {
+        let broker = broker(&mut self.nodes, node)?;
+        Ok(push_node(text, broker)?)
+    }
+
+    // Gives node 1 an answer that no leader made, or node 0 a request, and appends what comes of it.
+    fn forged(&mut self, alloc: Global, text: &mut String, call: &Call) -> Result<(), Refusal> {
         match call {
-            Call::Elect(node) => {
-                let elected = self.record.elected(*node)?;
-                self.change(text, elected)
-            }
-            Call::SwapRecords => {
-                let before = self.before;
-                self.change(text, before)
-            }
-            Call::Adopt(node) => self.act(alloc, text, *node, Act::Plain(PlainAct::Adopt)),
-            Call::Append(node, word) => {
-                let bytes = bytes_of(alloc, word)?;
-                self.act(alloc, text, *node, Act::Produce { bytes })
-            }
-            Call::Ask(node) => self.act(alloc, text, *node, Act::Plain(PlainAct::Ask)),
-            Call::Deliver(number) => self.deliver(alloc, text, *number),
             Call::Fetch(epoch, offset, last) => {
                 let request = fetch_request((*epoch, *offset, *last), 0);
                 self.receive(alloc, text, &MessageBody::FetchRequest(request))
             }
             Call::Take(asked, batches, watermark) => {
-                let fetched = Fetched::new(forge(alloc, batches)?, *watermark)?;
-                self.hear(
-                    alloc,
-                    text,
-                    fetch_request(*asked, 0),
-                    Answered::Batches(fetched),
-                )
+                self.take(alloc, text, *asked, batches, *watermark)
             }
             Call::Part(asked, life, end) => {
                 let end = end.map(|(epoch, end)| EpochEnd { epoch, end });
-                self.hear(
-                    alloc,
-                    text,
-                    fetch_request(*asked, *life),
-                    Answered::Diverging(end),
-                )
+                let request = fetch_request(*asked, *life);
+                self.hear(alloc, text, request, Answered::Diverging(end))
             }
-            Call::Raise(node) => self.act(alloc, text, *node, Act::Plain(PlainAct::Raise)),
+            _ => Err(Refusal::BadCount),
+        }
+    }
+
+    // Makes the call, and appends what it answers.
+    fn answer(&mut self, alloc: Global, text: &mut String, call: &Call) -> Result<(), Refusal> {
+        match call {
+            Call::Elect(node) => self.elect(text, *node),
+            Call::SwapRecords => self.change(text, self.before),
+            Call::Adopt(node) => self.plain(alloc, text, *node, PlainAct::Adopt),
+            Call::Append(node, word) => self.append(alloc, text, *node, word),
+            Call::Ask(node) => self.plain(alloc, text, *node, PlainAct::Ask),
+            Call::Deliver(number) => self.deliver(alloc, text, *number),
+            Call::Fetch(..) | Call::Take(..) | Call::Part(..) => self.forged(alloc, text, call),
+            Call::Raise(node) => self.plain(alloc, text, *node, PlainAct::Raise),
             Call::Alter(node, change) => self.alter(alloc, text, *node, *change),
-            Call::Checkpoint(node) => {
-                self.act(alloc, text, *node, Act::Plain(PlainAct::Checkpoint))
-            }
-            Call::Stop(node) => self.act(alloc, text, *node, Act::Plain(PlainAct::Stop)),
-            Call::Restart(node) => self.act(alloc, text, *node, Act::Plain(PlainAct::Restart)),
-            Call::Show(node) => Ok(push_node(text, broker(&mut self.nodes, *node)?)?),
+            Call::Checkpoint(node) => self.plain(alloc, text, *node, PlainAct::Checkpoint),
+            Call::Stop(node) => self.plain(alloc, text, *node, PlainAct::Stop),
+            Call::Restart(node) => self.plain(alloc, text, *node, PlainAct::Restart),
+            Call::Show(node) => self.show(text, *node),
         }
     }
 
@@ -331,6 +382,25 @@ impl Play {
         }
         Ok(())
     }
+
+    // The text is what the second calls answer, a line for each, once the first were made.
+    fn tell_all(
+        &mut self,
+        alloc: Global,
+        text: &mut String,
+        first: &[Call],
+        then: &[Call],
+    ) -> Result<(), Refusal> {
+        self.answer_all(alloc, text, first)?;
+        text.clear();
+        for call in then {
+            if let Err(refusal) = self.answer(alloc, text, call) {
+                write!(text, "{refusal}")?;
+            }
+            text.push('\n')?;
+        }
+        Ok(())
+    }
 }
 
 /// What the second calls answer, a line for each, once so many nodes have made the first, of which none may be refused.
@@ -343,13 +413,6 @@ pub(crate) fn played(
 ) -> Result<String, Refusal> {
     let mut play = Play::new(alloc, count)?;
     let mut text = String::with_capacity(alloc, 4096)?;
-    play.answer_all(alloc, &mut text, first)?;
-    text.clear();
-    for call in then {
-        if let Err(refusal) = play.answer(alloc, &mut text, call) {
-            write!(text, "{refusal}")?;
-        }
-        text.push('\n')?;
-    }
+    play.tell_all(alloc, &mut text, first, then)?;
     Ok(text)
 }

@@ -4,6 +4,7 @@
 use crate::logs::{LIMITS, batch_of, log_of, there_and_back, told_of};
 use crate::shown::is;
 use kp_admit::{Admission, admit};
+use kp_log::PartitionLog;
 use kp_producers::Producers;
 use kp_txns::Txns;
 use kp_types::Refusal;
@@ -16,7 +17,7 @@ const ONE_OPEN: &str = "t5.0.0 p10 p10 p10";
 // a sixth batch evicts the first; a new epoch keeps its own batches; producers stand by rising number; a marker keeps the
 // batches of its epoch; an open transaction takes its own data; an abort and a commit that are undone open theirs again; two
 // producers take turns; what one commits lies between what others abort.
-const UNDONE: [(&str, &str, &str, &str); 9] = [
+static UNDONE: [(&str, &str, &str, &str); 9] = [
     (
         "d9.0.0 d9.0.1 d9.0.2 d9.0.3 d9.0.4",
         "d9.0.5",
@@ -100,7 +101,7 @@ const UNDONE: [(&str, &str, &str, &str); 9] = [
 
 #[test]
 fn an_undone_batch_is_forgotten_by_its_producer(rt: HostRuntime) {
-    for (before, last, asked, want) in UNDONE {
+    for (before, last, asked, want) in &UNDONE {
         let found = there_and_back(rt.alloc(), &LIMITS, before, last, asked);
         is(&rt, found, want);
     }
@@ -108,7 +109,7 @@ fn an_undone_batch_is_forgotten_by_its_producer(rt: HostRuntime) {
 
 // Behind sequence number 2147483647 comes 0; markers are those of a coordinator of no lower epoch, here 7, of producer 9 in its
 // epoch 3.
-const ASKED: [(&str, &str, &str); 2] = [
+static ASKED: [(&str, &str, &str); 2] = [
     (
         "d9.0.2147483646.3",
         "d9.0.2147483646.3 d9.0.1 d9.0.2147483647 d9.0.2147483646",
@@ -125,7 +126,7 @@ const ASKED: [(&str, &str, &str); 2] = [
 
 #[test]
 fn a_leader_admits_by_its_tables(rt: HostRuntime) {
-    for (log, asked, want) in ASKED {
+    for (log, asked, want) in &ASKED {
         is(&rt, told_of(rt.alloc(), &LIMITS, log, asked), want);
     }
 }
@@ -143,15 +144,24 @@ fn a_marker_is_no_clients(rt: HostRuntime) {
 }
 
 // Where the log is stable at 4 and at 5, once its transaction is ended by the marker at 4.
-fn stable_offsets(alloc: Global, marker: &str) -> Result<(u64, u64), Refusal> {
-    let mut log = log_of(alloc, &LIMITS, ONE_OPEN)?;
-    let undo = log.append(batch_of(alloc, marker)?.stamp(4, 0))?;
+fn stable_behind(
+    alloc: Global,
+    log: &mut PartitionLog,
+    marker: &str,
+) -> Result<(u64, u64), Refusal> {
+    let marker = batch_of(alloc, marker)?.stamp(4, 0);
+    let undo = log.append(marker)?;
     let found = (
         log.tables().transactions().stable(4),
         log.tables().transactions().stable(5),
     );
     log.undo(undo);
     Ok(found)
+}
+
+fn stable_offsets(alloc: Global, marker: &str) -> Result<(u64, u64), Refusal> {
+    let mut log = log_of(alloc, &LIMITS, ONE_OPEN)?;
+    stable_behind(alloc, &mut log, marker)
 }
 
 #[test]

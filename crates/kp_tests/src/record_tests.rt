@@ -19,52 +19,44 @@ const SIXTH: Place = Place {
 };
 
 // Null key, value `a`, no headers, at time 1000.
-fn plain() -> Parts<'static> {
-    Parts {
-        timestamp: 1000,
-        key: None,
-        value: Some(b"a"),
-        headers: &[],
-    }
-}
-
-static HEADERS: [HeaderParts<'static>; 2] = [
-    HeaderParts {
-        key: b"h1",
-        value: None,
-    },
-    HeaderParts {
-        key: &[0xc3, 0xa9],
-        value: Some(b"xyz"),
-    },
-];
+const PLAIN: Parts<'static> = Parts {
+    timestamp: 1000,
+    key: None,
+    value: Some(b"a"),
+    headers: &[],
+};
 
 // Key `k`, null value, two headers, at time 700.
-fn full() -> Parts<'static> {
-    Parts {
-        timestamp: 700,
-        key: Some(b"k"),
-        value: None,
-        headers: &HEADERS,
-    }
-}
+const FULL: Parts<'static> = Parts {
+    timestamp: 700,
+    key: Some(b"k"),
+    value: None,
+    headers: &[
+        HeaderParts {
+            key: b"h1",
+            value: None,
+        },
+        HeaderParts {
+            key: &[0xc3, 0xa9],
+            value: Some(b"xyz"),
+        },
+    ],
+};
 
-fn nulls(timestamp: u64) -> Parts<'static> {
-    Parts {
-        timestamp,
-        key: None,
-        value: None,
-        headers: &[],
-    }
-}
+const MOST: u64 = 0x3fff_ffff_ffff_ffff;
+
+// Null key, null value, at the last time that there is.
+const LAST: Parts<'static> = Parts {
+    timestamp: MOST,
+    value: None,
+    ..PLAIN
+};
 
 // Null key, a value of no bytes.
-fn empty() -> Parts<'static> {
-    Parts {
-        value: Some(b""),
-        ..plain()
-    }
-}
+const EMPTY: Parts<'static> = Parts {
+    value: Some(b""),
+    ..PLAIN
+};
 
 // The record's bytes as digits, and its size.
 fn spelled(alloc: Global, place: &Place, parts: &Parts<'_>) -> Result<String, Refusal> {
@@ -81,37 +73,67 @@ fn spelled(alloc: Global, place: &Place, parts: &Parts<'_>) -> Result<String, Re
     Ok(text)
 }
 
-fn place_of(base_timestamp: u64, offset_delta: u32) -> Place {
-    Place {
-        base_timestamp,
-        offset_delta,
-        byte: 61,
-    }
-}
-
+// Places and records, and what is written of them.
 // A difference of times is zigzag, so 300 later is the number 600, d804 in groups of 7 bits; so is the place 300.
+static WRITTEN: [(Place, Parts<'static>, &str); 8] = [
+    (FIRST, PLAIN, "0e00000001026100 8"),
+    (SIXTH, FULL, "2600d7040a026b01040468310104c3a90678797a 20"),
+    (FIRST, EMPTY, "0c000000010000 7"),
+    (
+        FIRST,
+        Parts {
+            timestamp: 1001,
+            ..LAST
+        },
+        "0c000200010100 7",
+    ),
+    (
+        Place {
+            offset_delta: 1,
+            ..FIRST
+        },
+        Parts {
+            timestamp: 999,
+            ..LAST
+        },
+        "0c000102010100 7",
+    ),
+    (
+        Place {
+            offset_delta: 300,
+            ..FIRST
+        },
+        Parts {
+            timestamp: 1300,
+            ..LAST
+        },
+        "1000d804d804010100 9",
+    ),
+    (
+        Place {
+            base_timestamp: 0,
+            ..FIRST
+        },
+        LAST,
+        "1c00feffffffffffffff7f00010100 15",
+    ),
+    (
+        Place {
+            base_timestamp: MOST,
+            ..FIRST
+        },
+        Parts {
+            timestamp: 0,
+            ..LAST
+        },
+        "1c00fdffffffffffffff7f00010100 15",
+    ),
+];
+
 #[test]
 fn records_have_the_known_bytes(rt: HostRuntime) {
-    let most = 0x3fff_ffff_ffff_ffff;
-    for (place, parts, known) in [
-        (FIRST, plain(), "0e00000001026100 8"),
-        (SIXTH, full(), "2600d7040a026b01040468310104c3a90678797a 20"),
-        (FIRST, empty(), "0c000000010000 7"),
-        (FIRST, nulls(1001), "0c000200010100 7"),
-        (place_of(1000, 1), nulls(999), "0c000102010100 7"),
-        (place_of(1000, 300), nulls(1300), "1000d804d804010100 9"),
-        (
-            place_of(0, 0),
-            nulls(most),
-            "1c00feffffffffffffff7f00010100 15",
-        ),
-        (
-            place_of(most, 0),
-            nulls(0),
-            "1c00fdffffffffffffff7f00010100 15",
-        ),
-    ] {
-        is(&rt, spelled(rt.alloc(), &place, &parts), known);
+    for (place, parts, known) in &WRITTEN {
+        is(&rt, spelled(rt.alloc(), place, parts), known);
     }
 }
 
@@ -128,17 +150,19 @@ fn found(alloc: Global, digits: &str, place: &Place) -> Result<String, Refusal> 
     Ok(text)
 }
 
+static READ: [(&str, Place, &str); 3] = [
+    ("0e000000010261000e00", FIRST, "time 1000 - 61\n0e00"),
+    (
+        "2600d7040a026b01040468310104c3a90678797a08",
+        SIXTH,
+        "time 700 6b - 6831=- c3a9=78797a\n08",
+    ),
+    ("0c000000010000", FIRST, "time 1000 - \n"),
+];
+
 #[test]
 fn records_are_read_back(rt: HostRuntime) {
-    for (digits, place, known) in [
-        ("0e000000010261000e00", FIRST, "time 1000 - 61\n0e00"),
-        (
-            "2600d7040a026b01040468310104c3a90678797a08",
-            SIXTH,
-            "time 700 6b - 6831=- c3a9=78797a\n08",
-        ),
-        ("0c000000010000", FIRST, "time 1000 - \n"),
-    ] {
-        is(&rt, found(rt.alloc(), digits, &place), known);
+    for (digits, place, known) in &READ {
+        is(&rt, found(rt.alloc(), digits, place), known);
     }
 }

@@ -6,10 +6,10 @@ use crate::shown::is;
 use kp_log::PartitionLog;
 use kp_replica::{IsrChange, KeptNode, Replica};
 use kp_types::{Limits, MAX_BATCH, Refusal};
-use std::alloc::Global;
+use std::alloc::{AllocError, Global};
 
 // A leader whose high watermark is 7, and which began to lead at 10.
-const CAUGHT_UP: [Call; 12] = [
+static CAUGHT_UP: [Call; 12] = [
     Call::Elect(0),
     Call::Adopt(0),
     Call::Append(0, "d9.0.0.3"),
@@ -25,7 +25,7 @@ const CAUGHT_UP: [Call; 12] = [
 ];
 
 // A node that has told nothing, then an end below the start, then one at the start; under another record, and again.
-const JOINS: [Call; 9] = [
+static JOINS: [Call; 9] = [
     Call::Alter(0, IsrChange::Join(1)),
     Call::Fetch(1, 8, Some(0)),
     Call::Alter(0, IsrChange::Join(1)),
@@ -37,19 +37,18 @@ const JOINS: [Call; 9] = [
     Call::Alter(1, IsrChange::Leave(0)),
 ];
 
+static JOINS_TOLD: &str =
+    "F23 NotCaughtUp\nsent 1 batches 1 mark 7\nF23 NotCaughtUp\nsent 2 batches 0 mark 7\n\
+     record leader 0 epoch 1 version 2\nF22 StaleRecord\nrecord leader 0 epoch 1 version 3\n\
+     record leader 0 epoch 1 version 4\nF15 NotLeader\n";
+
 #[test]
 fn a_node_joins_where_it_has_caught_up(rt: HostRuntime) {
-    is(
-        &rt,
-        played(rt.alloc(), 2, &CAUGHT_UP, &JOINS),
-        "F23 NotCaughtUp\nsent 1 batches 1 mark 7\nF23 NotCaughtUp\nsent 2 batches 0 mark 7\n\
-         record leader 0 epoch 1 version 2\nF22 StaleRecord\nrecord leader 0 epoch 1 version 3\n\
-         record leader 0 epoch 1 version 4\nF15 NotLeader\n",
-    );
+    is(&rt, played(rt.alloc(), 2, &CAUGHT_UP, &JOINS), JOINS_TOLD);
 }
 
 // Node 1 has a batch, and notes the watermark 1.
-const NOTED: [Call; 6] = [
+static NOTED: [Call; 6] = [
     Call::Elect(0),
     Call::Elect(0),
     Call::Elect(0),
@@ -58,7 +57,7 @@ const NOTED: [Call; 6] = [
     Call::Checkpoint(1),
 ];
 
-const AGAIN: [Call; 4] = [
+static AGAIN: [Call; 4] = [
     Call::Take((2, 1, Some(1)), &[(1, 1, "p20"), (2, 2, "p30")], 3),
     Call::Restart(1),
     Call::Stop(1),
@@ -67,7 +66,7 @@ const AGAIN: [Call; 4] = [
 
 // All that is told where memory is ample; or the node was downed by the take, with one batch or two, and starts again with
 // those; or there is no room for its tables, and it stays down; or there was none for the answer, before the node had it.
-const STARTED: [&str; 5] = [
+static STARTED: [&str; 5] = [
     "end 3 mark 3\nF28 Down\nstopped\n\
      end 3 mark 1 life 1, 0 epoch 1 time 10, 1 epoch 1 time 20, 2 epoch 2 time 30\n",
     "end 3 mark 3\nF28 Down\nstopped\nF33 Memory\n",
@@ -101,22 +100,28 @@ fn kept_in(alloc: Global, life: u64) -> KeptNode {
     KeptNode::of(0, log.close(Vec::new(alloc), 0), 0, life)
 }
 
+fn push_restart(text: &mut String, refused: Option<Refusal>, life: u64) -> Result<(), AllocError> {
+    match refused {
+        Some(refusal) => write!(text, "{refusal} in life {life}, "),
+        None => write!(text, "life {life}, "),
+    }
+}
+
+// Restarts the node, stops it again, and appends to the text what the restart answered.
+fn restarted(alloc: Global, text: &mut String, kept: KeptNode) -> Result<KeptNode, Refusal> {
+    let (kept, refused) = match Replica::restart(alloc, kept) {
+        Ok(node) => (node.stop(), None),
+        Err((kept, refusal)) => (kept, Some(refusal)),
+    };
+    push_restart(text, refused, kept.life())?;
+    Ok(kept)
+}
+
 // What two restarts answer, with a stop between them.
 fn restarted_twice(alloc: Global, life: u64) -> Result<String, Refusal> {
     let mut text = String::new(alloc);
-    let mut kept = kept_in(alloc, life);
-    for _ in 0..2 {
-        kept = match Replica::restart(alloc, kept) {
-            Ok(node) => {
-                write!(text, "life {}, ", node.life())?;
-                node.stop()
-            }
-            Err((kept, refusal)) => {
-                write!(text, "{refusal} in life {}, ", kept.life())?;
-                kept
-            }
-        };
-    }
+    let once = restarted(alloc, &mut text, kept_in(alloc, life))?;
+    let _twice = restarted(alloc, &mut text, once)?;
     Ok(text)
 }
 

@@ -4,63 +4,63 @@ use crate::seated::{Turn, seated};
 use crate::shown::is;
 use kp_replica::IsrChange;
 
+static READ: [Turn; 12] = [
+    Turn::Append(0, "p10"),
+    Turn::Elect(0),
+    Turn::Adopt(0),
+    Turn::Append(0, "p10"),
+    Turn::Acked(0),
+    Turn::Read(0, 0),
+    Turn::Raise(0),
+    Turn::Acked(0),
+    Turn::Watermark(0),
+    Turn::Read(0, 0),
+    Turn::Read(0, 2),
+    Turn::Meet(0),
+];
+
+static READ_TOLD: &str =
+    "F15 NotLeader\nrecord leader 0 epoch 0 version 1\nleads epoch 0 from 0\nat 0\nnot yet\nbatches 0\nmark 1\nyes\n\
+     mark 1\nbatches 1, 0 time 10\nF16 OffsetOutOfRange\nmet\n";
+
 #[test]
 fn a_batch_is_read_back(rt: HostRuntime) {
-    let turns = [
-        Turn::Append(0, "p10"),
-        Turn::Elect(0),
-        Turn::Adopt(0),
-        Turn::Append(0, "p10"),
-        Turn::Acked(0),
-        Turn::Read(0, 0),
-        Turn::Raise(0),
-        Turn::Acked(0),
-        Turn::Watermark(0),
-        Turn::Read(0, 0),
-        Turn::Read(0, 2),
-        Turn::Meet(0),
-    ];
-    is(
-        &rt,
-        seated(rt.alloc(), 1, &[], &turns),
-        "F15 NotLeader\nrecord leader 0 epoch 0 version 1\nleads epoch 0 from 0\nat 0\nnot yet\nbatches 0\nmark 1\nyes\n\
-         mark 1\nbatches 1, 0 time 10\nF16 OffsetOutOfRange\nmet\n",
-    );
+    is(&rt, seated(rt.alloc(), 1, &[], &READ), READ_TOLD);
 }
+
+static CHANGED: [Turn; 18] = [
+    Turn::Alter(0, IsrChange::Leave(1)),
+    Turn::Elect(0),
+    Turn::Adopt(0),
+    Turn::Alter(0, IsrChange::Join(1)),
+    Turn::Alter(0, IsrChange::Leave(1)),
+    Turn::Record,
+    Turn::Elect(0),
+    Turn::Alter(0, IsrChange::Leave(1)),
+    Turn::Elect(1),
+    Turn::Append(0, "p10"),
+    Turn::Raise(0),
+    Turn::Checkpoint(0),
+    Turn::Stop(0),
+    Turn::Raise(0),
+    Turn::Acked(0),
+    Turn::Restart(0),
+    Turn::Restart(0),
+    Turn::Watermark(0),
+];
+
+static CHANGED_TOLD: &str =
+    "F15 NotLeader\nrecord leader 0 epoch 0 version 1\nleads epoch 0 from 0\nF23 NotCaughtUp\nrecord leader 0 epoch 0 version 2\n\
+     record leader 0 epoch 0 version 2\nrecord leader 0 epoch 1 version 3\nF21 NotInSync\nF21 NotInSync\nat 0\nmark 1\n\
+     checkpoint 1\nstopped\nF28 Down\nF28 Down\nlife 1 end 1 mark 1\nF28 Down\nmark 1\n";
 
 #[test]
 fn a_change_is_shown(rt: HostRuntime) {
-    let turns = [
-        Turn::Alter(0, IsrChange::Leave(1)),
-        Turn::Elect(0),
-        Turn::Adopt(0),
-        Turn::Alter(0, IsrChange::Join(1)),
-        Turn::Alter(0, IsrChange::Leave(1)),
-        Turn::Record,
-        Turn::Elect(0),
-        Turn::Alter(0, IsrChange::Leave(1)),
-        Turn::Elect(1),
-        Turn::Append(0, "p10"),
-        Turn::Raise(0),
-        Turn::Checkpoint(0),
-        Turn::Stop(0),
-        Turn::Raise(0),
-        Turn::Acked(0),
-        Turn::Restart(0),
-        Turn::Restart(0),
-        Turn::Watermark(0),
-    ];
-    is(
-        &rt,
-        seated(rt.alloc(), 2, &[], &turns),
-        "F15 NotLeader\nrecord leader 0 epoch 0 version 1\nleads epoch 0 from 0\nF23 NotCaughtUp\nrecord leader 0 epoch 0 version 2\n\
-         record leader 0 epoch 0 version 2\nrecord leader 0 epoch 1 version 3\nF21 NotInSync\nF21 NotInSync\nat 0\nmark 1\n\
-         checkpoint 1\nstopped\nF28 Down\nF28 Down\nlife 1 end 1 mark 1\nF28 Down\nmark 1\n",
-    );
+    is(&rt, seated(rt.alloc(), 2, &[], &CHANGED), CHANGED_TOLD);
 }
 
 // Node 0 leads and has two batches, of which node 1 has the first; node 1 is elected and commits another second one.
-const DIVERGED: [Turn; 16] = [
+static DIVERGED: [Turn; 16] = [
     Turn::Elect(0),
     Turn::Adopt(0),
     Turn::Adopt(1),
@@ -79,51 +79,51 @@ const DIVERGED: [Turn; 16] = [
     Turn::Deliver(2),
 ];
 
+static DIVERGED_TOLD: &str =
+    "record leader 0 epoch 0 version 1\nleads epoch 0 from 0\nfollows 0 epoch 0\nat 0\nsent 0 asks from 0 no epoch\n\
+     sent 1 batches 1 mark 0\ntaken\nat 1\nrecord leader 1 epoch 1 version 2\nleads epoch 1 from 1\n\
+     record leader 1 epoch 1 version 3\nat 1\nmark 2\nfollows 1 epoch 1\nsent 2 asks from 2 epoch 0\n\
+     sent 3 diverges epoch 0 end 1\n";
+
+static CUT: [Turn; 12] = [
+    Turn::Deliver(3),
+    Turn::Alter(1, IsrChange::Join(0)),
+    Turn::Ask(0),
+    Turn::Deliver(4),
+    Turn::Alter(1, IsrChange::Join(0)),
+    Turn::Deliver(5),
+    Turn::Deliver(5),
+    Turn::Ask(0),
+    Turn::Deliver(6),
+    Turn::Alter(1, IsrChange::Join(0)),
+    Turn::Read(0, 1),
+    Turn::Acked(0),
+];
+
+static CUT_TOLD: &str =
+    "taken\nF23 NotCaughtUp\nsent 4 asks from 1 epoch 0\nsent 5 batches 1 mark 2\nF23 NotCaughtUp\ntaken\nF29 StaleAnswer\n\
+     sent 6 asks from 2 epoch 1\nsent 7 batches 0 mark 2\nrecord leader 1 epoch 1 version 4\nbatches 1, 1 time 30\nyes\n";
+
 #[test]
 fn a_cut_is_shown(rt: HostRuntime) {
-    is(
-        &rt,
-        seated(rt.alloc(), 2, &[], &DIVERGED),
-        "record leader 0 epoch 0 version 1\nleads epoch 0 from 0\nfollows 0 epoch 0\nat 0\nsent 0 asks from 0 no epoch\n\
-         sent 1 batches 1 mark 0\ntaken\nat 1\nrecord leader 1 epoch 1 version 2\nleads epoch 1 from 1\n\
-         record leader 1 epoch 1 version 3\nat 1\nmark 2\nfollows 1 epoch 1\nsent 2 asks from 2 epoch 0\n\
-         sent 3 diverges epoch 0 end 1\n",
-    );
-    let then = [
-        Turn::Deliver(3),
-        Turn::Alter(1, IsrChange::Join(0)),
-        Turn::Ask(0),
-        Turn::Deliver(4),
-        Turn::Alter(1, IsrChange::Join(0)),
-        Turn::Deliver(5),
-        Turn::Deliver(5),
-        Turn::Ask(0),
-        Turn::Deliver(6),
-        Turn::Alter(1, IsrChange::Join(0)),
-        Turn::Read(0, 1),
-        Turn::Acked(0),
-    ];
-    is(
-        &rt,
-        seated(rt.alloc(), 2, &DIVERGED, &then),
-        "taken\nF23 NotCaughtUp\nsent 4 asks from 1 epoch 0\nsent 5 batches 1 mark 2\nF23 NotCaughtUp\ntaken\nF29 StaleAnswer\n\
-         sent 6 asks from 2 epoch 1\nsent 7 batches 0 mark 2\nrecord leader 1 epoch 1 version 4\nbatches 1, 1 time 30\nyes\n",
-    );
+    is(&rt, seated(rt.alloc(), 2, &[], &DIVERGED), DIVERGED_TOLD);
+    is(&rt, seated(rt.alloc(), 2, &DIVERGED, &CUT), CUT_TOLD);
 }
+
+static CUT_LATE: [Turn; 3] = [Turn::Elect(1), Turn::Deliver(3), Turn::Ask(0)];
 
 // The record has left the epoch in which node 0 asked.
 #[test]
 fn a_cut_of_an_older_record_is_refused(rt: HostRuntime) {
-    let then = [Turn::Elect(1), Turn::Deliver(3), Turn::Ask(0)];
     is(
         &rt,
-        seated(rt.alloc(), 2, &DIVERGED, &then),
+        seated(rt.alloc(), 2, &DIVERGED, &CUT_LATE),
         "record leader 1 epoch 2 version 4\nF22 StaleRecord\nsent 4 asks from 2 epoch 0\n",
     );
 }
 
 // Node 0 leads and has a batch, which node 1 takes.
-const FOLLOWED: [Turn; 7] = [
+static FOLLOWED: [Turn; 7] = [
     Turn::Elect(0),
     Turn::Adopt(0),
     Turn::Adopt(1),
@@ -133,95 +133,102 @@ const FOLLOWED: [Turn; 7] = [
     Turn::Deliver(1),
 ];
 
+static RESTARTED: [Turn; 4] = [
+    Turn::Stop(0),
+    Turn::Restart(0),
+    Turn::Adopt(0),
+    Turn::Deliver(3),
+];
+
+static FOLLOWER_RESTARTED: [Turn; 6] = [
+    Turn::Ask(1),
+    Turn::Deliver(2),
+    Turn::Stop(1),
+    Turn::Restart(1),
+    Turn::Adopt(1),
+    Turn::Deliver(3),
+];
+
 // A diverging answer of an earlier life cuts nothing; one with batches is taken, as the log is the one asked by.
 #[test]
 fn an_answer_of_an_earlier_life_cuts_nothing(rt: HostRuntime) {
-    let then = [
-        Turn::Stop(0),
-        Turn::Restart(0),
-        Turn::Adopt(0),
-        Turn::Deliver(3),
-    ];
     is(
         &rt,
-        seated(rt.alloc(), 2, &DIVERGED, &then),
+        seated(rt.alloc(), 2, &DIVERGED, &RESTARTED),
         "stopped\nlife 1 end 2 mark 0\nfollows 1 epoch 1\nF29 StaleAnswer\n",
     );
-    let then = [
-        Turn::Ask(1),
-        Turn::Deliver(2),
-        Turn::Stop(1),
-        Turn::Restart(1),
-        Turn::Adopt(1),
-        Turn::Deliver(3),
-    ];
     is(
         &rt,
-        seated(rt.alloc(), 2, &FOLLOWED, &then),
+        seated(rt.alloc(), 2, &FOLLOWED, &FOLLOWER_RESTARTED),
         "sent 2 asks from 1 epoch 0\nsent 3 batches 0 mark 0\nstopped\nlife 1 end 1 mark 0\nfollows 0 epoch 0\ntaken\n",
     );
 }
 
+static REPEATED: [Turn; 8] = [
+    Turn::Deliver(1),
+    Turn::Raise(0),
+    Turn::Ask(1),
+    Turn::Deliver(2),
+    Turn::Raise(0),
+    Turn::Deliver(3),
+    Turn::Watermark(0),
+    Turn::Watermark(1),
+];
+
 #[test]
 fn a_message_comes_twice(rt: HostRuntime) {
-    let then = [
-        Turn::Deliver(1),
-        Turn::Raise(0),
-        Turn::Ask(1),
-        Turn::Deliver(2),
-        Turn::Raise(0),
-        Turn::Deliver(3),
-        Turn::Watermark(0),
-        Turn::Watermark(1),
-    ];
     is(
         &rt,
-        seated(rt.alloc(), 2, &FOLLOWED, &then),
+        seated(rt.alloc(), 2, &FOLLOWED, &REPEATED),
         "F29 StaleAnswer\nmark 0\nsent 2 asks from 1 epoch 0\nsent 3 batches 0 mark 0\nmark 1\ntaken\nmark 1\nmark 0\n",
     );
 }
 
+static FENCED: [Turn; 11] = [
+    Turn::Elect(0),
+    Turn::Adopt(0),
+    Turn::Adopt(1),
+    Turn::Ask(1),
+    Turn::Elect(0),
+    Turn::Adopt(1),
+    Turn::Ask(1),
+    Turn::Append(0, "p10"),
+    Turn::Deliver(1),
+    Turn::Adopt(0),
+    Turn::Deliver(0),
+];
+
+static FENCED_TOLD: &str =
+    "record leader 0 epoch 0 version 1\nleads epoch 0 from 0\nfollows 0 epoch 0\nsent 0 asks from 0 no epoch\n\
+     record leader 0 epoch 1 version 2\nfollows 0 epoch 1\nsent 1 asks from 0 no epoch\nat 0\nF18 UnknownLeaderEpoch\n\
+     leads epoch 1 from 1\nF17 FencedLeaderEpoch\n";
+
 #[test]
 fn leader_epochs_fence(rt: HostRuntime) {
-    let turns = [
-        Turn::Elect(0),
-        Turn::Adopt(0),
-        Turn::Adopt(1),
-        Turn::Ask(1),
-        Turn::Elect(0),
-        Turn::Adopt(1),
-        Turn::Ask(1),
-        Turn::Append(0, "p10"),
-        Turn::Deliver(1),
-        Turn::Adopt(0),
-        Turn::Deliver(0),
-    ];
-    is(
-        &rt,
-        seated(rt.alloc(), 2, &[], &turns),
-        "record leader 0 epoch 0 version 1\nleads epoch 0 from 0\nfollows 0 epoch 0\nsent 0 asks from 0 no epoch\n\
-         record leader 0 epoch 1 version 2\nfollows 0 epoch 1\nsent 1 asks from 0 no epoch\nat 0\nF18 UnknownLeaderEpoch\n\
-         leads epoch 1 from 1\nF17 FencedLeaderEpoch\n",
-    );
+    is(&rt, seated(rt.alloc(), 2, &[], &FENCED), FENCED_TOLD);
 }
+
+static APPENDED_TWICE: [Turn; 9] = [
+    Turn::Elect(0),
+    Turn::Adopt(0),
+    Turn::Append(0, "d9.0.0.1"),
+    Turn::Append(0, "d9.0.0.1"),
+    Turn::Append(0, "d9.0.2.1"),
+    Turn::Mark(0),
+    Turn::Acked(0),
+    Turn::Raise(0),
+    Turn::Acked(0),
+];
+
+static APPENDED_TWICE_TOLD: &str =
+    "record leader 0 epoch 0 version 1\nleads epoch 0 from 0\nat 0\nduplicate 0\nF12 OutOfOrderSequence\nat 1\nnot yet\n\
+     mark 2\nyes\n";
 
 #[test]
 fn a_batch_that_comes_twice_is_kept_once(rt: HostRuntime) {
-    let turns = [
-        Turn::Elect(0),
-        Turn::Adopt(0),
-        Turn::Append(0, "d9.0.0.1"),
-        Turn::Append(0, "d9.0.0.1"),
-        Turn::Append(0, "d9.0.2.1"),
-        Turn::Mark(0),
-        Turn::Acked(0),
-        Turn::Raise(0),
-        Turn::Acked(0),
-    ];
     is(
         &rt,
-        seated(rt.alloc(), 1, &[], &turns),
-        "record leader 0 epoch 0 version 1\nleads epoch 0 from 0\nat 0\nduplicate 0\nF12 OutOfOrderSequence\nat 1\nnot yet\n\
-         mark 2\nyes\n",
+        seated(rt.alloc(), 1, &[], &APPENDED_TWICE),
+        APPENDED_TWICE_TOLD,
     );
 }

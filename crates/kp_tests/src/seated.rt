@@ -4,9 +4,10 @@ ghost use Rattle.std.specs.Prelude.{◌≡◌};
 
 use crate::logs::LIMITS;
 use crate::node_tests::{MARKER, bytes_of};
-use crate::played::{push_body, push_record, push_role};
+use crate::played::{push_record, push_role, push_sent};
 use kp_batch::Batch;
 use kp_board::{Board, BoardName, FreshPass, Message, Opened, Pass};
+use kp_control::LeaderAndIsr;
 use kp_marker::HandedMarker;
 use kp_node::{Ack, Node};
 use kp_replica::{Answer, IsrChange, Receipt};
@@ -74,13 +75,90 @@ fn push_restarted(text: &mut String, answer: &Answer) -> Result<(), AllocError> 
     Ok(())
 }
 
+fn node_of<B: BoardName>(
+    alloc: Global,
+    board: &Arc<Board<B>, Global>,
+    pass: FreshPass<B>,
+) -> Result<Node<B>, Refusal> {
+    let board = Arc::try_clone(board)?;
+    Ok(Node::new(alloc, board, pass, &LIMITS))
+}
+
+// A node for each pass.
+fn nodes_of<B: BoardName>(
+    alloc: Global,
+    board: &Arc<Board<B>, Global>,
+    passes: Vec<FreshPass<B>>,
+) -> Result<Vec<Node<B>>, Refusal> {
+    let mut nodes = Vec::new(alloc);
+    for pass in passes {
+        nodes.push(node_of(alloc, board, pass)?)?;
+    }
+    Ok(nodes)
+}
+
+fn tell_record(text: &mut String, record: Result<LeaderAndIsr, Refusal>) -> Result<(), Refusal> {
+    Ok(push_record(text, &record?)?)
+}
+
+fn tell_mark(text: &mut String, watermark: Result<Offset, Refusal>) -> Result<(), Refusal> {
+    Ok(write!(text, "mark {}", watermark?)?)
+}
+
+fn tell_receipt(text: &mut String, receipt: &Receipt) -> Result<(), AllocError> {
+    let how = if receipt.duplicate { "duplicate" } else { "at" };
+    write!(text, "{how} {}", receipt.base)
+}
+
+fn name_of(ack: Ack) -> &'static str {
+    match ack {
+        Ack::Yes => "yes",
+        Ack::Lost => "lost",
+        Ack::NotYet => "not yet",
+    }
+}
+
+fn tell_restart<B: BoardName>(text: &mut String, node: &mut Node<B>) -> Result<(), Refusal> {
+    let answer = node.restart()?;
+    Ok(push_restarted(text, &answer)?)
+}
+
+fn tell_stop<B: BoardName>(text: &mut String, node: &mut Node<B>) -> Result<(), Refusal> {
+    node.stop()?;
+    Ok(text.push_str("stopped")?)
+}
+
+fn tell_checkpoint<B: BoardName>(text: &mut String, node: &mut Node<B>) -> Result<(), Refusal> {
+    let checkpoint = node.checkpoint()?;
+    Ok(write!(text, "checkpoint {checkpoint}")?)
+}
+
+fn tell_role<B: BoardName>(text: &mut String, node: &mut Node<B>) -> Result<(), Refusal> {
+    let role = node.adopt()?;
+    Ok(push_role(text, role)?)
+}
+
+// What the node answers to a call that needs nothing but itself.
+fn tell_call<B: BoardName>(
+    text: &mut String,
+    node: &mut Node<B>,
+    turn: &Turn,
+) -> Result<(), Refusal> {
+    match turn {
+        Turn::Adopt(_) => tell_role(text, node),
+        Turn::Raise(_) => tell_mark(text, node.raise()),
+        Turn::Alter(_, change) => tell_record(text, node.alter(*change)),
+        Turn::Checkpoint(_) => tell_checkpoint(text, node),
+        Turn::Stop(_) => tell_stop(text, node),
+        Turn::Restart(_) => tell_restart(text, node),
+        _ => Err(Refusal::BadCount),
+    }
+}
+
 impl<B: BoardName> Seats<B> {
     fn new(alloc: Global, board: Board<B>, passes: Vec<FreshPass<B>>) -> Result<Seats<B>, Refusal> {
         let board = Arc::new(alloc, board)?;
-        let mut nodes = Vec::new(alloc);
-        for pass in passes {
-            nodes.push(Node::new(alloc, Arc::try_clone(&board)?, pass, &LIMITS))?;
-        }
+        let nodes = nodes_of(alloc, &board, passes)?;
         Ok(Seats {
             alloc,
             board,
@@ -97,8 +175,7 @@ impl<B: BoardName> Seats<B> {
     }
 
     fn send(&mut self, text: &mut String, message: Message<B>) -> Result<(), Refusal> {
-        write!(text, "sent {} ", self.mail.len())?;
-        push_body(text, &message.body)?;
+        push_sent(text, self.mail.len(), &message.body)?;
         Ok(self.mail.push(message)?)
     }
 
@@ -136,8 +213,7 @@ impl<B: BoardName> Seats<B> {
         let bytes = bytes_of(self.alloc, word)?;
         let receipt = self.node(node)?.produce(pass, bytes)?;
         self.receipt = Some(receipt);
-        let how = if receipt.duplicate { "duplicate" } else { "at" };
-        Ok(write!(text, "{how} {}", receipt.base)?)
+        Ok(tell_receipt(text, &receipt)?)
     }
 
     fn mark(&mut self, text: &mut String, pass: &mut Pass<B>, node: NodeId) -> Result<(), Refusal> {
@@ -156,29 +232,42 @@ impl<B: BoardName> Seats<B> {
         let Some(receipt) = self.receipt else {
             return Err(Refusal::BadCount);
         };
-        let told = match self.node(node)?.acked(pass, &receipt)? {
-            Ack::Yes => "yes",
-            Ack::Lost => "lost",
-            Ack::NotYet => "not yet",
-        };
-        Ok(text.push_str(told)?)
+        let ack = self.node(node)?.acked(pass, &receipt)?;
+        Ok(text.push_str(name_of(ack))?)
     }
 
     fn meet(&mut self, text: &mut String, pass: &mut Pass<B>, node: NodeId) -> Result<(), Refusal> {
-        let mut other = self.node(node)?.board().pass();
-        self.node(node)?.meet(pass, &mut other);
+        let node = self.node(node)?;
+        let mut other = node.board().pass();
+        node.meet(pass, &mut other);
         Ok(text.push_str("met")?)
     }
 
     // What the board answers, without a node.
     fn look(&self, text: &mut String, pass: &mut Pass<B>, turn: &Turn) -> Result<(), Refusal> {
         match turn {
-            Turn::Elect(node) => Ok(push_record(text, &self.board.elect(pass, *node)?)?),
+            Turn::Elect(node) => tell_record(text, self.board.elect(pass, *node)),
             Turn::Watermark(node) if *node < self.board.nodes() => {
-                Ok(write!(text, "mark {}", self.board.watermark(pass, *node))?)
+                tell_mark(text, Ok(self.board.watermark(pass, *node)))
             }
-            _ => Ok(push_record(text, &self.board.record(pass))?),
+            _ => tell_record(text, Ok(self.board.record(pass))),
         }
+    }
+
+    fn read(
+        &mut self,
+        text: &mut String,
+        pass: &mut Pass<B>,
+        node: NodeId,
+        from: Offset,
+    ) -> Result<(), Refusal> {
+        let batches = self.node(node)?.read(pass, from)?;
+        Ok(push_batches(text, batches.as_slice())?)
+    }
+
+    // What a node answers to a call that needs nothing but itself.
+    fn call(&mut self, text: &mut String, node: NodeId, turn: &Turn) -> Result<(), Refusal> {
+        tell_call(text, self.node(node)?, turn)
     }
 
     // Makes the call, and appends what it answers.
@@ -190,30 +279,33 @@ impl<B: BoardName> Seats<B> {
     ) -> Result<(), Refusal> {
         match turn {
             Turn::Elect(_) | Turn::Record | Turn::Watermark(_) => self.look(text, pass, turn),
-            Turn::Adopt(node) => Ok(push_role(text, self.node(*node)?.adopt()?)?),
             Turn::Append(node, word) => self.append(text, pass, *node, word),
             Turn::Mark(node) => self.mark(text, pass, *node),
             Turn::Acked(node) => self.tell_ack(text, pass, *node),
-            Turn::Read(node, from) => {
-                let batches = self.node(*node)?.read(pass, *from)?;
-                Ok(push_batches(text, batches.as_slice())?)
-            }
+            Turn::Read(node, from) => self.read(text, pass, *node, *from),
             Turn::Meet(node) => self.meet(text, pass, *node),
             Turn::Ask(node) => self.ask(text, *node),
             Turn::Deliver(number) => self.deliver(text, *number),
-            Turn::Raise(node) => Ok(write!(text, "mark {}", self.node(*node)?.raise()?)?),
-            Turn::Alter(node, change) => {
-                Ok(push_record(text, &self.node(*node)?.alter(*change)?)?)
-            }
-            Turn::Checkpoint(node) => {
-                Ok(write!(text, "checkpoint {}", self.node(*node)?.checkpoint()?)?)
-            }
-            Turn::Stop(node) => {
-                self.node(*node)?.stop()?;
-                Ok(text.push_str("stopped")?)
-            }
-            Turn::Restart(node) => Ok(push_restarted(text, &self.node(*node)?.restart()?)?),
+            Turn::Adopt(node)
+            | Turn::Raise(node)
+            | Turn::Alter(node, _)
+            | Turn::Checkpoint(node)
+            | Turn::Stop(node)
+            | Turn::Restart(node) => self.call(text, *node, turn),
         }
+    }
+
+    // Of these calls none may be refused.
+    fn answer_all(
+        &mut self,
+        text: &mut String,
+        pass: &mut Pass<B>,
+        turns: &[Turn],
+    ) -> Result<(), Refusal> {
+        for turn in turns {
+            self.answer(text, pass, turn)?;
+        }
+        Ok(())
     }
 }
 
@@ -233,6 +325,20 @@ fn push_answers<B: BoardName>(
     Ok(())
 }
 
+fn told<B: BoardName>(
+    alloc: Global,
+    seats: &mut Seats<B>,
+    pass: &mut Pass<B>,
+    first: &[Turn],
+    then: &[Turn],
+) -> Result<String, Refusal> {
+    let mut text = String::with_capacity(alloc, 4096)?;
+    seats.answer_all(&mut text, pass, first)?;
+    text.clear();
+    push_answers(&mut text, seats, pass, then)?;
+    Ok(text)
+}
+
 fn answers<B: BoardName>(
     alloc: Global,
     opened: Opened,
@@ -244,14 +350,10 @@ fn answers<B: BoardName>(
     let (board, passes) = Board::<B>::new(alloc, opened)?;
     let mut pass = board.pass();
     let mut seats = Seats::new(alloc, board, passes)?;
-    let mut text = String::with_capacity(alloc, 4096)?;
-    push_answers(&mut text, &mut seats, &mut pass, first)?;
-    text.clear();
-    push_answers(&mut text, &mut seats, &mut pass, then)?;
-    Ok(text)
+    told(alloc, &mut seats, &mut pass, first, then)
 }
 
-/// What the second calls answer of so many nodes, a line for each, once the first were made.
+/// What the second calls answer, a line for each, once so many nodes have made the first, of which none may be refused.
 pub(crate) fn seated(
     alloc: Global,
     count: NodeId,

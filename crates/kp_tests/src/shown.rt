@@ -5,6 +5,14 @@ use kp_types::Refusal;
 use std::alloc::{AllocError, Global};
 use std::process::Abort;
 
+/// What was found, where nothing was refused.
+pub(crate) fn unrefused<T: Drop>(rt: &impl Abort, found: Result<T, Refusal>) -> T {
+    match found {
+        Ok(found) => found,
+        Err(refusal) => panic!(rt; "{refusal}"),
+    }
+}
+
 /// The text is this one.
 pub(crate) fn is(rt: &impl Abort, found: Result<String, Refusal>, want: &str) {
     match found {
@@ -65,12 +73,19 @@ pub(crate) fn push_record(text: &mut String, record: Record<'_>) -> Result<(), A
     text.push('\n')
 }
 
+fn wide<N: Into<u64>>(number: Option<N>) -> Option<u64> {
+    match number {
+        Some(number) => Some(number.into()),
+        None => None,
+    }
+}
+
 // What a batch says of itself, in the order of its fields, and last its size.
 fn fields_of(batch: &Batch) -> [(&'static str, Option<u64>); 14] {
     [
         ("base", Some(batch.base_offset())),
         ("length", Some(u64::from(batch.batch_length()))),
-        ("epoch", batch.leader_epoch().map(|epoch| u64::from(epoch))),
+        ("epoch", wide(batch.leader_epoch())),
         ("magic", Some(u64::from(batch.magic()))),
         ("crc", Some(u64::from(batch.crc()))),
         ("attributes", Some(u64::from(batch.attributes()))),
@@ -78,11 +93,8 @@ fn fields_of(batch: &Batch) -> [(&'static str, Option<u64>); 14] {
         ("time", Some(batch.base_timestamp())),
         ("most", Some(batch.max_timestamp())),
         ("producer", batch.producer_id()),
-        ("of", batch.producer_epoch().map(|epoch| u64::from(epoch))),
-        (
-            "from",
-            batch.base_sequence().map(|sequence| u64::from(sequence)),
-        ),
+        ("of", wide(batch.producer_epoch())),
+        ("from", wide(batch.base_sequence())),
         ("count", Some(u64::from(batch.count()))),
         ("size", Some(u64::from(batch.size()))),
     ]

@@ -69,29 +69,37 @@ fn push_outcome(
     }
 }
 
+fn told_truncation(alloc: Global, log: &mut Undoable, to: Offset) -> Result<String, Refusal> {
+    let mut text = String::new(alloc);
+    let outcome = log.truncate(to);
+    push_outcome(&mut text, &log.log, outcome)?;
+    Ok(text)
+}
+
 // What comes of truncating the log of these batches, settled up to one offset, to another.
 fn outcome(alloc: Global, words: &str, settled: Offset, to: Offset) -> Result<String, Refusal> {
     let mut log = Undoable::new(alloc);
     log.append(alloc, words)?;
     log.entries.settle(&mut log.log, settled);
-    let outcome = log.truncate(to);
-    let mut text = String::new(alloc);
-    push_outcome(&mut text, &log.log, outcome)?;
-    Ok(text)
+    told_truncation(alloc, &mut log, to)
 }
+
+const FOUR: &str = "p10 p10 p10 p10";
+
+// Batches, up to where they are settled, where they are truncated to, and what comes of it.
+static OUTCOMES: [(&str, Offset, Offset, &str); 6] = [
+    ("", 0, 0, "0 undone, end 0\n"),
+    (FOUR, 1, 0, "F20 BelowSettled\n"),
+    (FOUR, 1, 5, "F19 NotBoundary\n"),
+    (FOUR, 1, 4, "0 undone, end 4\n"),
+    (FOUR, 1, 2, "2 undone, end 2\n"),
+    ("d9.0.0.3", 0, 1, "F19 NotBoundary\n"),
+];
 
 #[test]
 fn a_truncation_is_to_a_boundary_that_is_not_settled(rt: HostRuntime) {
-    let four = "p10 p10 p10 p10";
-    for (words, settled, to, want) in [
-        ("", 0, 0, "0 undone, end 0\n"),
-        (four, 1, 0, "F20 BelowSettled\n"),
-        (four, 1, 5, "F19 NotBoundary\n"),
-        (four, 1, 4, "0 undone, end 4\n"),
-        (four, 1, 2, "2 undone, end 2\n"),
-        ("d9.0.0.3", 0, 1, "F19 NotBoundary\n"),
-    ] {
-        is(&rt, outcome(rt.alloc(), words, settled, to), want);
+    for (words, settled, to, want) in &OUTCOMES {
+        is(&rt, outcome(rt.alloc(), words, *settled, *to), want);
     }
 }
 
@@ -102,24 +110,31 @@ fn all_told(alloc: Global, log: &PartitionLog) -> Result<String, Refusal> {
     Ok(text)
 }
 
-// What is told of a log that had more batches behind these, and was truncated to their end.
-fn truncated(alloc: Global, kept: &str, cut: &str) -> Result<String, Refusal> {
-    let mut log = Undoable::new(alloc);
+// Appends these batches and then more, and truncates the log to the end of the first ones.
+fn append_and_cut(alloc: Global, log: &mut Undoable, kept: &str, cut: &str) -> Result<(), Refusal> {
     log.append(alloc, kept)?;
     let end = log.log.end_offset();
     log.append(alloc, cut)?;
     let _ = log.truncate(end)?;
+    Ok(())
+}
+
+// What is told of a log that had more batches behind these, and was truncated to their end.
+fn truncated(alloc: Global, kept: &str, cut: &str) -> Result<String, Refusal> {
+    let mut log = Undoable::new(alloc);
+    append_and_cut(alloc, &mut log, kept, cut)?;
     all_told(alloc, &log.log)
 }
 
 // What is told of a log that had these alone, which are settled.
 fn alone(alloc: Global, kept: &str) -> Result<String, Refusal> {
-    all_told(alloc, &log_of(alloc, &SMALL, kept)?)
+    let log = log_of(alloc, &SMALL, kept)?;
+    all_told(alloc, &log)
 }
 
 // Batches that are kept, batches that are cut off, and what is told of the kept ones: over two segments and three leader
 // epochs, a producer's new epoch, its sixth and seventh batch, a commit and an abort, a commit behind an abort, and all.
-const CUTS: [(&str, &str, &str); 6] = [
+static CUTS: [(&str, &str, &str); 6] = [
     (
         "1:p10.442 4:p30.442 p20.443",
         "6:p40.442 p50.442 p60.442",
@@ -155,7 +170,7 @@ const CUTS: [(&str, &str, &str); 6] = [
 
 #[test]
 fn a_truncated_log_is_that_of_its_kept_batches(rt: HostRuntime) {
-    for (kept, cut, want) in CUTS {
+    for (kept, cut, want) in &CUTS {
         is(&rt, truncated(rt.alloc(), kept, cut), want);
         is(&rt, alone(rt.alloc(), kept), want);
     }

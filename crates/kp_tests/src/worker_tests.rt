@@ -4,16 +4,20 @@ ghost use Rattle.std.specs.Prelude.{◌≡◌, IfErr};
 ghost use Rattle.kp_types.specs.declared.refusal.Refusal.TheVariants as refusals;
 
 use crate::board_tests::board_of;
-use crate::cluster_tests::{CHOICES, LIMITS, PLAN, Shared, holds, raced, raced_on};
-use kp_board::{BoardName, Opened};
+use crate::cluster_tests::{
+    CHOICES, LIMITS, PLAN, Shared, few_shares_of, holds, raced, raced_on, shares_of,
+};
+use crate::shown::unrefused;
+use kp_board::{Board, BoardName, Opened};
 use kp_cluster::{Cluster, Gate, Open, start_on};
+use kp_node::Node;
 use kp_race::{Outcome, Plan, nodes_of, race_over_channels};
 use kp_transport::{Carry, Channels, Choice, Parcel};
 use kp_types::{NodeId, Refusal};
 use std::alloc::Global;
 use std::marker::Brand;
 use std::sync::atomic::{AtomicU64, Ordering};
-use std::sync::{Arc, Wait};
+use std::sync::{Arc, Mutex, Wait};
 use std::thread;
 use std::thread::Threads;
 
@@ -28,19 +32,23 @@ struct Restarting<B: BoardName, R> {
     restarts: AtomicU64,
 }
 
+// Stops the node and starts it again. Says whether both came.
+fn is_restarted<B: BoardName, R: Wait>(rt: &R, node: &Mutex<Node<B>>) -> bool {
+    let mut node = node.lock(rt);
+    let is_stopped = node.stop().is_ok();
+    let is_up = node.restart().is_ok();
+    is_stopped && is_up
+}
+
 impl<B: BoardName, R: Wait> Restarting<B, R> {
     fn restart(&self, place: NodeId) {
         let number = self.steps.fetch_add(1, Ordering::SeqCst);
         if self.every == 0 || number % self.every != 0 {
             return;
         }
-        let Some(node) = self.nodes.get(usize::from(place)) else {
-            return;
-        };
-        let mut node = node.lock(&self.rt);
-        let stopped = node.stop();
-        let restarted = node.restart();
-        if stopped.is_ok() && restarted.is_ok() {
+        if let Some(node) = self.nodes.get(usize::from(place))
+            && is_restarted(&self.rt, node)
+        {
             self.restarts.fetch_add(1, Ordering::SeqCst);
         }
     }
@@ -60,6 +68,41 @@ impl<B: BoardName, R: Wait> Gate for Restarting<B, R> {
     }
 }
 
+fn new_gate<B: BoardName, R: Wait + Copy + Drop>(
+    rt: &R,
+    alloc: Global,
+    nodes: &Vec<Shared<B>>,
+    every: u64,
+    is_before: bool,
+) -> Result<Arc<Restarting<B, R>, Global>, Refusal> {
+    let nodes = shares_of(alloc, nodes)?;
+    let gate = Restarting {
+        rt: *rt,
+        nodes,
+        every,
+        is_before,
+        steps: AtomicU64::new(0),
+        restarts: AtomicU64::new(0),
+    };
+    Ok(Arc::new(alloc, gate)?)
+}
+
+// What comes of a race over these nodes with this gate, and how often it restarted one.
+fn raced_through<
+    B: BoardName + Send + Sync + 'static,
+    R: Threads + Wait + Copy + Drop + Send + Sync + 'static,
+>(
+    rt: &R,
+    alloc: Global,
+    board: &Arc<Board<B>, Global>,
+    nodes: &Vec<Shared<B>>,
+    gate: &Arc<Restarting<B, R>, Global>,
+) -> Result<(Outcome, u64), Refusal> {
+    let own = Arc::try_clone(gate)?;
+    let outcome = raced_on(rt, alloc, board, nodes, &[], own)?;
+    Ok((outcome, gate.restarts.load(Ordering::SeqCst)))
+}
+
 // What comes of a race whose nodes restart so, and how often they did.
 fn raced_restarting<
     B: BoardName + Send + Sync + 'static,
@@ -74,21 +117,8 @@ fn raced_restarting<
     requires { opened ≡ B.table }
 {
     let (board, nodes) = nodes_of::<B>(alloc, opened, &LIMITS)?;
-    let mut shares = Vec::new(alloc);
-    for node in &nodes {
-        shares.push(Arc::try_clone(node)?)?;
-    }
-    let gate = Restarting {
-        rt: *rt,
-        nodes: shares,
-        every,
-        is_before,
-        steps: AtomicU64::new(0),
-        restarts: AtomicU64::new(0),
-    };
-    let gate = Arc::new(alloc, gate)?;
-    let outcome = raced_on(rt, alloc, &board, &nodes, &[], Arc::try_clone(&gate)?)?;
-    Ok((outcome, gate.restarts.load(Ordering::SeqCst)))
+    let gate = new_gate(rt, alloc, &nodes, every, is_before)?;
+    raced_through(rt, alloc, &board, &nodes, &gate)
 }
 
 // The last turns alone are 100 steps of each of three nodes.
@@ -98,9 +128,7 @@ fn nodes_restart_around_their_steps(rt: HostRuntime) {
     for (every, is_before) in [(1, true), (1, false), (5, true), (5, false)] {
         let opened = board_of(&rt, alloc, 3);
         let found = raced_restarting::<Brand, HostRuntime>(&rt, alloc, opened, every, is_before);
-        let Ok((outcome, restarts)) = found else {
-            panic!(&rt; "a refused race");
-        };
+        let (outcome, restarts) = unrefused(&rt, found);
         assert!(rt; holds(&PLAN, &outcome) && restarts >= 60);
     }
 }
@@ -157,9 +185,7 @@ fn hundred_by_chance<R: Threads + Wait + Copy + Drop + Send + Sync + 'static>(
 #[test]
 fn all_nodes_agree_by_chance(rt: HostRuntime) {
     let found = hundred_by_chance(&rt, rt.alloc());
-    let Ok((hold, acknowledged)) = found else {
-        panic!(&rt; "a refused race");
-    };
+    let (hold, acknowledged) = unrefused(&rt, found);
     assert!(rt; hold && acknowledged > 0);
 }
 
@@ -234,14 +260,13 @@ fn started_but<
 >(
     rt: &R,
     alloc: Global,
-    nodes: Vec<Shared<B>>,
-    carrier: Arc<C, Global>,
+    nodes: &Vec<Shared<B>>,
+    carrier: &Arc<C, Global>,
     refused: NodeId,
 ) -> Result<(Cluster<B, C>, Result<(), Refusal>), Refusal> {
-    if nodes.len() > 7 {
-        return Err(Refusal::BadCount);
-    }
     let gate = Arc::new(alloc, Open)?;
+    let carrier = Arc::try_clone(carrier)?;
+    let nodes = few_shares_of(alloc, nodes)?;
     let stack_of = move |place: NodeId| -> usize {
         if place == refused {
             usize::MAX
@@ -255,23 +280,34 @@ fn started_but<
     }
 }
 
-// Starts three workers, gives node 0 a turn, and stops them.
-fn stopped_after<
-    B: BoardName + Send + Sync + 'static,
-    R: Threads + Wait + Copy + Drop + Send + Sync + 'static,
->(rt: &R, alloc: Global, opened: Opened, refused: Refused) -> Result<Ended, Refusal>
-    requires { opened ≡ B.table }
-{
-    let (_board, nodes) = nodes_of::<B>(alloc, opened, &LIMITS)?;
+type Carrier<B, R> = Refusing<Channels<Parcel<B>, R>>;
+
+fn carrier_of<B: BoardName, R: Wait + Copy + Drop>(
+    rt: &R,
+    alloc: Global,
+    refused: Refused,
+) -> Result<Arc<Carrier<B, R>, Global>, Refusal> {
     let carrier = Refusing {
         inner: Channels::new(*rt, alloc, 3)?,
         sends: AtomicU64::new(0),
         from: refused.from,
         to: refused.to,
     };
-    let carrier = Arc::new(alloc, carrier)?;
-    let shared = Arc::try_clone(&carrier)?;
-    let (cluster, started) = started_but(rt, alloc, nodes, shared, refused.place)?;
+    Ok(Arc::new(alloc, carrier)?)
+}
+
+// Starts workers over the carrier, but for the refused thread, gives node 0 a turn, and stops them.
+fn start_and_stop<
+    B: BoardName + Send + Sync + 'static,
+    R: Threads + Wait + Copy + Drop + Send + Sync + 'static,
+>(
+    rt: &R,
+    alloc: Global,
+    nodes: &Vec<Shared<B>>,
+    carrier: &Arc<Carrier<B, R>, Global>,
+    refused: NodeId,
+) -> Result<Ended, Refusal> {
+    let (cluster, started) = started_but(rt, alloc, nodes, carrier, refused)?;
     let turned = cluster.turn(0);
     let stops = stops_of(rt, cluster);
     Ok(Ended {
@@ -279,14 +315,26 @@ fn stopped_after<
         turned,
         stops,
         sends: carrier.sends.load(Ordering::SeqCst),
-        owners: Arc::strong_count(&carrier),
+        owners: Arc::strong_count(carrier),
     })
+}
+
+// Starts three workers, gives node 0 a turn, and stops them.
+fn stopped_after<
+    B: BoardName + Send + Sync + 'static,
+    R: Threads + Wait + Copy + Drop + Send + Sync + 'static,
+>(rt: &R, alloc: Global, opened: Opened, refused: Refused) -> Result<Ended, Refusal>
+    requires { opened ≡ B.table }
+{
+    let carrier = carrier_of(rt, alloc, refused)?;
+    let (_board, nodes) = nodes_of::<B>(alloc, opened, &LIMITS)?;
+    start_and_stop(rt, alloc, &nodes, &carrier, refused.place)
 }
 
 // A turn is one send, each worker that started is told by one more, and each refused send is one more; a refused one ends a `stop`.
 // In each row: the place whose thread is refused, the numbers of the refused sends, whether start and turn are answered by Ok, how many
 // stops, and how many sends.
-const REFUSALS: [(NodeId, (u64, u64), (bool, bool), u32, u64); 8] = [
+static REFUSALS: [(NodeId, (u64, u64), (bool, bool), u32, u64); 8] = [
     (0, (0, 0), (false, true), 1, 1),
     (1, (0, 0), (false, true), 1, 2),
     (2, (0, 0), (false, true), 1, 3),
@@ -309,13 +357,17 @@ fn answer(is_done: bool) -> Result<(), Refusal> {
 #[test]
 fn refused_threads_and_sends_leave_what_stops(rt: HostRuntime) {
     let alloc = rt.alloc();
-    for (place, (from, to), (started, turned), stops, sends) in REFUSALS {
-        let refused = Refused { place, from, to };
+    for (place, (from, to), (started, turned), stops, sends) in &REFUSALS {
+        let refused = Refused {
+            place: *place,
+            from: *from,
+            to: *to,
+        };
         let wanted = Ended {
-            started: answer(started),
-            turned: answer(turned),
-            stops,
-            sends,
+            started: answer(*started),
+            turned: answer(*turned),
+            stops: *stops,
+            sends: *sends,
             owners: 1,
         };
         let found = stopped_after::<Brand, HostRuntime>(
@@ -338,9 +390,7 @@ fn three_nodes_acknowledge_batches(rt: HostRuntime) {
             moves,
         };
         let found = race_over_channels(&rt, rt.alloc(), 3, &plan);
-        let Ok(outcome) = found else {
-            panic!(&rt; "a refused race");
-        };
+        let outcome = unrefused(&rt, found);
         assert!(rt; holds(&plan, &outcome) && outcome.acknowledged > 0);
     }
 }
