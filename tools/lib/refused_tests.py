@@ -1,8 +1,9 @@
 """The tests of kp_tests, and what may come of each where a growth of memory is refused to it (tools/refuse tests).
 
 The test program lists its tests by `--list`, and runs the one that its first word names. A test that ends as it should says so, and its
-status is 0. Else its words stand on standard error, and it ends by SIGABRT: of crates/kp_tests/src/shown.rt `is` says `F33 Memory in
-place of ..`, and `unrefused` `F33 Memory`; an assertion of two values says what was found and what is wanted.
+status is 0. Else its words stand on standard error, the place of what failed on standard output, and it ends by SIGABRT: of
+crates/kp_tests/src/shown.rt `is` says `F33 Memory in place of ..`, and `unrefused` `F33 Memory`; an assertion of two values says what
+was found and what is wanted.
 """
 import re
 import signal
@@ -11,6 +12,8 @@ import subprocess
 from .refused_rows import Row
 
 PASSED = "\ntest result: ok\n"
+# All that one which doesn't has on standard output: where its assertion stands.
+STOPPED = r"\ntest stopped at src/\w+\.rt:\d+:\d+\n"
 # What names want of memory: the text of a refusal, or a found value that has one.
 NAMED = r"F33 Memory( in place of .*)?\n|assertion `left == right` failed.*\n  left: .*(Err\(Memory\)|F33 Memory).*\n right: .*\n"
 
@@ -53,7 +56,7 @@ class Test(Row):
         """What came of a refusal, in a word; None where that may not be."""
         if self.is_whole(got):
             return "whole"
-        if got.status != -signal.SIGABRT or got.out:
+        if got.status != -signal.SIGABRT or not re.fullmatch(STOPPED, got.out):
             return None
         if self.name in ALWAYS:
             return "F33" if kind.lasting and "F33 Memory\n" in got.err else None
