@@ -2,4 +2,3 @@ pub mod Views
 pub mod Rule
 pub mod Premises
 pub mod Plays
-pub mod Decisions

@@ -1,2 +1,3 @@
+pub mod Set
 pub mod Word
 pub mod Altering

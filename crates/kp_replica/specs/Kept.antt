@@ -19,7 +19,6 @@ node_of r =
             watermark = r.watermark;
             checkpoint = r.checkpoint;
             life = r.life;
-            kept = r.kept_epoch;
             mode = mode_of r.mode;
           };
     }
@@ -48,7 +47,6 @@ kept_node r =
             watermark = r.watermark;
             checkpoint = r.kept.from;
             life = r.life;
-            kept = r.kept_epoch;
             mode = IsDown;
           };
     }

@@ -78,8 +78,6 @@ pub enum Refusal {
     Device,
     /// A growth was refused.
     Memory,
-    /// Another in-sync change of this leader waits for the controller's answer.
-    ChangePending,
 }
 
 impl Refusal {
@@ -121,7 +119,6 @@ impl Refusal {
             Refusal::BadScript(_) => "F31 BadScript",
             Refusal::Device => "F32 Device",
             Refusal::Memory => "F33 Memory",
-            Refusal::ChangePending => "F34 ChangePending",
         }
     }
 
