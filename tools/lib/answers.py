@@ -3,14 +3,21 @@ import re
 from collections import Counter
 
 from . import scripts
-from .cluster import Answer, Follows, Idle, World, end_and_epoch
+from .cluster import Answer, Decision, Follows, Idle, Leads, Proposal, World, end_and_epoch
 from .decoder import Refused
 
 
 def kind_of(message):
-    if not isinstance(message, Answer):
-        return "a request"
-    return "a diverging answer" if message.diverges() else "an answer with batches"
+    if isinstance(message, Answer):
+        return "a diverging answer" if message.diverges() else "an answer with batches"
+    return {Proposal: "a proposal", Decision: "a decision"}.get(type(message), "a request")
+
+
+def message_of(world, line):
+    """The message that the line delivers, if there is one."""
+    verb, number = line.split()[:2]
+    is_sent = verb == "deliver" and int(number) < len(world.messages)
+    return world.messages[int(number)] if is_sent else None
 
 
 def not_awaited(node, answer):
@@ -32,18 +39,27 @@ def not_caught_up(leader, other):
     return "below the watermark" if reported < leader.mark else "below the start"
 
 
+def not_learned(mode, record):
+    """Why a leader learns nothing from a decision with this record."""
+    if record.epoch != mode.epoch:
+        return f"of {'an earlier' if record.epoch < mode.epoch else 'a later'} leader epoch"
+    age = "what it knows" if record.version == mode.version else "older than what it knows"
+    return f"{age}{', a change is pending' if mode.pending else ''}"
+
+
 def cause(world, line, answer):
     """Which of the several causes of a refusal it was, by the world, which is as before; nothing where there is but one."""
     verb, *words = line.split()
     if (verb, answer[:3]) == ("adopt", "F22"):
-        return "no leader" if world.record.leader is None else "no news"
+        has_led = world.record.epoch > world.nodes[int(words[0])].mode.epoch
+        return "no leader" if world.record.leader is None else "it led in that leader epoch" if has_led else "no news"
     if (verb, answer[:3]) == ("leave", "F21"):
         return "the leader itself" if words[0] == words[1] else "no member"
     if (verb, answer[:3]) == ("join", "F23"):
         return not_caught_up(world.nodes[int(words[0])], int(words[1]))
-    if verb != "deliver" or int(words[0]) >= len(world.messages):
-        return None
-    message = world.messages[int(words[0])]
+    message = message_of(world, line)
+    if isinstance(message, Decision) and answer[:3] in ("F22", "F29"):
+        return not_learned(world.nodes[message.proposal.sender].mode, message.record)
     if isinstance(message, Answer) and answer[:3] in ("F22", "F29"):
         node = world.nodes[message.request.sender]
         idle = "idle" if isinstance(node.mode, Idle) else "the record has moved on"
@@ -51,22 +67,40 @@ def cause(world, line, answer):
     return None
 
 
-def is_of_an_earlier_life(world, message):
-    """Whether it is an answer to what its node asked in an earlier life."""
-    return isinstance(message, Answer) and message.request.life != world.nodes[message.request.sender].life
+def decided(world, proposal):
+    """What the controller makes of a proposal."""
+    if world.record == proposal.known:
+        return "the record changes"
+    where = "" if world.record.epoch == proposal.known.epoch else " to another leader epoch"
+    return f"the record has moved on{where}"
 
 
-def form(world, line, answer):
-    """An event and its answer without their numbers, of reads without records. Where it is refused, the world is as before."""
+def learned(world, decision):
+    """Whether who learns the decision still is the record's leader."""
+    return "" if world.record.epoch == decision.record.epoch else "the record has moved on"
+
+
+def note(world, line):
+    """What is told besides of an event that isn't refused, by the world before it."""
     verb, number = line.split()[:2]
-    message = world.messages[int(number)] if verb == "deliver" and int(number) < len(world.messages) else None
+    message = message_of(world, line)
+    if isinstance(message, Answer):
+        return "of an earlier life" if message.request.life != world.nodes[message.request.sender].life else ""
+    if isinstance(message, (Proposal, Decision)):
+        return decided(world, message) if isinstance(message, Proposal) else learned(world, message)
+    mode = world.nodes[int(number)].mode if verb in ("raise", "join", "leave") else None
+    return "a change is pending" if isinstance(mode, Leads) and mode.pending else ""
+
+
+def form(world, line, answer, told):
+    """An event and its answer without their numbers, of reads without records. Where it is refused, the world is as before."""
+    verb, message = line.split()[0], message_of(world, line)
     if verb == "deliver":
         verb += f" {kind_of(message) if message else 'no message'}"
-    if answer[0] != "F":
-        late = ", of an earlier life" if is_of_an_earlier_life(world, message) else ""
-        return f"{verb}: {re.sub('[0-9]+(,[0-9]+)*', 'N', re.sub('^read.*', 'read 0', answer))}{late}"
-    why = cause(world, line, answer)
-    return f"{verb}: {re.sub(' [0-9]+$', '', answer)}{f', {why}' if why else ''}"
+    refused = answer[0] == "F"
+    why = cause(world, line, answer) if refused else told
+    said = re.sub(" [0-9]+$", "", answer) if refused else re.sub("[0-9]+(,[0-9]+)*", "N", re.sub("^read.*", "read 0", answer))
+    return f"{verb}: {said}{f', {why}' if why else ''}"
 
 
 def forms(script):
@@ -74,9 +108,11 @@ def forms(script):
     texts, (count, events), found = script.splitlines(), scripts.parse(script.encode()), Counter()
     world = World(count)
     for place, event in events:
+        line = texts[place - 1]
+        told = note(world, line)
         try:
             answer = event(world)
         except Refused as refusal:
             answer = str(refusal)
-        found[form(world, texts[place - 1], answer)] += 1
+        found[form(world, line, answer, told)] += 1
     return found

@@ -2,13 +2,14 @@
 
 A script of a cluster is made beside the world of tools/lib/cluster.py in which it is played, so that most of its lines do
 something there. Calm times, in which followers fetch and watermarks rise, take turns with storms of elections, in which
-leaders that know nothing of one another take batches in. A leader removes who is slow from the in-sync set, and takes in
-again who has caught up. Nodes stop and come up again, leaders too, and several may be down at once. Messages are lost, come
+leaders that know nothing of one another take batches in. A leader proposes that who is slow leaves the in-sync set, and that
+who has caught up joins it; until it has heard what the controller decided it proposes the same again, or tries something else.
+Nodes stop and come up again, leaders too, which are elected anew then, and several may be down at once. Messages are lost, come
 late, in another order, twice, in another life, and some numbers were never sent.
 """
 from . import scripts
 from .batch import end_of
-from .cluster import Answer, Down, Follows, Idle, Leads, World, end_and_epoch, last_epoch
+from .cluster import Answer, Decision, Down, Follows, Idle, Leads, Proposal, World, end_and_epoch, last_epoch
 from .decoder import Refused
 from .definitions import batches_of, coordinator, kept_batches
 from .logs import Maker, Numbers
@@ -111,9 +112,13 @@ class Replicas(Chance):
 
     def behind(self):
         """The nodes that have yet to take the record up, but for a leader that is the last to know."""
-        named, epoch, *_ = self.world.record
-        return [n for n in self.up()
-                if self.world.nodes[n].mode.epoch < epoch and not (self.is_late and n == named)]
+        record = self.world.record
+        return [n for n in self.up() if self.world.nodes[n].is_news(record) and not (self.is_late and n == record.leader)]
+
+    def has_led(self):
+        """Whether the node that the record names is up, but was restarted since it led: it has to be elected anew."""
+        record = self.world.record
+        return not self.leader() and record.leader in self.up() and not self.world.nodes[record.leader].is_news(record)
 
     def of_mode(self, *modes):
         return [node.number for node in self.world.nodes if isinstance(node.mode, modes)]
@@ -182,17 +187,19 @@ class Replicas(Chance):
         if named in self.of_mode(Down):
             return f"restart {named}" if self.n.once_in(2) else self.elect()
         if leader is None:
-            return f"adopt {named}"
+            return self.elect() if self.has_led() and self.n.below(9) else f"adopt {named}"
         return self.elect() if last_epoch(leader.log) == leader.mode.epoch else self.append()
 
     def forward(self):
         """What comes next between followers and leader, who may be the last to know; now and then a message is lost."""
-        if not self.leader() and not (self.is_late and self.n.below(8)):
+        if not self.leader() and (self.has_led() or not (self.is_late and self.n.below(8))):
             return self.reign()
         if self.unread and self.n.once_in(9):
             self.unread.pop()
         if self.unread and self.parts(self.unread[-1]) and self.n.once_in(4):
             return self.overtake(self.unread.pop())
+        if self.unread and self.is_change(self.unread[-1]) and self.n.once_in(3):
+            return self.disturb_change(self.unread.pop())
         if self.unread:
             return f"deliver {self.unread.pop()}"
         if self.behind():
@@ -218,6 +225,39 @@ class Replicas(Chance):
             del self.planned[1]
         return f"stop {node}"
 
+    def is_change(self, number):
+        """Whether the message is a proposal or a decision."""
+        return isinstance(self.world.messages[number], (Proposal, Decision))
+
+    def changing(self):
+        """The leaders of which a change is pending."""
+        return [n for n in self.of_mode(Leads) if self.world.nodes[n].mode.pending is not None]
+
+    def same_change(self, node):
+        """A line by which a leader proposes the set again that is pending."""
+        mode = self.world.nodes[node].mode
+        gone, new = {*mode.isr} - {*mode.pending}, {*mode.pending} - {*mode.isr}
+        return f"{'leave' if gone else 'join'} {node} {self.n.one_of(sorted(gone or new or mode.isr))}"
+
+    def disturb_change(self, number):
+        """Before a proposal or a decision comes, an election comes, or its leader stops and comes up, be it elected anew or not,
+        raises its watermark, or proposes the same again or anything else, or an earlier one comes once more; or it comes twice."""
+        n, message = self.n, self.world.messages[number]
+        node = message.sender if isinstance(message, Proposal) else message.proposal.sender
+        self.planned = [f"deliver {number}"]
+        if n.once_in(6):
+            return self.elect()
+        if n.once_in(8) and node in self.up():
+            self.planned = [f"restart {node}", *([f"elect {node}", f"adopt {node}"] if n.once_in(2) else []), f"deliver {number}"]
+            return f"stop {node}"
+        if n.once_in(4):
+            return f"deliver {number}"
+        if n.once_in(3):
+            return f"deliver {n.one_of([k for k in range(len(self.world.messages)) if self.is_change(k)][-4:])}"
+        if node not in self.changing() or n.once_in(3):
+            return f"raise {node}"
+        return self.same_change(node) if n.once_in(2) else f"{n.one_of(['join', 'leave'])} {node} {self.any_node()}"
+
     def ask_least(self):
         """A follower that has reported the least to the present leader."""
         leader = self.leader()
@@ -239,6 +279,8 @@ class Replicas(Chance):
             return f"deliver {n.one_of([sent, sent + 1, sent + n.below(2 ** 31 - sent)])}"
         if self.unread and n.once_in(2):
             return f"deliver {self.unread.pop(n.below(len(self.unread)))}"
+        if (changes := [number for number in range(sent) if self.is_change(number)]) and n.once_in(6):
+            return f"deliver {n.one_of(changes[-5:])}"
         fitting = [number for number, message in enumerate(messages) if self.fits(message)]
         if fitting and n.once_in(2):
             return f"deliver {n.one_of(fitting)}"
@@ -248,12 +290,14 @@ class Replicas(Chance):
         return f"raise {self.node()}"
 
     def keep_set(self):
-        """The leader takes in who has caught up, else it removes who has reported the least, more often where a member is down,
-        and may raise its watermark at once; now and then anyone takes in or removes anyone."""
+        """The leader proposes that who has caught up joins, else that who has reported the least leaves, more often where a member
+        is down, and may raise its watermark at once; what is pending it proposes again. Now and then anyone proposes anything."""
         n, leader = self.n, self.leader()
         if leader is None or n.once_in(5):
             return f"{n.one_of(['join', 'leave'])} {self.node()} {self.any_node()}"
         said, mode = leader.number, leader.mode
+        if mode.pending is not None and n.below(4):
+            return self.same_change(said)
         ends = {m: mode.reported.get(m, -1) for m in range(self.count) if m != said}
         back = [m for m in ends if m not in mode.isr and ends[m] >= max(leader.mark, mode.start)]
         if back and not n.once_in(6):
@@ -279,7 +323,8 @@ class Replicas(Chance):
         due = [messages[k] for k in self.unread if isinstance(messages[k], Answer)]
         waiting = [answer.request.sender for answer in sorted(due, key=lambda answer: not answer.diverges())]
         chosen = n.one_of([m for m in waiting if m in self.up()][:2] or self.up() or range(self.count))
-        self.planned = [f"restart {chosen}", f"adopt {chosen}"][:n.one_of([1, 2, 2, 2])]
+        anew = [f"elect {chosen}", f"adopt {chosen}"] if self.leader() and chosen == self.world.record.leader else []
+        self.planned = [f"restart {chosen}", f"adopt {chosen}", *anew][:n.one_of([1, 2, 4, 4])]
         return f"stop {chosen}"
 
     def disturb(self):

@@ -27,12 +27,14 @@ ELECTED = FETCHED + """9 at 1
 """
 
 # What is on a deposed leader alone lies where the next one's watermark has passed already; the answer that their logs part is sent.
-DEPOSED = ELECTED + """12 record leader 1 epoch 1 isr 1 version 3
-13 at 1
-14 mark 2
-15 follows 1 epoch 1
-16 sent 2 asks from 2 epoch 0
-17 sent 3 diverges epoch 0 end 1
+DEPOSED = ELECTED + """12 sent 2 proposes isr 1 version 2
+13 sent 3 record leader 1 epoch 1 isr 1 version 3
+14 isr 1 version 3
+15 at 1
+16 mark 2
+17 follows 1 epoch 1
+18 sent 4 asks from 2 epoch 0
+19 sent 5 diverges epoch 0 end 1
 """
 
 # Command line, and what it leaves.
@@ -394,20 +396,28 @@ status 1
 9 end 1 mark 0
 10 sent 2 asks from 1 epoch 0
 11 sent 3 batches 0 mark 0
-12 record leader 0 epoch 0 isr 0,1 version 2
-13 mark 1
-15 checkpoint 1
-16 stopped
-17 life 1 end 1 mark 1
-18 leads epoch 0 from 1
-19 follows 0 epoch 0
-20 sent 4 asks from 0 no epoch
-21 sent 5 batches 1 mark 1
-22 end 1 mark 1
-23 sent 6 asks from 1 epoch 0
-24 sent 7 batches 0 mark 1
-25 record leader 0 epoch 0 isr 0,1,2 version 3
-status 0
+12 sent 4 proposes isr 0,1 version 1
+13 mark 0
+14 sent 5 record leader 0 epoch 0 isr 0,1 version 2
+15 mark 0
+16 isr 0,1 version 2
+17 mark 1
+19 checkpoint 1
+20 stopped
+21 life 1 end 1 mark 1
+22 F22 StaleRecord
+23 record leader 0 epoch 1 isr 0,1 version 3
+24 leads epoch 1 from 1
+26 follows 0 epoch 1
+27 sent 6 asks from 0 no epoch
+28 sent 7 batches 1 mark 1
+29 end 1 mark 1
+30 sent 8 asks from 1 epoch 0
+31 sent 9 batches 0 mark 1
+32 sent 10 proposes isr 0,1,2 version 3
+33 sent 11 record leader 0 epoch 1 isr 0,1,2 version 4
+34 isr 0,1,2 version 4
+status 1
 """,
     "run restart_from_a_checkpoint.script": opening(1) + """4 at 0
 5 mark 1
@@ -418,9 +428,9 @@ status 0
 10 life 1 end 2 mark 1
 11 F28 Down
 12 F15 NotLeader
-13 leads epoch 0 from 2
-14 F21 NotInSync
-15 mark 2
+13 F22 StaleRecord
+14 F15 NotLeader
+15 F15 NotLeader
 status 1
 """,
     "run answer_of_an_earlier_life.script": FETCHED + """9 stopped
@@ -435,34 +445,36 @@ status 1
 18 node 1 life 2 end 1 mark 0 stable 0
 status 0
 """,
-    "run never_held_and_undone.script": DEPOSED + """18 cut 1
-19 F23 NotCaughtUp
-20 sent 4 asks from 1 epoch 0
-21 sent 5 batches 1 mark 2
-22 F23 NotCaughtUp
-23 end 2 mark 2
-24 sent 6 asks from 2 epoch 1
-25 sent 7 batches 0 mark 2
-26 record leader 1 epoch 1 isr 0,1 version 4
-27 read 2 0=61 1=63
+    "run never_held_and_undone.script": DEPOSED + """20 cut 1
+21 F23 NotCaughtUp
+22 sent 6 asks from 1 epoch 0
+23 sent 7 batches 1 mark 2
+24 F23 NotCaughtUp
+25 end 2 mark 2
+26 sent 8 asks from 2 epoch 1
+27 sent 9 batches 0 mark 2
+28 sent 10 proposes isr 0,1 version 3
+29 sent 11 record leader 1 epoch 1 isr 0,1 version 4
+30 isr 0,1 version 4
+31 read 2 0=61 1=63
 status 1
 """,
-    "run record_moves_on_before_the_cut.script": DEPOSED + """18 record leader 1 epoch 2 isr 1 version 4
-19 F22 StaleRecord
-20 F22 StaleRecord
-21 sent 4 asks from 2 epoch 0
-22 sent 5 diverges epoch 0 end 1
-23 F22 StaleRecord
-24 F22 StaleRecord
-25 sent 6 asks from 2 epoch 0
-26 sent 7 diverges epoch 0 end 1
-27 F22 StaleRecord
-28 read 0
-29 node 0 life 0 end 2 mark 0 stable 0
-31 follows 1 epoch 2
-32 F29 StaleAnswer
-33 F29 StaleAnswer
-34 node 0 life 0 end 2 mark 0 stable 0
+    "run record_moves_on_before_the_cut.script": DEPOSED + """20 record leader 1 epoch 2 isr 1 version 4
+21 F22 StaleRecord
+22 F23 NotCaughtUp
+23 sent 6 asks from 2 epoch 0
+24 sent 7 diverges epoch 0 end 1
+25 F23 NotCaughtUp
+26 F22 StaleRecord
+27 sent 8 asks from 2 epoch 0
+28 sent 9 diverges epoch 0 end 1
+29 F23 NotCaughtUp
+30 read 0
+31 node 0 life 0 end 2 mark 0 stable 0
+33 follows 1 epoch 2
+34 F29 StaleAnswer
+35 F29 StaleAnswer
+36 node 0 life 0 end 2 mark 0 stable 0
 status 1
 """,
     "run joins_at_the_start_of_a_leadership.script": opening(2) + """6 at 0
@@ -480,18 +492,22 @@ status 1
 20 record leader 0 epoch 1 isr 0,1 version 2
 21 leads epoch 1 from 10
 22 node 0 life 0 end 10 mark 7 stable 7
-23 record leader 0 epoch 1 isr 0 version 3
-24 follows 0 epoch 1
-26 F23 NotCaughtUp
-27 sent 6 asks from 8 epoch 0
-28 sent 7 batches 1 mark 7
-29 F23 NotCaughtUp
-30 end 10 mark 7
+23 sent 6 proposes isr 0 version 2
+24 sent 7 record leader 0 epoch 1 isr 0 version 3
+25 isr 0 version 3
+26 follows 0 epoch 1
+28 F23 NotCaughtUp
+29 sent 8 asks from 8 epoch 0
+30 sent 9 batches 1 mark 7
 31 F23 NotCaughtUp
-32 sent 8 asks from 10 epoch 0
-33 sent 9 batches 0 mark 7
-34 record leader 0 epoch 1 isr 0,1 version 4
-35 mark 10
+32 end 10 mark 7
+33 F23 NotCaughtUp
+34 sent 10 asks from 10 epoch 0
+35 sent 11 batches 0 mark 7
+36 sent 12 proposes isr 0,1 version 3
+37 sent 13 record leader 0 epoch 1 isr 0,1 version 4
+38 isr 0,1 version 4
+39 mark 10
 status 1
 """,
     "run in_sync_changes.script": """3 F22 StaleRecord
@@ -506,39 +522,54 @@ status 1
 13 F23 NotCaughtUp
 14 F21 NotInSync
 15 F15 NotLeader
-16 record leader 0 epoch 0 isr 0,1 version 2
-17 F21 NotInSync
-18 F21 NotInSync
-20 sent 0 asks from 0 no epoch
-21 sent 1 batches 0 mark 0
-22 record leader 0 epoch 0 isr 0,1 version 3
-24 at 0
-25 mark 0
-26 record leader 0 epoch 0 isr 0 version 4
-27 mark 1
-28 F23 NotCaughtUp
-29 end 0 mark 0
-30 sent 2 asks from 0 no epoch
-31 sent 3 batches 1 mark 1
-32 end 1 mark 1
-33 F23 NotCaughtUp
-34 sent 4 asks from 1 epoch 0
-35 sent 5 batches 0 mark 1
-36 record leader 0 epoch 0 isr 0,1 version 5
-38 record leader 0 epoch 1 isr 0,1 version 6
-39 F22 StaleRecord
-40 F22 StaleRecord
-41 leads epoch 1 from 1
-43 F23 NotCaughtUp
-44 mark 1
-46 record leader 1 epoch 2 isr 0,1 version 7
-47 F22 StaleRecord
-48 F22 StaleRecord
-49 F22 StaleRecord
-50 leads epoch 2 from 1
-51 record leader 1 epoch 2 isr 1 version 8
-52 F21 NotInSync
-53 record leader 1 epoch 3 isr 1 version 9
+16 sent 0 proposes isr 0,1 version 1
+17 sent 1 record leader 0 epoch 0 isr 0,1 version 2
+18 isr 0,1 version 2
+19 F21 NotInSync
+20 F21 NotInSync
+22 sent 2 asks from 0 no epoch
+23 sent 3 batches 0 mark 0
+24 sent 4 proposes isr 0,1 version 2
+25 sent 5 record leader 0 epoch 0 isr 0,1 version 3
+26 isr 0,1 version 3
+28 at 0
+29 mark 0
+30 sent 6 proposes isr 0 version 3
+31 sent 7 record leader 0 epoch 0 isr 0 version 4
+32 isr 0 version 4
+33 mark 1
+34 F23 NotCaughtUp
+35 end 0 mark 0
+36 sent 8 asks from 0 no epoch
+37 sent 9 batches 1 mark 1
+38 end 1 mark 1
+39 F23 NotCaughtUp
+40 sent 10 asks from 1 epoch 0
+41 sent 11 batches 0 mark 1
+42 sent 12 proposes isr 0,1 version 4
+43 sent 13 record leader 0 epoch 0 isr 0,1 version 5
+44 isr 0,1 version 5
+46 record leader 0 epoch 1 isr 0,1 version 6
+47 sent 14 proposes isr 0 version 5
+48 F34 ChangePending
+49 sent 15 record leader 0 epoch 1 isr 0,1 version 6
+50 F22 StaleRecord
+51 leads epoch 1 from 1
+53 F29 StaleAnswer
+54 F23 NotCaughtUp
+55 mark 1
+57 record leader 1 epoch 2 isr 0,1 version 7
+58 sent 16 proposes isr 0 version 6
+59 F34 ChangePending
+60 F34 ChangePending
+61 sent 17 record leader 1 epoch 2 isr 0,1 version 7
+62 F22 StaleRecord
+63 leads epoch 2 from 1
+64 sent 18 proposes isr 1 version 7
+65 sent 19 record leader 1 epoch 2 isr 1 version 8
+66 F21 NotInSync
+67 record leader 1 epoch 3 isr 1 version 9
+69 isr 1 version 8
 status 1
 """,
     "run stopped_node.script": "2 F28 Down\n" + opening(2, first=3) + """6 at 0
@@ -632,32 +663,46 @@ status 0
 25 read 1 2=62
 status 1
 """,
-    "run leads_again_in_the_same_epoch.script": FETCHED + """9 sent 2 asks from 1 epoch 0
+    "run leads_again_when_elected_anew.script": FETCHED + """9 sent 2 asks from 1 epoch 0
 10 sent 3 batches 0 mark 0
 11 mark 1
 12 at 1
 14 stopped
 15 life 1 end 2 mark 0
 16 F15 NotLeader
-17 leads epoch 0 from 2
-18 mark 0
-19 at 2
-21 sent 4 batches 2 mark 0
-22 F23 NotCaughtUp
-23 mark 1
-24 end 3 mark 0
-25 sent 5 asks from 3 epoch 0
-26 sent 6 batches 0 mark 1
-27 record leader 0 epoch 0 isr 0,1 version 2
-28 mark 3
-29 end 3 mark 1
-30 F29 StaleAnswer
-32 record leader 0 epoch 0 isr 0 version 3
-33 stopped
-34 life 2 end 3 mark 0
-35 leads epoch 0 from 3
-36 mark 3
-37 F21 NotInSync
+17 F22 StaleRecord
+18 F15 NotLeader
+19 record leader 0 epoch 1 isr 0,1 version 2
+20 leads epoch 1 from 2
+21 F22 StaleRecord
+22 mark 0
+23 at 2
+25 F17 FencedLeaderEpoch
+26 follows 0 epoch 1
+27 sent 4 asks from 1 epoch 0
+28 sent 5 batches 2 mark 0
+29 F23 NotCaughtUp
+30 mark 1
+31 end 3 mark 0
+32 sent 6 asks from 3 epoch 1
+33 sent 7 batches 0 mark 1
+34 sent 8 proposes isr 0,1 version 2
+35 sent 9 record leader 0 epoch 1 isr 0,1 version 3
+36 isr 0,1 version 3
+37 mark 3
+38 end 3 mark 1
+39 F29 StaleAnswer
+41 sent 10 proposes isr 0 version 3
+42 sent 11 record leader 0 epoch 1 isr 0 version 4
+43 stopped
+44 life 2 end 3 mark 0
+45 F15 NotLeader
+46 F22 StaleRecord
+47 record leader 0 epoch 2 isr 0 version 5
+48 leads epoch 2 from 3
+49 F22 StaleRecord
+50 mark 3
+51 F21 NotInSync
 status 1
 """,
     "run fetch_answer_of_an_earlier_life.script": FETCHED + """9 sent 2 asks from 1 epoch 0
@@ -727,17 +772,19 @@ status 1
     "run cut_at_the_smaller_end.script": ELECTED + """12 at 1
 13 record leader 0 epoch 2 isr 0,1 version 3
 14 leads epoch 2 from 2
-15 record leader 0 epoch 2 isr 0 version 4
-16 mark 2
-17 follows 0 epoch 2
-19 sent 2 asks from 2 epoch 1
-20 sent 3 diverges epoch 0 end 2
-21 cut 1
-22 node 1 life 0 end 1 mark 0 stable 0
-23 sent 4 asks from 1 epoch 0
-24 sent 5 batches 1 mark 2
-25 end 2 mark 2
-26 read 2 0=61 1=62
+15 sent 2 proposes isr 0 version 3
+16 sent 3 record leader 0 epoch 2 isr 0 version 4
+17 isr 0 version 4
+18 mark 2
+19 follows 0 epoch 2
+21 sent 4 asks from 2 epoch 1
+22 sent 5 diverges epoch 0 end 2
+23 cut 1
+24 node 1 life 0 end 1 mark 0 stable 0
+25 sent 6 asks from 1 epoch 0
+26 sent 7 batches 1 mark 2
+27 end 2 mark 2
+28 read 2 0=61 1=62
 status 0
 """,
     "run nothing_in_common.script": """2 record leader 0 epoch 0 isr 0,1 version 1
@@ -757,6 +804,193 @@ status 0
 17 end 2 mark 0
 18 F29 StaleAnswer
 19 node 0 life 0 end 2 mark 0 stable 0
+status 1
+""",
+    "run one_change_at_a_time.script": opening(2) + """5 at 0
+6 sent 0 proposes isr 0 version 1
+7 mark 0
+8 sent 1 proposes isr 0 version 1
+9 F34 ChangePending
+10 sent 2 record leader 0 epoch 0 isr 0 version 2
+11 mark 0
+12 sent 3 record leader 0 epoch 0 isr 0 version 2
+13 isr 0 version 2
+14 mark 1
+15 F29 StaleAnswer
+16 stopped
+17 life 1 end 1 mark 0
+18 F22 StaleRecord
+19 record leader 0 epoch 1 isr 0 version 3
+20 leads epoch 1 from 1
+status 1
+""",
+    "run decision_comes_late.script": opening(3, 0) + """5 sent 0 proposes isr 0,2 version 1
+6 sent 1 record leader 0 epoch 0 isr 0,2 version 2
+7 isr 0,2 version 2
+8 F29 StaleAnswer
+9 sent 2 proposes isr 0 version 2
+10 F29 StaleAnswer
+11 F34 ChangePending
+12 sent 3 record leader 0 epoch 0 isr 0 version 3
+13 isr 0 version 3
+14 F29 StaleAnswer
+16 record leader 0 epoch 1 isr 0 version 4
+17 leads epoch 1 from 0
+18 F22 StaleRecord
+19 stopped
+20 F28 Down
+22 sent 4 record leader 0 epoch 1 isr 0 version 4
+23 F28 Down
+24 life 1 end 0 mark 0
+25 F15 NotLeader
+26 F15 NotLeader
+27 F29 StaleAnswer
+28 record leader 0 epoch 2 isr 0 version 5
+29 leads epoch 2 from 0
+30 F22 StaleRecord
+status 1
+""",
+    "run proposal_comes_twice.script": opening(2) + """5 sent 0 asks from 0 no epoch
+6 sent 1 batches 0 mark 0
+7 sent 2 proposes isr 0 version 1
+8 sent 3 record leader 0 epoch 0 isr 0 version 2
+9 sent 4 record leader 0 epoch 0 isr 0 version 2
+10 isr 0 version 2
+11 F29 StaleAnswer
+12 sent 5 proposes isr 0,1 version 2
+13 sent 6 record leader 0 epoch 0 isr 0,1 version 3
+15 sent 7 record leader 0 epoch 0 isr 0,1 version 3
+16 isr 0,1 version 3
+17 F29 StaleAnswer
+18 sent 8 proposes isr 0 version 3
+status 1
+""",
+    "run record_moves_on_before_the_decision.script": opening(3, 1) + """5 sent 0 proposes isr 0,1 version 1
+6 record leader 1 epoch 1 isr 0,1,2 version 2
+7 sent 1 record leader 1 epoch 1 isr 0,1,2 version 2
+8 F22 StaleRecord
+10 F34 ChangePending
+11 sent 2 proposes isr 0,1 version 1
+12 leads epoch 1 from 0
+13 sent 3 proposes isr 0,1 version 2
+14 sent 4 record leader 1 epoch 1 isr 0,1,2 version 2
+15 sent 5 record leader 1 epoch 1 isr 0,1 version 3
+16 F22 StaleRecord
+18 record leader 1 epoch 2 isr 0,1 version 4
+19 isr 0,1 version 3
+20 sent 6 proposes isr 1 version 3
+21 sent 7 record leader 1 epoch 2 isr 0,1 version 4
+22 F22 StaleRecord
+24 leads epoch 2 from 0
+25 F29 StaleAnswer
+26 F23 NotCaughtUp
+27 follows 1 epoch 2
+28 F15 NotLeader
+29 F15 NotLeader
+status 1
+""",
+    "run watermark_waits_for_a_pending_member.script": opening(2) + """5 sent 0 proposes isr 0 version 1
+6 sent 1 record leader 0 epoch 0 isr 0 version 2
+7 isr 0 version 2
+8 at 0
+9 mark 1
+10 sent 2 asks from 0 no epoch
+11 sent 3 batches 1 mark 1
+12 end 1 mark 1
+13 sent 4 asks from 1 epoch 0
+14 sent 5 batches 0 mark 1
+16 sent 6 proposes isr 0,1 version 2
+17 at 1
+18 mark 1
+19 F34 ChangePending
+20 sent 7 record leader 0 epoch 0 isr 0,1 version 3
+21 mark 1
+23 record leader 1 epoch 1 isr 0,1 version 4
+24 leads epoch 1 from 1
+25 mark 1
+26 isr 0,1 version 3
+27 mark 1
+28 at 1
+29 follows 1 epoch 1
+30 sent 8 asks from 2 epoch 0
+31 sent 9 diverges epoch 0 end 1
+32 cut 1
+33 read 1 0=61
+status 1
+""",
+    "run same_set_again.script": opening(3, 1) + """5 sent 0 proposes isr 0,1 version 1
+6 F34 ChangePending
+7 sent 1 proposes isr 0,1 version 1
+8 F34 ChangePending
+9 F34 ChangePending
+10 F34 ChangePending
+11 sent 2 record leader 0 epoch 0 isr 0,1 version 2
+12 isr 0,1 version 2
+13 F21 NotInSync
+14 sent 3 asks from 0 no epoch
+15 sent 4 batches 0 mark 0
+17 sent 5 proposes isr 0,1 version 2
+18 at 0
+19 sent 6 proposes isr 0,1 version 2
+20 sent 7 proposes isr 0,1 version 2
+21 sent 8 proposes isr 0,1 version 2
+22 F34 ChangePending
+23 sent 9 record leader 0 epoch 0 isr 0,1 version 2
+24 F29 StaleAnswer
+25 F34 ChangePending
+26 sent 10 record leader 0 epoch 0 isr 0,1 version 3
+27 sent 11 record leader 0 epoch 0 isr 0,1 version 3
+28 isr 0,1 version 3
+29 F21 NotInSync
+30 F23 NotCaughtUp
+31 F29 StaleAnswer
+33 sent 12 proposes isr 0 version 3
+34 sent 13 record leader 0 epoch 0 isr 0 version 4
+35 isr 0 version 4
+36 sent 14 proposes isr 0,1 version 4
+37 F34 ChangePending
+38 F34 ChangePending
+39 sent 15 proposes isr 0,1 version 4
+status 1
+""",
+    "run restarted_leader.script": opening(2) + """5 sent 0 proposes isr 0 version 1
+6 sent 1 record leader 0 epoch 0 isr 0 version 2
+7 isr 0 version 2
+8 sent 2 asks from 0 no epoch
+9 sent 3 batches 0 mark 0
+10 sent 4 proposes isr 0,1 version 2
+12 stopped
+13 life 1 end 0 mark 0
+14 F22 StaleRecord
+15 F15 NotLeader
+16 F15 NotLeader
+17 sent 5 record leader 0 epoch 0 isr 0,1 version 3
+18 F15 NotLeader
+19 F22 StaleRecord
+21 stopped
+22 life 1 end 0 mark 0
+23 follows 0 epoch 0
+25 record leader 0 epoch 1 isr 0,1 version 4
+26 stopped
+27 life 2 end 0 mark 0
+28 leads epoch 1 from 0
+29 F22 StaleRecord
+30 F22 StaleRecord
+31 sent 6 proposes isr 0 version 4
+32 stopped
+33 life 3 end 0 mark 0
+34 record leader 1 epoch 2 isr 0,1 version 5
+35 leads epoch 2 from 0
+36 follows 1 epoch 2
+37 stopped
+38 life 4 end 0 mark 0
+39 follows 1 epoch 2
+40 F22 StaleRecord
+41 record leader 0 epoch 3 isr 0,1 version 6
+42 leads epoch 3 from 0
+43 sent 7 record leader 0 epoch 3 isr 0,1 version 6
+44 F29 StaleAnswer
+45 sent 8 proposes isr 0 version 6
 status 1
 """,
 }

@@ -236,7 +236,7 @@ DATA = f"{TOP}/crates/kp_rows/data"
 EXAMPLES = ("first", "batches", "producers", "transactions", "replicate", "failover", "insync")
 SCRIPTS = ("refused_events", "several_records", "producers_by_the_table", "transactions_survive_a_restart", "markers_by_the_table",
            "restart_from_a_checkpoint", "stopped_node", "fetch_answer_of_an_earlier_life", "cut_twice",
-           "two_rounds_of_reconciliation", "in_sync_changes", "late_messages", "made_cluster_7")
+           "two_rounds_of_reconciliation", "in_sync_changes", "one_change_at_a_time", "late_messages", "made_cluster_7")
 WORDS = {"help": "--help", "version": "--version", "help_of_run": "run --help", "no_words": "", "no_command": "walk x.script",
          "not_in_range": "inspect x --segment 1023"}
 FAULTY = b"nodes 1 segment 1024 interval 0\nelect 7\n"

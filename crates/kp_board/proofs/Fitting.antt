@@ -68,7 +68,7 @@ module _ (n : ℕ) where
       → IsGiven (last d.run).messages act → Local (last d.run).controller p.number p.state act e → p'.state ≡ e.node → p'.number ≡ p.number
       → length words' ≡ length s.words → get_or words' 0 0 ≡ packed e.controller → ((j : ℕ) → j < n → j ≢ p.number → get_or words' (mark_word j) 0 ≡ get_or s.words (mark_word j) 0)
       → get_or words' (mark_word p.number) 0 ≡ p'.published → p.published ≤ p'.published → (p'.published ≡ p.published) ⊎ (p'.published ≡ p'.state.watermark) → p.state.watermark ≤ max p'.published p'.state.watermark
-      → (p'.shown ≡ e.controller) ⊎ WasRecord d.run p'.shown → AreSent ((last d.run).messages ++ e.sent) p'.told → Ruled n record { words = words'; homes = s.homes; views = set s.views id (of_node p') }
+      → WasRecord d.run p'.shown → AreSent ((last d.run).messages ++ e.sent) p'.told → Ruled n record { words = words'; homes = s.homes; views = set s.views id (of_node p') }
   node_step s d words' id p p' act e f given local as_effect same wide zero_word others mark rise which low shown told =
       let k : ℕ = p.number in
       let y : Node = p'.state in
@@ -88,7 +88,7 @@ module _ (n : ℕ) where
         inside = subst (λ (z : ℕ). z < n) (sym same) f.inside;
         own = ap d.owner same ∙ f.own;
         state = ap (λ (z : ℕ). (last q).nodes z) same ∙ here;
-        shown = ⊎_elim (λ (b : p'.shown ≡ e.controller). (last q, inl refl, sym b)) (λ (b : WasRecord d.run p'.shown). (b.0, inr b.1, b.2)) shown;
+        shown = (shown.0, inr shown.1, shown.2);
         word = ap (λ (z : ℕ). get_or words' (mark_word z) 0) same ∙ mark;
         top = subst (λ (z : ℕ). NoWatermarkAbove q z (max p'.published y.watermark)) (sym same) (λ w a. ⊎_elim
             (λ (b : w ≡ last q). let g = ap (λ (z : World). (z.nodes k).watermark) b ∙ ap (λ (x : Node). x.watermark) here in omega arith)

@@ -4,6 +4,8 @@ pub mod Steps
 pub mod Fitting
 pub mod OwnWords
 pub mod RecordWord
+pub mod Deciding
 pub mod MarkWord
 pub mod Sharing
 pub mod Sits
+pub mod Refusals

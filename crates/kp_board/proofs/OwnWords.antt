@@ -29,7 +29,7 @@ module _ (n : ℕ) where
         tt,
         node_step n s d (set s.words i new) id p p' act (leaves (last d.run).controller y sent may.reply) f (may.given (last d.run).messages f.told) (may.local n d.run (shows n s d id p f)) refl refl (length-set s.words i new)
             (get_or-set_other s.words i 0 new 0 (λ e. omega arith) ∙ d.record_is)
-            (λ j l ne. end_words n s.words p.number j new) (end_words n s.words p.number p.number new ∙ f.word) (omega arith) (inl refl) low (inr f.shown) (told_sent n (last d.run).messages sent p.told f.told),
+            (λ j l ne. end_words n s.words p.number j new) (end_words n s.words p.number p.number new ∙ f.word) (omega arith) (inl refl) low f.shown (told_sent n (last d.run).messages sent p.told f.told),
         λ q e. let same = same_node n p q (sym is ∙ e) in (
           ap (λ (z : NodeView). let x : Me ℕ View = (of_node (record z { state = y; told = sent ++ z.told }), m.1) in x) same,
           subst ShowsAWorld same (n, d.run, shows n s d id p f),
@@ -74,7 +74,7 @@ module _ (n : ℕ) where
         tt,
         subst (λ (ws : List ℕ). Ruled n record { words = ws; homes = s.homes; views = set s.views id (of_node p') }) (sym (set-get_or s.words i 0))
             (node_step n s d s.words id p p' act (leaves (last d.run).controller y sent may.reply) f (may.given (last d.run).messages f.told) (may.local n d.run (shows n s d id p f)) refl refl refl d.record_is
-            (λ j l ne. refl) f.word (omega arith) (inl refl) low (inr f.shown) (told_sent n (last d.run).messages sent p.told f.told)),
+            (λ j l ne. refl) f.word (omega arith) (inl refl) low f.shown (told_sent n (last d.run).messages sent p.told f.told)),
         λ q e. let same = same_node n p q (sym is ∙ e) in (
           ap (λ (z : NodeView). let x : Me ℕ View = (of_node (record z { state = y; told = sent ++ z.told }), m.1) in x) same,
           subst ShowsAWorld same (n, d.run, shows n s d id p f),
@@ -107,7 +107,7 @@ module _ (n : ℕ) where
             (get_or-set_other s.words i 0 (max (get_or s.words i 0) new) 0 (λ e. omega arith) ∙ d.record_is)
             (λ j l ne. mark_words s.words p.number j (max (get_or s.words i 0) new) ne) (get_or-set_same s.words i (max (get_or s.words i 0) new) 0 inside ∙ ap (λ (z : ℕ). max z new) here) (omega arith)
             (dite (dec_le new p.published) (λ l. let e : max p.published new ≡ p.published = omega arith in inl e) (λ l. let e : max p.published new ≡ y.watermark = omega arith in inr e))
-            (omega arith) (inr f.shown) (told_more n (last d.run).messages [] p.told f.told),
+            (omega arith) f.shown (told_more n (last d.run).messages [] p.told f.told),
         λ q e. let same = same_node n p q (sym is ∙ e) in ap (λ (z : NodeView). let x : Me ℕ View = (of_node (record z { state = y; published = max z.published new }), m.1) in x) same,
       )
 

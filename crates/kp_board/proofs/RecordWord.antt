@@ -1,5 +1,5 @@
 -- Steps on word 0, looks and exchanges, keep the rule.
-use Rattle.std.proofs.Common.{◌≡◌, ◌≢◌, ℕ, ◌<◌, ◌≤◌, max, List, [], ◌∷◌, length, get_or, set, eqb, Bool, Option, None, inl, inr, ⊎_elim, refl, sym, ap, ◌∙◌, subst, arith, length-set, get_or-set_other, get_or-set_same, eq-eqb, ne_eqb}
+use Rattle.std.proofs.Common.{◌≡◌, ℕ, ◌<◌, max, List, [], ◌∷◌, length, get_or, set, eqb, Bool, Option, None, inl, inr, ⊎_elim, refl, sym, ap, ◌∙◌, subst, arith, length-set, get_or-set_other, get_or-set_same, eq-eqb, ne_eqb}
 use Rattle.std.specs.Prelude.{MatchBool, Contains}
 use Rattle.kp_types.specs.declared.refusal.Refusal.{Refusal}
 use mathlib.Core.Logic.{dite}
@@ -11,15 +11,15 @@ use Rattle.atomic_table.specs.Table.{Me, step, keeps, stepped, Allows}
 use Rattle.kp_model.specs.Log.{Batch}
 use Rattle.kp_model.specs.World.{LeaderAndIsr, Node, with_record, most_nodes}
 use Rattle.kp_model.specs.Event.{Act, Elect, Reply, Changed}
-use Rattle.kp_model.specs.Local.{Effect, Local, elected}
+use Rattle.kp_model.specs.Local.{Local, elected}
 use Rattle.kp_model.specs.Step.{Step, IsInRange, ElectsBy, elect_cause, told as outcome_told}
 use Rattle.kp_model.specs.Run.{Run, last, extend}
 use Rattle.kp_model.proofs.RunLaws.{last_is_of}
 use Rattle.kp_control.specs.Word.{packed}
 use Rattle.kp_board.specs.Views.{NodeView, CallerView, KeptReceipt, View, of_node, of_caller}
 use Rattle.kp_board.specs.Rule.{mark_word, WasWatermark, NoWatermarkAbove, WasRecord, IsOfRun, Ruled, EndsElecting, ShowsLastRecord, ShowsElection}
-use Rattle.kp_board.specs.Premises.{leaves, MayStepUnder, MayAlter}
-use Rattle.kp_board.specs.Plays.{IsRecordOfWord, Finds, SteppedUnder, Looked, ReceiptKept, Elected, Altered, electing}
+use Rattle.kp_board.specs.Premises.{leaves, MayStepUnder}
+use Rattle.kp_board.specs.Plays.{IsRecordOfWord, Finds, SteppedUnder, Looked, ReceiptKept, Elected, electing}
 use Rattle.kp_board.proofs.Steps.{caller_later, keeps_rule, looks_on, record_on}
 use Rattle.kp_board.proofs.Fitting.{node_fits, caller_fits, same_node, same_caller, record_word, shown_range, same_word, not_above, version_le, shows, shown_now, node_step, told_more}
 
@@ -89,7 +89,7 @@ module _ (n : ℕ) where
             (λ (goes_on : (reply : Reply) × Local now p.number p.state act (leaves now (y now) [] reply)).
             subst (λ (ws : List ℕ). Ruled n record { words = ws; homes = s.homes; views = set s.views id (of_node p') }) (sym (set-get_or s.words 0 0))
             (node_step n s d s.words id p p' act (leaves now (y now) [] goes_on.0) f (may.given (last d.run).messages f.told) goes_on.1 refl refl refl d.record_is
-            (λ j l ne. refl) f.word (omega arith) (inl refl) low (inr showed) (told_more n (last d.run).messages [] p.told f.told)))
+            (λ j l ne. refl) f.word (omega arith) (inl refl) low showed (told_more n (last d.run).messages [] p.told f.told)))
             (may.local n d.run (shows n s d id p f)),
         λ q e. let same = same_node n p q (sym is ∙ e) in
             subst (λ (x : NodeView). (k : LeaderAndIsr) × Finds x.shown k (get_or s.words 0 0) × Same (of_node p', m.1) (of_node (record x { state = y k; shown = k }), m.1) × knows k) same
@@ -175,47 +175,3 @@ module _ (n : ℕ) where
       → Allows (Ruled n) slots id m 0 (λ x. either (eqb x old) new x) (Elected node next (step slots 0 old new none) m)
   elects_as slots id m c k node next old new is whose e g f free =
       subst (λ (z : ℕ × ℕ × LeaderAndIsr × ℕ). Allows (Ruled n) slots id m 0 (λ x. either (eqb x z.0) z.1 x) (Elected z.3 z.2 (step slots 0 z.0 z.1 none) m)) (λ i. (sym e i, sym (f ∙ ap packed g) i, sym g i, sym whose i)) (elects_one slots id m c k is free)
-
-  abbrev AlteredBy : Bool → NodeView → List (ℕ × ℕ) → NodeView → Node → LeaderAndIsr → LeaderAndIsr → ℕ → Type 0
-  AlteredBy b p' rest x y known next found = MatchBool b (Same (of_node p', rest) (of_node (record x { state = y; shown = next }), rest) × (x.shown.version ≤ known.version))
-      ((s : LeaderAndIsr) × Finds x.shown s found × Same (of_node p', rest) (of_node (record x { shown = s }), rest) × (s ≢ known))
-
-  -- a compare-exchange on word 0 by a node, from the record that it knows
-  pub alters_one : (slots id : ℕ) (m : Me ℕ View) (p : NodeView) (act : Act) (known next : LeaderAndIsr) (y : Node) (old new : ℕ) → m.0 ≡ of_node p → old ≡ packed known → new ≡ packed next → MayAlter p act known next y
-      → Allows (Ruled n) slots id m 0 (λ x. either (eqb x old) new x) (Altered y known next (step slots 0 old new none) m)
-  alters_one slots id m p act known next y old new is old_is new_is may s d _ at _ =
-      let f = node_fits n s d id m.0 p at is in
-      let found : ℕ = get_or s.words 0 0 in
-      let now : LeaderAndIsr = (last d.run).controller in
-      let not_under = version_le n p.shown now (not_above n s d p.shown f.shown) in
-      let there : 0 < length s.words = (let a = d.wide in omega arith) in
-      let mark = may.mark in
-      dite (ℕ_discrete found old)
-      (λ hit.
-      let same : now ≡ known = same_word n s d known may.range (hit ∙ old_is) in
-      let words' : List ℕ = set s.words 0 new in
-      let others = λ (j : ℕ). get_or-set_other s.words 0 (mark_word j) new 0 (λ e. omega arith) in
-      let e : Effect = record { node = y; controller = next; sent = []; reply = may.reply } in
-      let p' : NodeView = record p { state = y; shown = next } in (
-        of_node p',
-        keeps,
-        tt,
-        subst (λ b. Ruled n (stepped s 0 (either b new found) id m.1 (of_node p') keeps)) (sym (eq-eqb found old hit))
-            (node_step n s d words' id p p' act e f (may.given (last d.run).messages f.told) (subst (λ (x : LeaderAndIsr). Local x p.number p.state act e) (sym same) may.local) refl refl (length-set s.words 0 new)
-            (get_or-set_same s.words 0 new 0 there ∙ new_is) (λ j l ne. others j) (others p.number ∙ f.word) (omega arith) (inl refl) (omega arith) (inl refl) (told_more n (last d.run).messages [] p.told f.told)),
-        λ x g. let to = same_node n p x (sym is ∙ g) in
-            subst (λ b. AlteredBy b p' m.1 x y known next found) (sym (eq-eqb found old hit))
-            (subst (λ (z : NodeView). Same (of_node p', m.1) (of_node (record z { state = y; shown = next }), m.1) × (z.shown.version ≤ known.version)) to (refl, subst (λ (z : LeaderAndIsr). p.shown.version ≤ z.version) same not_under)),
-      ))
-      (λ miss.
-      let p' : NodeView = record p { shown = now } in (
-        of_node p',
-        keeps,
-        tt,
-        subst (λ b. Ruled n (stepped s 0 (either b new found) id m.1 (of_node p') keeps)) (sym (ne_eqb found old miss))
-            (looks_on s d 0 id (of_node p') record { inside = f.inside; own = f.own; state = f.state; shown = (last d.run, last_is_of n d.run, refl); word = f.word; top = f.top; told = f.told }),
-        λ x e. let to = same_node n p x (sym is ∙ e) in
-            subst (λ b. AlteredBy b p' m.1 x y known next found) (sym (ne_eqb found old miss))
-            (subst (λ (z : NodeView). (s : LeaderAndIsr) × Finds z.shown s found × Same (of_node p', m.1) (of_node (record z { shown = s }), m.1) × (s ≢ known)) to
-            (now, record { is = record_word n s d; later = not_under }, refl, λ same. miss (d.record_is ∙ ap packed same ∙ sym old_is))),
-      ))

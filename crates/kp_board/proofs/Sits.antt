@@ -1,14 +1,14 @@
 -- What a pass shows after a step.
-use Rattle.std.proofs.Common.{◌≡◌, ◌≢◌, ℕ, zero, suc, ◌+◌, ◌<◌, ◌≤◌, Bool, true, false, List, [], ◌∷◌, ◌++◌, length, map, Some, length-append, arith, refl, sym, subst, ap, ◌∙◌}
+use Rattle.std.proofs.Common.{◌≡◌, ℕ, zero, suc, ◌+◌, ◌<◌, Bool, true, false, List, [], ◌∷◌, ◌++◌, length, map, Some, length-append, arith, refl, sym, subst, ap, ◌∙◌}
 use mathlib.Core.Logic.{dite}
 use native.Mathlib.Decide.{ℕ_discrete}
 use Rattle.std.specs.Prelude.{MatchBool, slice_get}
 use Rattle.std.proofs.lemmas.List.{length-map, map-append}
 use Rattle.atomic_table.specs.Table.{Me}
-use Rattle.kp_model.specs.World.{LeaderAndIsr, Node}
+use Rattle.kp_model.specs.World.{LeaderAndIsr}
 use Rattle.kp_board.specs.Views.{NodeView, CallerView, View, of_node, of_caller, node_view, caller_view}
 use Rattle.kp_board.specs.Rule.{ShowsLastRecord, ShowsElection}
-use Rattle.kp_board.specs.Plays.{IsRecordOfWord, Finds, electing}
+use Rattle.kp_board.specs.Plays.{IsRecordOfWord, electing}
 
 pub sits_caller : (m : Me ℕ View) (c : CallerView) (rest : List (ℕ × ℕ)) → m ≡ (of_caller c, rest) → rest ≡ [] → m ≡ (of_caller (caller_view m.0), [])
 sits_caller m c rest e f = let same : c ≡ caller_view m.0 = sym (ap (λ (x : Me ℕ View). caller_view x.0) e) in e ∙ (λ i. (of_caller (same i), f i))
@@ -65,19 +65,3 @@ pushed_by {A} {B} p f n xs y items e long old here = (
       (subst (λ (l : List B). (k : ℕ) → k < n + 1 → slice_get l k ≡ Some (f k)) (sym (map-append p xs (y ∷ [])))
       (pushed (map p xs) f (p y) n (length-map xs p ∙ long) old here)),
 )
-
-module _ (m m' : Me ℕ View) (p : NodeView) (found : ℕ) (y : Node) (known next : LeaderAndIsr) where
-  abbrev pub AlteredTold : Bool → Type 0
-  AlteredTold b = MatchBool b ((m' ≡ (of_node (record p { state = y; shown = next }), m.1)) × (p.shown.version ≤ known.version))
-      ((s : LeaderAndIsr) × Finds p.shown s found × (m' ≡ (of_node (record p { shown = s }), m.1)) × (s ≢ known))
-
-  pub altered_sits : (b : Bool) (k : ℕ) → AlteredTold b → m.1 ≡ [] → p.number ≡ k → (m' ≡ (of_node (node_view m'.0), [])) × ((node_view m'.0).number ≡ k)
-  altered_sits true k e f g = node_after m m' (record p { state = y; shown = next }) k e.0 f g
-  altered_sits false k e f g = node_after m m' (record p { shown = e.0 }) k e.2 f g
-
-  pub altered_shows : (b : Bool) → AlteredTold b
-      → MatchBool b ((node_view m'.0 ≡ record p { state = y; shown = next }) × (p.shown.version ≤ known.version))
-      ((node_view m'.0 ≡ record p { shown = (node_view m'.0).shown }) × (p.shown.version ≤ (node_view m'.0).shown.version) × ((node_view m'.0).shown ≢ known))
-  altered_shows true e = (shows_node m' (record p { state = y; shown = next }) m.1 e.0, e.1)
-  altered_shows false e = let g = shows_node m' (record p { shown = e.0 }) m.1 e.2 in
-      (g ∙ (λ i. record p { shown = (sym g i).shown }), subst (λ (x : NodeView). p.shown.version ≤ x.shown.version) (sym g) e.1.later, λ same. e.3 (sym (ap (λ (x : NodeView). x.shown) g) ∙ same))

@@ -2,3 +2,4 @@ pub mod Views
 pub mod Rule
 pub mod Premises
 pub mod Plays
+pub mod Decisions

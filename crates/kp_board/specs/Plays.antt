@@ -48,13 +48,6 @@ abbrev pub SteppedUnder : (LeaderAndIsr → Node) → (LeaderAndIsr → Type 0) 
 SteppedUnder y knows st m found m' = (p : NodeView) → m.0 ≡ of_node p
     → (s : LeaderAndIsr) × Finds p.shown s found × (m' ≡ (of_node (record p { state = y s; shown = s }), m.1)) × knows s
 
--- the node has changed the record that it knows to the next one and become y, or another record was found
-abbrev pub Altered : Node → (known next : LeaderAndIsr) → Step ℕ → Seated → ℕ → Seated → Type 0
-Altered y known next st m found m' = (p : NodeView) → m.0 ≡ of_node p
-    → MatchBool (found == st.first)
-    ((m' ≡ (of_node (record p { state = y; shown = next }), m.1)) × (p.shown.version ≤ known.version))
-    ((s : LeaderAndIsr) × Finds p.shown s found × (m' ≡ (of_node (record p { shown = s }), m.1)) × (s ≢ known))
-
 -- ---- a caller's steps
 
 -- a caller came, who knows how many nodes there are

@@ -1,10 +1,10 @@
 -- What a node owes at a step that is an event of its own (own rule). The node's code sees neither the record nor the other
 -- nodes, so it is owed for every run that ends in a world which the node's pass shows.
 use Rattle.std.specs.Prelude.{◌≡◌, ◌⊎◌, ℕ, ◌<◌, ◌≤◌, max, List, []}
-use Rattle.kp_model.specs.World.{LeaderAndIsr, Node, Message, most_nodes}
+use Rattle.kp_model.specs.World.{LeaderAndIsr, Node, Message}
 use Rattle.kp_model.specs.Event.{Act, Reply}
 use Rattle.kp_model.specs.Local.{Effect, Local}
-use Rattle.kp_model.specs.Step.{IsGiven, IsInRange}
+use Rattle.kp_model.specs.Step.{IsGiven}
 use Rattle.kp_model.specs.Run.{Run, last}
 use Rattle.kp_board.specs.Views.{NodeView}
 use Rattle.kp_board.specs.Rule.{AreSent, WasRecord}
@@ -38,11 +38,3 @@ pub record MayStepUnder (p : NodeView) (act : Act) (y : LeaderAndIsr → Node) (
       → (y (last r).controller ≡ p.state) ⊎ ((reply : Reply) × Local (last r).controller p.number p.state act (leaves (last r).controller (y (last r).controller) [] reply))
   pub mark : (c : LeaderAndIsr) → p.state.watermark ≤ max p.published (y c).watermark
   pub known : (n : ℕ) (r : Run n) → Shows r p → knows (last r).controller
-
--- Where the known record is the run's last, the act changes it to the next one, and the node becomes y.
-pub record MayAlter (p : NodeView) (act : Act) (known next : LeaderAndIsr) (y : Node) : Type 0 where
-  pub range : IsInRange most_nodes known
-  pub reply : Reply
-  pub given : (messages : List Message) → AreSent messages p.told → IsGiven messages act
-  pub mark : y.watermark ≡ p.state.watermark
-  pub local : Local known p.number p.state act (record { node = y; controller = next; sent = []; reply = reply })

@@ -4,7 +4,7 @@ ghost use Rattle.kp_types.specs.declared.refusal.Refusal.TheVariants.{Memory, St
 ghost use Rattle.kp_model.specs.World.{LeaderAndIsr as ModelRecord, most_nodes};
 ghost use Rattle.kp_model.specs.Local.{elected};
 ghost use Rattle.kp_model.specs.Step.{elect_cause};
-ghost use Rattle.kp_control.specs.Set.{record_of};
+ghost use Rattle.kp_model.specs.Set.{record_of};
 ghost use Rattle.kp_control.specs.Word.{packed};
 ghost use Rattle.kp_board.specs.Views.{KeptReceipt, new_node, new_caller};
 ghost use Rattle.kp_board.specs.Rule.{ShowsLastRecord, ShowsElection};
@@ -16,7 +16,8 @@ use crate::plays::{
 };
 use crate::rule::{BoardSeat, BoardTable};
 use crate::word::record_of_word;
-use kp_control::LeaderAndIsr;
+use kp_control::{elected, pack};
+use kp_model::LeaderAndIsr;
 use kp_types::{NODE_PLACES, NodeId, Offset, Refusal};
 use std::alloc::Global;
 use std::marker::{Brand, Model, PhantomData};
@@ -74,7 +75,7 @@ impl Opened {
         ensures only { IfErr result (λ refusal. refusal ≡ Memory) }
     {
         let mut words = [0u64; MOST_WORDS];
-        words[0] = LeaderAndIsr::initial(nodes).pack();
+        words[0] = pack(&LeaderAndIsr::initial(nodes));
         let count = 2 * nodes as usize + 1;
         let (table, first) = BoardTable::of_words(alloc, &words[..count], &u64::from(nodes))?;
         Ok(Opened {
@@ -213,8 +214,8 @@ impl<B: BoardName> Board<B> {
         ensures pass { OnErr result ((pass.new ≡ record pass.old { shown = pass.new.shown }) × ShowsLastRecord pass.new) }
     {
         let shown = self.found(pass);
-        let next = shown.1.elected(node)?;
-        if self.exchange::<Brand>(pass, node, shown.0, next.pack()) {
+        let next = elected(&shown.1, node)?;
+        if self.exchange::<Brand>(pass, node, shown.0, pack(&next)) {
             Ok(next)
         } else {
             Err(Refusal::StaleRecord)

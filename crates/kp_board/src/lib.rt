@@ -4,6 +4,7 @@
 #![tactic(auto)]
 
 mod board;
+mod decisions;
 mod message;
 mod node_steps;
 mod passes;
@@ -16,6 +17,6 @@ mod word;
 pub use board::{Board, Opened};
 pub use message::Message;
 pub use passes::{BoardName, FreshPass, MessagePass, NodePass, Pass};
-pub use plays::{Election, NodeStep, ReceiptFiling, RecordChange, SendingStep, StepUnderRecord};
+pub use plays::{Election, NodeStep, ReceiptFiling, SendingStep, StepUnderRecord};
 pub use rule::{BoardRule, BoardSeat, BoardTable};
 pub use views::SeatView;

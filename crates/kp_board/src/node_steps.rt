@@ -1,20 +1,19 @@
 //! A node's steps: each is one operation on one word, and one event of that node in the run or none.
 //! None takes memory or waits. `_said` is read by nobody: a caller names the event by what it hands in there.
-ghost use Rattle.std.specs.Prelude.{◌≡◌, ◌+◌, ◌*◌, ◌≤◌, max, [], ◌∷◌, ◌++◌, ◌≢◌, MatchBool};
+ghost use Rattle.std.specs.Prelude.{◌≡◌, ◌+◌, ◌*◌, ◌≤◌, max, [], ◌∷◌, ◌++◌};
 ghost use Rattle.kp_model.specs.Event.{Act};
 ghost use Rattle.kp_model.specs.World.{LeaderAndIsr as ModelRecord, Message};
-ghost use Rattle.kp_control.specs.Set.{record_of};
-ghost use Rattle.kp_board.specs.Premises.{MayStep, MayStepUnder, MayAlter, ShowsAWorld};
+ghost use Rattle.kp_model.specs.Set.{record_of};
+ghost use Rattle.kp_board.specs.Premises.{MayStep, MayStepUnder, ShowsAWorld};
 ghost use Rattle.kp_board.specs.Plays.{Finds};
 
 use crate::board::Board;
 use crate::passes::{BoardName, MessagePass, NodePass};
 use crate::plays::{
-    Alters, NodeStep, Raises, RecordChange, SendingStep, Stays, StepUnderRecord, Steps,
-    StepsAndSends, StepsUnder,
+    NodeStep, Raises, SendingStep, Stays, StepUnderRecord, Steps, StepsAndSends, StepsUnder,
 };
 use crate::word::record_of_word;
-use kp_control::LeaderAndIsr;
+use kp_model::LeaderAndIsr;
 
 impl<B: BoardName> Board<B> {
     /// An event of a node by a store of its log end offset to its end word: an append, or the taking of fetched batches. A
@@ -43,8 +42,8 @@ impl<B: BoardName> Board<B> {
         self.table.shared.load::<Steps<E>>(&mut pass.seat, word);
     }
 
-    /// An event of a node with one message, by a load of its end word: it asks, or serves a request. The answer is the
-    /// message's pass. A run has the world in which it happens. O(1). (Own rule.)
+    /// An event of a node with one message, by a load of its end word: it asks, serves a request, or proposes another in-sync
+    /// set. The answer is the message's pass. A run has the world in which it happens. O(1). (Own rule.)
     pub fn load_end_sending<E: SendingStep, T, U>(
         &self,
         pass: &mut NodePass<B>,
@@ -98,8 +97,8 @@ impl<B: BoardName> Board<B> {
         self.table.shared.load::<StepsUnder<E>>(&mut pass.seat, 0)
     }
 
-    /// An event of a node under the record that a load of word 0 finds: it adopts it, or cuts its log; or only a look. The
-    /// answer is that record, and of it is known what a run knows (`knows`). O(1). (Own rule.)
+    /// An event of a node under the record that a load of word 0 finds: it adopts it, cuts its log, or learns from a decision; or
+    /// only a look. The answer is that record, and of it is known what a run knows (`knows`). O(1). (Own rule.)
     pub fn step_under_record<E: StepUnderRecord, T>(
         &self,
         pass: &mut NodePass<B>,
@@ -120,31 +119,5 @@ impl<B: BoardName> Board<B> {
     {
         let word = 2 * pass.number as usize + 1;
         self.table.shared.store::<Stays>(&mut pass.seat, word, end);
-    }
-
-    /// One try of a leader to change the record that it knows to the next one, by one exchange of word 0. True: it is done, and
-    /// the next record is shown. False: another record is shown, and nothing else has changed. O(1). (Own rule.)
-    pub fn exchange_record<E: RecordChange, T>(
-        &self,
-        pass: &mut NodePass<B>,
-        known: &LeaderAndIsr,
-        next: &LeaderAndIsr,
-        _said: &T,
-    ) -> bool
-        requires known { record_of known.now ≡ E.known }
-        requires next { record_of next.now ≡ E.record_after }
-        requires may { (act : Act) × MayAlter pass.old act E.known E.record_after E.next }
-        ensures { MatchBool result
-            ((pass.new ≡ record pass.old { state = E.next; shown = E.record_after })
-            × (pass.old.shown.version ≤ E.known.version))
-            ((pass.new ≡ record pass.old { shown = pass.new.shown }) × (pass.old.shown.version ≤ pass.new.shown.version)
-            × (pass.new.shown ≢ E.known)) }
-    {
-        let old = known.pack();
-        let new = next.pack();
-        self.table
-            .shared
-            .compare_exchange::<Alters<E>>(&mut pass.seat, 0, old, new)
-            == old
     }
 }

@@ -77,7 +77,8 @@ impl<B: BoardName> Model for Pass<B> {
     ghost invariant = { λ p. (p.seat.table_id ≡ B.table) × (p.seat.me ≡ (of_caller (caller_view p.seat.me.0), [])) };
 }
 
-/// A message's pass. A clause sees the message, which was sent in the board's run. It goes with the message's body.
+/// A message's pass. A clause sees the message, which was sent in the board's run. It goes with the message's body. A decision makes a
+/// proposal's pass the one of its answer.
 #[derive(Drop)]
 pub struct MessagePass<B: BoardName> {
     pub(crate) seat: BoardSeat,

@@ -91,27 +91,6 @@ impl Election for Brand {
     ghost record_after = { initial 0 };
 }
 
-/// The record that a leader knows, the record after its change, and what the leader becomes. It costs nothing.
-pub trait RecordChange {
-    ghost use Rattle.kp_model.specs.World.{LeaderAndIsr, Node};
-
-    ghost known: { LeaderAndIsr };
-
-    ghost record_after: { LeaderAndIsr };
-
-    ghost next: { Node };
-}
-
-impl RecordChange for Brand {
-    ghost use Rattle.kp_model.specs.World.{initial, fresh};
-
-    ghost known = { initial 0 };
-
-    ghost record_after = { initial 0 };
-
-    ghost next = { fresh };
-}
-
 // A node's event.
 pub(crate) struct Steps<E> {
     what: PhantomData<E>,
@@ -165,17 +144,6 @@ impl<E: StepUnderRecord> Play<u8, SeatView> for StepsUnder<E> {
     ghost then = { SteppedUnder E.next E.knows };
 }
 
-// A leader changes the record.
-pub(crate) struct Alters<E> {
-    what: PhantomData<E>,
-}
-
-impl<E: RecordChange> Play<u8, SeatView> for Alters<E> {
-    ghost use Rattle.kp_board.specs.Plays.{Altered};
-
-    ghost then = { Altered E.next E.known E.record_after };
-}
-
 // A new caller.
 pub(crate) struct Arrives;
 
@@ -223,6 +191,15 @@ impl<E: Election> Play<u8, SeatView> for Elects<E> {
     ghost use Rattle.kp_board.specs.Plays.{Elected};
 
     ghost then = { Elected E.node E.record_after };
+}
+
+// The controller decides on a proposal.
+pub(crate) struct DecidesOn;
+
+impl Play<u8, SeatView> for DecidesOn {
+    ghost use Rattle.kp_board.specs.Decisions.{Decided};
+
+    ghost then = { Decided };
 }
 
 // The next node's pass is made.

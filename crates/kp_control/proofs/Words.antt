@@ -5,13 +5,11 @@ use Rattle.std.proofs.Math.Arith.{lt_of_le-ne}
 use Rattle.std.specs.Prelude.{if◌then◌else◌}
 use Rattle.std.proofs.lemmas.Bool.{cases_eq, cond_both, eq-eqb, ne_eqb}
 use Rattle.std.proofs.lemmas.List.Sums.{sum_by-cons}
-use Rattle.kp_model.specs.World.{Leader, LeaderAndIsr, most_nodes}
+use Rattle.kp_model.specs.World.{Leader, LeaderAndIsr}
 use Rattle.kp_model.specs.Local.{greatest_epoch}
 use Rattle.kp_model.specs.Step.{Rise, IsInRange}
-use Rattle.std.specs.Option.{option_map, ForSome}
-use Rattle.kp_control.specs.declared.record.Leader.{Leader as CodeLeader}
-use Rattle.kp_control.specs.declared.record.LeaderAndIsr.{LeaderAndIsr as CodeRecord}
-use Rattle.kp_control.specs.Set.{numbers_of, leader_of, record_of}
+use Rattle.kp_model.specs.Set.{numbers_of}
+use Rattle.kp_model.proofs.InRange.{rise_of}
 use Rattle.kp_control.specs.Word.{leader_field, epoch_field, set_field, packed, WordsAreOne}
 
 -- ---- a set's bits, the first number's the lowest
@@ -111,20 +109,6 @@ code_small first xs = small first 7 xs
         let other = small (first + 1) k (x ∷ xs) in
         let power = pow-succ' 2 k in
         cond_both (eqb x first) (2 * code (first + 1) k xs + 1) (2 * code (first + 1) k (x ∷ xs)) (λ n. n < 2 ^ suc k) (λ e. omega (arith, rest, power)) (λ e. omega (arith, other, power))
-
--- the numbers of places rise
-rise_of : (first : ℕ) (places : List Bool) → Rise first (first + length places) (numbers_of first places)
-rise_of first [] = tt
-rise_of first (true ∷ bs) =
-    let top : first + 1 + length bs ≡ first + length (true ∷ bs) = omega arith in
-    (omega arith, omega arith, subst (λ (z : ℕ). Rise (first + 1) z (numbers_of (first + 1) bs)) top (rise_of (first + 1) bs))
-rise_of first (false ∷ bs) =
-    let top : first + 1 + length bs ≡ first + length (false ∷ bs) = omega arith in
-    from_below first (first + length (false ∷ bs)) (numbers_of (first + 1) bs) (subst (λ (z : ℕ). Rise (first + 1) z (numbers_of (first + 1) bs)) top (rise_of (first + 1) bs))
-  where
-    from_below : (low high : ℕ) (xs : List ℕ) → Rise (low + 1) high xs → Rise low high xs
-    from_below low high [] h = tt
-    from_below low high (x ∷ xs) h = (omega (arith, h.0), h.1, h.2)
 
 -- two rising sets below 7 with one field are one
 pub set_one : (places : List Bool) (xs : List ℕ) → length places ≡ 7 → Rise 0 7 xs → set_field (numbers_of 0 places) ≡ set_field xs → numbers_of 0 places ≡ xs
@@ -228,20 +212,3 @@ one_word r s in_r in_s same =
     let isr : r.isr ≡ s.isr = sym (back 0 7 r.isr in_r.isr) ∙ ap (λ (n : ℕ). decoded 0 7 n) codes ∙ back 0 7 s.isr in_s.isr in
     let version : r.version ≡ s.version = sym f.version ∙ g.version in
     λ i. record { leader = leader i; isr = isr i; version = version i }
-
--- ---- a record of the code is in range
-
-code_leader : (o : Option CodeLeader) → ForSome o (λ l. l.epoch + 1 < 2 ^ 24) → ForSome o (λ l. l.node < 7) → (l : Leader) → option_map leader_of o ≡ Some l → (l.node < most_nodes) × (l.epoch ≤ greatest_epoch)
-code_leader None low small l e = absurd cc
-code_leader (Some k) low small l e =
-    let same : leader_of k ≡ l = cc in
-    let node : k.node ≡ l.node = ap (λ (m : Leader). m.node) same in
-    let epoch : k.epoch ≡ l.epoch = ap (λ (m : Leader). m.epoch) same in
-    ((let s : k.node < 7 = small k refl in omega arith), let a : k.epoch + 1 < 2 ^ 24 = low k refl in omega arith)
-
-pub code_in_range : (r : CodeRecord) → length r.isr.members ≡ 7 → ForSome r.leader (λ l. l.epoch + 1 < 2 ^ 24) → ForSome r.leader (λ l. l.node < 7) → r.version < 2 ^ 28 → IsInRange most_nodes (record_of r)
-code_in_range r seven low small version = record {
-  leader = code_leader r.leader low small;
-  isr = subst (λ (z : ℕ). Rise 0 z (numbers_of 0 r.isr.members)) (let e : 0 + length r.isr.members ≡ most_nodes = omega (arith, seven) in e) (rise_of 0 r.isr.members);
-  version = omega arith;
-}

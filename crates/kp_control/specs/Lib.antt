@@ -1,3 +1,2 @@
-pub mod Set
 pub mod Word
 pub mod Altering

@@ -1,173 +1,72 @@
-//! The controller's record: who leads in which epoch, and who is in sync.
+//! How the controller's record changes: by an election, and by a proposal that it follows.
 
-ghost use Rattle.std.specs.Prelude.{◌≡◌, ◌+◌, ◌<◌, ◌≤◌, ◌^◌, IfOk};
-ghost use Rattle.std.specs.Option.{ForSome};
-ghost use Rattle.kp_model.specs.World.{most_nodes};
+ghost use Rattle.std.specs.Prelude.{◌≡◌, IfOk};
+ghost use Rattle.kp_types.specs.Causes.{IsRefusedOnlyBy};
+ghost use Rattle.kp_model.specs.Local.{altered, elected};
+ghost use Rattle.kp_model.specs.Letter.{decision_of, proposal_of};
+ghost use Rattle.kp_model.specs.Set.{members_of, record_of};
+ghost use Rattle.kp_model.specs.Step.{decide_cause, decision, elect_cause};
+ghost use Rattle.kp_control.specs.Altering.{alter_cause};
 
-use kp_types::{Epoch, GREATEST_EPOCH, GREATEST_VERSION, NODE_PLACES, NodeId, Refusal};
+use kp_model::{Decision, Leader, LeaderAndIsr, NodeSet, Proposal};
+use kp_types::{GREATEST_EPOCH, GREATEST_VERSION, NodeId, Refusal};
 
-/// A set of nodes.
-#[derive(Clone, Copy, Debug, PartialEq, Eq)]
-pub struct NodeSet {
-    /// Whether each node is in it, by its number.
-    pub members: [bool; NODE_PLACES],
+/// The record after this node's election, which takes the next epoch. F21 where the node isn't in sync,
+/// F24 where epoch or version is at its greatest.
+pub fn elected(current: &LeaderAndIsr, node: NodeId) -> Result<LeaderAndIsr, Refusal>
+    ensures refused { IsRefusedOnlyBy (elect_cause (record_of current.now) node) result }
+    ensures elected { IfOk result (λ changed. record_of changed
+        ≡ elected (record_of current.now) node) }
+{
+    if !current.isr.contains(node) {
+        return Err(Refusal::NotInSync);
+    }
+    let epoch = match current.leader {
+        None => 0,
+        Some(leader) => leader.epoch + 1,
+    };
+    if epoch > GREATEST_EPOCH || current.version >= GREATEST_VERSION {
+        return Err(Refusal::RecordFull);
+    }
+    Ok(LeaderAndIsr {
+        leader: Some(Leader { node, epoch }),
+        isr: current.isr,
+        version: current.version + 1,
+    })
 }
 
-impl NodeSet {
-    ghost use Rattle.std.specs.Prelude.{◌≡◌, ◌<◌, ◌≤◌, IsTrue};
-    ghost use Rattle.std.specs.List.{range_with_len};
-    ghost use Rattle.kp_model.specs.World.{most_nodes};
-    ghost use Rattle.kp_model.specs.Local.{is_member, with_member, without_member};
-    ghost use Rattle.kp_control.specs.Set.{members_of};
-
-    /// The nodes 0 to `count` - 1.
-    pub fn first(count: NodeId) -> NodeSet
-        requires { count ≤ most_nodes }
-        ensures { members_of result ≡ range_with_len 0 count }
-    {
-        NodeSet {
-            members: [
-                0 < count,
-                1 < count,
-                2 < count,
-                3 < count,
-                4 < count,
-                5 < count,
-                6 < count,
-            ],
-        }
+/// The record with these in-sync replicas, under the same leader in the same epoch. F24 where the version is at its
+/// greatest. O(1), and no memory.
+fn altered(current: &LeaderAndIsr, isr: NodeSet) -> Result<LeaderAndIsr, Refusal>
+    ensures refused { IsRefusedOnlyBy (alter_cause (record_of current.now)) result }
+    ensures altered { IfOk result (λ changed. record_of changed
+        ≡ altered (record_of current.now) (members_of isr)) }
+{
+    if current.version >= GREATEST_VERSION {
+        return Err(Refusal::RecordFull);
     }
-
-    /// Whether the node is in it.
-    pub fn contains(&self, node: NodeId) -> bool
-        ensures value { result ≡ is_member node (members_of self.now) }
-        ensures within { IsTrue result → node < most_nodes }
-    {
-        self.members
-            .get(usize::from(node))
-            .copied()
-            .unwrap_or(false)
-    }
-
-    /// The set with this node in it, whether or not it was. O(1), and no memory.
-    pub fn with(&self, node: NodeId) -> NodeSet
-        requires { node < most_nodes }
-        ensures { members_of result ≡ with_member node (members_of self.now) }
-    {
-        let mut members = self.members;
-        members[usize::from(node)] = true;
-        NodeSet { members }
-    }
-
-    /// The set without this node, whether or not it was in it. O(1), and no memory.
-    pub fn without(&self, node: NodeId) -> NodeSet
-        ensures { members_of result ≡ without_member node (members_of self.now) }
-    {
-        let mut members = self.members;
-        let place = usize::from(node);
-        if place < members.len() {
-            members[place] = false;
-        }
-        NodeSet { members }
-    }
+    Ok(LeaderAndIsr {
+        leader: current.leader,
+        isr,
+        version: current.version + 1,
+    })
 }
 
-/// Who leads, in which leader epoch.
-#[derive(Clone, Copy, Debug, PartialEq, Eq)]
-pub struct Leader {
-    pub node: NodeId,
-    pub epoch: Epoch,
-}
-
-/// The controller's record. Every change raises its version. (Kafka replication design.)
-#[derive(Clone, Copy, Debug, PartialEq, Eq)]
-pub struct LeaderAndIsr {
-    /// None before the first election.
-    pub leader: Option<Leader>,
-    /// The in-sync replicas.
-    pub isr: NodeSet,
-    pub version: u32,
-    ghost lawful: { ForSome leader (λ l. l.epoch + 1 < 2 ^ 24) },
-    ghost numbered: { ForSome leader (λ l. l.node < most_nodes) },
-    ghost counted: { version < 2 ^ 28 },
-}
-
-impl LeaderAndIsr {
-    ghost use Rattle.std.specs.Prelude.{◌≡◌, ◌≤◌, IfOk};
-    ghost use Rattle.kp_types.specs.Causes.{IsRefusedOnlyBy};
-    ghost use Rattle.kp_model.specs.World.{initial, most_nodes};
-    ghost use Rattle.kp_model.specs.Local.{altered, elected, has_epoch, same_record};
-    ghost use Rattle.kp_model.specs.Step.{elect_cause};
-    ghost use Rattle.kp_control.specs.Set.{members_of, record_of};
-    ghost use Rattle.kp_control.specs.Altering.{alter_cause};
-
-    /// The record before the first election: no leader, all nodes in sync, version 0.
-    pub fn initial(count: NodeId) -> LeaderAndIsr
-        requires { count ≤ most_nodes }
-        ensures { record_of result ≡ initial count }
-    {
-        LeaderAndIsr {
-            leader: None,
-            isr: NodeSet::first(count),
-            version: 0,
-        }
-    }
-
-    /// Whether a leader has been elected in this epoch and none after it.
-    pub fn has_epoch(&self, epoch: Option<Epoch>) -> bool
-        ensures { result ≡ has_epoch (record_of self.now) epoch }
-    {
-        match self.leader {
-            None => false,
-            Some(leader) => Some(leader.epoch) == epoch,
-        }
-    }
-
-    /// Whether the other record is this one: the same leader in the same epoch, the same in-sync replicas and version. O(1).
-    pub fn is_same(&self, other: &LeaderAndIsr) -> bool
-        ensures { result ≡ same_record (record_of self.now) (record_of other.now) }
-    {
-        self == other
-    }
-
-    /// The record after this node's election, which takes the next epoch. F21 where the node isn't in sync,
-    /// F24 where epoch or version is at its greatest.
-    pub fn elected(&self, node: NodeId) -> Result<LeaderAndIsr, Refusal>
-        ensures refused { IsRefusedOnlyBy (elect_cause (record_of self.now) node) result }
-        ensures elected { IfOk result (λ changed. record_of changed
-            ≡ elected (record_of self.now) node) }
-    {
-        if !self.isr.contains(node) {
-            return Err(Refusal::NotInSync);
-        }
-        let epoch = match self.leader {
-            None => 0,
-            Some(leader) => leader.epoch + 1,
-        };
-        if epoch > GREATEST_EPOCH || self.version >= GREATEST_VERSION {
-            return Err(Refusal::RecordFull);
-        }
-        Ok(LeaderAndIsr {
-            leader: Some(Leader { node, epoch }),
-            isr: self.isr,
-            version: self.version + 1,
-        })
-    }
-
-    /// The record with these in-sync replicas, under the same leader in the same epoch. F24 where the version is at its
-    /// greatest. O(1), and no memory.
-    pub fn altered(&self, isr: NodeSet) -> Result<LeaderAndIsr, Refusal>
-        ensures refused { IsRefusedOnlyBy (alter_cause (record_of self.now)) result }
-        ensures altered { IfOk result (λ changed. record_of changed
-            ≡ altered (record_of self.now) (members_of isr)) }
-    {
-        if self.version >= GREATEST_VERSION {
-            return Err(Refusal::RecordFull);
-        }
-        Ok(LeaderAndIsr {
-            leader: self.leader,
-            isr,
-            version: self.version + 1,
-        })
-    }
+/// What the controller, whose record this is, decides on the proposal: the record takes the proposed set where it still is
+/// the one that the proposal names, and else stays as it is. F24 where it would change and its version is at its greatest.
+/// O(1), and no memory.
+pub fn decided(current: &LeaderAndIsr, proposal: &Proposal) -> Result<Decision, Refusal>
+    ensures refused { IsRefusedOnlyBy (decide_cause (record_of current.now) (proposal_of proposal.now)) result }
+    ensures decided { IfOk result (λ made. decision_of made
+        ≡ decision (record_of current.now) (proposal_of proposal.now)) }
+{
+    let decided = if current.is_same(&proposal.known) {
+        altered(current, proposal.isr)?
+    } else {
+        *current
+    };
+    Ok(Decision {
+        proposal: *proposal,
+        decided,
+    })
 }

@@ -1,9 +1,11 @@
 -- The least end, member by member.
-use Rattle.std.proofs.Common.{◌≡◌, ◌⊎◌, ℕ, ◌+◌, ◌<◌, ◌≤◌, Bool, true, false, eqb, List, [], ◌∷◌, length, drop, Option, Some, None, min, map, get_or, refl, sym, ap, ◌∙◌, inl, inr, arith}
-use Rattle.std.proofs.lemmas.List.{drop_more, drop_all}
+use Rattle.std.proofs.Common.{◌≡◌, ◌⊎◌, ℕ, ◌+◌, ◌<◌, ◌≤◌, Bool, true, false, eqb, List, [], ◌∷◌, ◌++◌, length, drop, Option, Some, None, min, map, get_or, refl, sym, ap, ◌∙◌, inl, inr, arith}
+use Rattle.std.specs.Prelude.{not}
+use Rattle.std.proofs.lemmas.List.{drop_more, drop_all, map-append}
+use Rattle.std.proofs.lemmas.List.Elements.{filter-append}
 use Rattle.std.specs.Option.{unwrap_or, option_flatten}
 use Rattle.std.proofs.lemmas.Bool.{ne_eqb, cases_lt}
-use Rattle.kp_control.specs.Set.{numbers_of}
+use Rattle.kp_model.specs.Set.{numbers_of}
 use Rattle.kp_model.specs.Local.{least_end, without_member}
 use Rattle.kp_insync.specs.Reports.{ends_over, IsReported}
 
@@ -77,3 +79,41 @@ flat (Some x) = refl
 -- no place is left
 pub none_left : (ends : List (Option ℕ)) (members : List Bool) (own place least : ℕ) → length members ≤ place → least_of_places ends own place (drop place members) least ≡ Some least
 none_left ends members own place least past = ap (λ (bs : List Bool). least_of_places ends own place bs least) (drop_all place members past)
+
+-- ---- over two sets
+
+-- the other members of both sets are those of the one and those of the other
+ends_of_both : (reported : List (Option ℕ)) (own : ℕ) (known pending : List ℕ)
+    → map (λ m. get_or reported m None) (without_member own (known ++ pending))
+    ≡ map (λ m. get_or reported m None) (without_member own known) ++ map (λ m. get_or reported m None) (without_member own pending)
+ends_of_both reported own known pending =
+    ap (λ (ms : List ℕ). map (λ m. get_or reported m None) ms) (filter-append (λ x. not (eqb x own)) known pending)
+    ∙ map-append (λ m. get_or reported m None) (without_member own known) (without_member own pending)
+
+-- the one's ends unknown, so are both
+first_unknown : (os ps : List (Option ℕ)) (end : ℕ) → least_over os end ≡ None → least_over (os ++ ps) end ≡ None
+first_unknown [] ps end e = absurd cc
+first_unknown (None ∷ os) ps end e = refl
+first_unknown (Some x ∷ os) ps end e = first_unknown os ps (min end x) e
+
+-- else the other's ends go on from its least one
+first_known : (os ps : List (Option ℕ)) (end least : ℕ) → least_over os end ≡ Some least → least_over (os ++ ps) end ≡ least_over ps least
+first_known [] ps end least e = let same : end ≡ least = cc in ap (least_over ps) same
+first_known (None ∷ os) ps end least e = absurd cc
+first_known (Some x ∷ os) ps end least e = first_known os ps (min end x) least e
+
+module _ (reported : List (Option ℕ)) (own end : ℕ) (known pending : List ℕ) where
+  abbrev others : List ℕ → List (Option ℕ)
+  others set = map (λ m. get_or reported m None) (without_member own set)
+
+  both : least_end (ends_over (known ++ pending) own end reported) ≡ least_over (others known ++ others pending) end
+  both = least_known (others (known ++ pending)) end ∙ ap (λ (os : List (Option ℕ)). least_over os end) (ends_of_both reported own known pending)
+
+  pub both_unknown : None ≡ least_end (ends_over known own end reported) → None ≡ least_end (ends_over (known ++ pending) own end reported)
+  both_unknown e = sym (both ∙ first_unknown (others known) (others pending) end (sym (e ∙ least_known (others known) end)))
+
+  pub both_known : (least : ℕ) → Some least ≡ least_end (ends_over known own end reported)
+      → least_end (ends_over pending own least reported) ≡ least_end (ends_over (known ++ pending) own end reported)
+  both_known least e =
+      least_known (others pending) least
+      ∙ sym (both ∙ first_known (others known) (others pending) end least (sym (e ∙ least_known (others known) end)))

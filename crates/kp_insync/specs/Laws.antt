@@ -1,8 +1,8 @@
 -- Reports and ends are those of the definitions.
-use Rattle.std.specs.Prelude.{◌≡◌, ℕ, true, List}
+use Rattle.std.specs.Prelude.{◌≡◌, ℕ, List}
 use Rattle.kp_model.specs.Log.{Batch, end_of}
-use Rattle.kp_model.specs.World.{Leading, Request}
-use Rattle.kp_model.specs.Local.{reporting, known_ends, is_caught_up}
+use Rattle.kp_model.specs.World.{Leading}
+use Rattle.kp_model.specs.Local.{reporting, counted, known_ends, is_caught_up}
 use Rattle.kp_insync.specs.Reports.{with_report, ends_over}
 use Rattle.kp_insync.specs.Joining.{has_caught_up}
 
@@ -11,10 +11,10 @@ abbrev pub ReportsAreKept : Type 0
 ReportsAreKept =
     (l : Leading) (from offset : ℕ) → (reporting l from offset).reported ≡ with_report l.reported from offset
 
--- A leader knows the ends over its in-sync set, its own log's among them.
+-- A leader knows the ends over its in-sync set and the pending one together, its own log's among them.
 abbrev pub EndsAreKnown : Type 0
 EndsAreKnown =
-    (n : ℕ) (log : List Batch) (l : Leading) → known_ends n log l ≡ ends_over l.isr n (end_of log) l.reported
+    (n : ℕ) (log : List Batch) (l : Leading) → known_ends n log l ≡ ends_over (counted l) n (end_of log) l.reported
 
 -- Whom a leader may take into its in-sync set is whom the definitions say.
 abbrev pub JoinersHaveCaughtUp : Type 0

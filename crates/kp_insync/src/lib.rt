@@ -1,6 +1,7 @@
 //! What a leader knows of the other nodes' logs in this leadership: reported ends, the least of them, who has caught up.
-//! It stands on kp_control's set of nodes and on kp_model's definition of a leader's reports.
-//! The layer above sees the definitions' list of reports, the end that raises the high watermark, and who may join.
+//! It stands on kp_model's set of nodes and its definition of a leader's reports.
+//! The layer above sees the definitions' list of reports, the end over the known and the pending set that raises the high
+//! watermark, and who may join.
 #![tactic(auto)]
 
 mod positions;

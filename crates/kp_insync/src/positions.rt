@@ -1,6 +1,6 @@
 //! The log ends that nodes reported.
 
-use kp_control::NodeSet;
+use kp_model::NodeSet;
 use kp_types::{NODE_PLACES, NodeId, Offset, Refusal};
 use std::marker::Model;
 
@@ -26,11 +26,12 @@ impl Model for Positions {
 
 impl Positions {
     ghost use Rattle.std.specs.Prelude.{◌≡◌, ◌⊎◌, ◌<◌, ℕ, Some, IfSome, OnOk};
+    ghost use Rattle.std.specs.Option.{option_copied};
     ghost use Rattle.kp_types.specs.Causes.{IsRefusedOnlyBy};
-    ghost use Rattle.kp_control.specs.Set.{members_of};
+    ghost use Rattle.kp_model.specs.Set.{members_of};
     ghost use Rattle.kp_model.specs.World.{most_nodes, no_reports};
     ghost use Rattle.kp_model.specs.Local.{least_end};
-    ghost use Rattle.kp_insync.specs.Reports.{with_report, ends_over, IsReported};
+    ghost use Rattle.kp_insync.specs.Reports.{with_report, ends_over, members_in, IsReported};
     ghost use Rattle.kp_insync.specs.Joining.{behind_cause};
 
     /// None has reported yet.
@@ -54,9 +55,9 @@ impl Positions {
         }
     }
 
-    /// The least log end over the set, where the own log ends at `end`: none where another member has not reported. It is
-    /// the own end or one that was reported. The own end counts also where the set has not the own node. One pass over the places.
-    pub fn least_end(&self, set: &NodeSet, own: NodeId, end: Offset) -> Option<Offset>
+    /// The least of this end and of those that the set's members but the own node reported: none where one of them has not
+    /// reported. One pass over the places.
+    fn least_with(&self, set: &NodeSet, own: NodeId, end: Offset) -> Option<Offset>
         ensures least { result ≡ least_end (ends_over (members_of set.now) own end self.now) }
         ensures known { IfSome result (λ least. (least ≡ end) ⊎ IsReported self.now least) }
     {
@@ -69,6 +70,27 @@ impl Positions {
             }
         }
         Some(least)
+    }
+
+    /// The least log end over the known set and the pending one, if there is one, where the own log ends at `end`: none where
+    /// another member of either has not reported. It is the own end or one that was reported. The own end counts also where
+    /// neither set has the own node. One pass over the places for each set, and no memory.
+    pub fn least_end(
+        &self,
+        known: &NodeSet,
+        pending: Option<&NodeSet>,
+        own: NodeId,
+        end: Offset,
+    ) -> Option<Offset>
+        ensures least { result
+            ≡ least_end (ends_over (members_in known.now (option_copied pending.entry)) own end self.now) }
+        ensures known { IfSome result (λ least. (least ≡ end) ⊎ IsReported self.now least) }
+    {
+        let least = self.least_with(known, own, end)?;
+        match pending {
+            Some(pending) => self.least_with(pending, own, least),
+            None => Some(least),
+        }
     }
 
     /// Whether the node may join the in-sync replicas of a leader with this high watermark, which began to lead at the offset

@@ -10,7 +10,7 @@ use Rattle.kp_model.specs.World.{LeaderAndIsr, Leading, Leads, Node, Answer, Ans
 use Rattle.kp_model.specs.Event.{Receive, Took, Cut}
 use Rattle.kp_model.specs.Run.{Run, last, IsOf}
 use Rattle.kp_model.specs.Local.{Effect, Local, LocalBy, becomes, cause, last_epoch, has_epoch, piece, epoch_answer, is_covered, take_cause, cut_cause, grown, Takes, Cuts, Accepts}
-use Rattle.kp_model.specs.Letter.{Batches, Diverging, letter_of}
+use Rattle.kp_model.specs.Letter.{Batches, Diverging, answered_letter}
 use Rattle.kp_model.specs.Calls.{answered_end, cut_by, cut}
 use Rattle.kp_model.specs.Laws.{place_of, CutIsTheStep, NoCutBelowTheWatermark, IsRound, IsTake, AreRounds, RoundsEnd, ReconciliationsEnd, TakesGoOn, OldAnswersCutNothing}
 use Rattle.kp_model.proofs.Beginnings.{Begins-refl, Begins-nil, Begins-append, Begins-trans, Begins-length, Begins-agree, Begins-whole}
@@ -59,7 +59,7 @@ cuts_at c x a place p same diverges =
 -- ---- an answer that is not refused
 
 -- what the letter comes to is said of the answer
-pub by_answer : (c : LeaderAndIsr) (n : ℕ) (x : Node) (a : Answer) → is_covered a.log a.request ≡ false → cut c n x (letter_of (Answers a)) ≡ cut_by (cut_cause c n x a) c x (place_of x a)
+pub by_answer : (c : LeaderAndIsr) (n : ℕ) (x : Node) (a : Answer) → is_covered a.log a.request ≡ false → cut c n x (answered_letter a) ≡ cut_by (cut_cause c n x a) c x (place_of x a)
 by_answer c n x a f =
     ap (λ (b : Bool). cut_by (cut_cause c n x a) c x
     (cut_place x.log (answered_end (Some (if b then Batches (piece a.log a.request) a.watermark else Diverging (epoch_answer a.log a.request)))))) f

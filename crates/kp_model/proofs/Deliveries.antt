@@ -8,9 +8,9 @@ use Rattle.kp_types.specs.declared.refusal.Refusal.{Refusal}
 use Rattle.kp_types.specs.declared.refusal.Refusal.TheVariants as refusals
 use Rattle.kp_model.specs.Beginning.{Begins}
 use Rattle.kp_model.specs.Log.{Batch, end_of, IsLog, is_boundary}
-use Rattle.kp_model.specs.World.{LeaderAndIsr, Leading, Following, Mode, Down, Idle, Leads, Follows, Node, Request, Answer, Message, Asks, Answers, World}
+use Rattle.kp_model.specs.World.{LeaderAndIsr, Leading, Following, Mode, Down, Idle, Leads, Follows, Node, Request, Answer, Message, Asks, Answers, World, Proposes, Decides}
 use Rattle.kp_model.specs.Event.{Receive, Reply, Refused, Outcome}
-use Rattle.kp_model.specs.Local.{Effect, Local, LocalBy, LacksMemoryFor, Receives, Accepts, Serves, is_covered, last_epoch, piece, grown, mark_taken, awaits, is_down, has_epoch, mode_epoch, reconciles, cannot_follow, serve_cause, take_cause, cut_cause, receive_cause, unless_leads}
+use Rattle.kp_model.specs.Local.{Effect, Local, LocalBy, LacksMemoryFor, Receives, Accepts, Serves, is_covered, last_epoch, piece, grown, mark_taken, awaits, is_down, has_epoch, mode_epoch, reconciles, cannot_follow, serve_cause, take_cause, cut_cause, receive_cause, unless_leads, Learns, learn_cause}
 use Rattle.kp_model.specs.Step.{NodeStep}
 use Rattle.kp_model.specs.Laws.{NoDeliveryIsRefusedOddly}
 use Rattle.kp_model.proofs.Beginnings.{Begins-refl, Begins-trans}
@@ -149,6 +149,20 @@ module _ (w : World) (g : History) (t : Sets) (k : AllKept w g t) (n : ℕ) wher
       by_mode Idle e = refl
       by_mode (Leads l) e = serve_plain r l sent
       by_mode (Follows f) e = refl
+  receive_plain (Proposes p) sent =
+      cond_both (is_down x.mode) refusals.Down refusals.StaleAnswer (λ (r : Refusal). odd_cause (Some r) ≡ false) (λ e. refl) (λ e. refl)
+  receive_plain (Decides d) sent = by_mode x.mode
+    where
+      learns : (l : Leading) → odd_cause (learn_cause d l) ≡ false
+      learns l =
+          plain_if (not (has_epoch d.decided (Some l.epoch))) refusals.StaleRecord _ (λ e. refl)
+          (λ known. plain_if (not (ltb l.version d.decided.version)) refusals.StaleAnswer None (λ e. refl) (λ e. refl))
+
+      by_mode : (mode : Mode) → odd_cause (unless_leads mode (learn_cause d)) ≡ false
+      by_mode Down = refl
+      by_mode Idle = refl
+      by_mode (Leads l) = learns l
+      by_mode (Follows f) = refl
   receive_plain (Answers a) sent =
       cond_both (is_covered a.log a.request) (take_cause x a) (cut_cause w.controller n x a) (λ (o : Option Refusal). odd_cause o ≡ false) (λ e. take_plain a sent e) (λ e. cut_plain a)
 
@@ -163,10 +177,14 @@ receives_plain c x (Asks r) e h =
     let l = where_leads x.mode (λ l. Serves c x r l e) h in
     served_either (λ f. odd_reply f.reply ≡ false) c x r l.0 e refl refl l.2
 receives_plain c x (Answers a) e h = accepts_plain c x a (is_covered a.log a.request) e h
+receives_plain c x (Proposes p) e h = absurd h
+receives_plain c x (Decides d) e h = let l = where_leads x.mode (λ l. Learns c x d l e) h in ap (λ (f : Effect). odd_reply f.reply) l.2
 
 lacks_plain : (c : LeaderAndIsr) (x : Node) (m : Message) (e : Effect) → LacksMemoryFor c x m e → odd_reply e.reply ≡ false
 lacks_plain c x (Asks r) e h = ap (λ (g : Effect). odd_reply g.reply) h
 lacks_plain c x (Answers a) e h = ap (λ (g : Effect). odd_reply g.reply) h.1.effect_is
+lacks_plain c x (Proposes p) e h = absurd h
+lacks_plain c x (Decides d) e h = absurd h
 
 local_plain : (c : LeaderAndIsr) (n : ℕ) (x : Node) (m : Message) (e : Effect) → odd_cause (receive_cause c n x m) ≡ false → Local c n x (Receive m) e → odd_reply e.reply ≡ false
 unfolding Local

@@ -28,13 +28,13 @@ abbrev pub batch : Batch
 batch = record { base = 0; epoch = 0; body = body }
 
 abbrev pub leader : List (Option ℕ) → Leading
-leader reported = record { epoch = 0; isr = 0 ∷ 1 ∷ []; version = 1; start = 0; reported = reported }
+leader reported = record { epoch = 0; isr = 0 ∷ 1 ∷ []; version = 1; pending = None; start = 0; reported = reported }
 
 abbrev follower : Mode
 follower = Follows (record { leader = 0; epoch = 0 })
 
 abbrev pub node : List Batch → ℕ → Mode → Node
-node log watermark mode = record { log = log; watermark = watermark; checkpoint = 0; life = 0; mode = mode }
+node log watermark mode = record { log = log; watermark = watermark; checkpoint = 0; life = 0; kept = Some 0; mode = mode }
 
 abbrev ask : List Batch → Request
 ask log = record { from = 1; to = 0; life = 0; epoch = 0; log = log }
@@ -90,7 +90,7 @@ lawful =
 abbrev a4 : Effect
 a4 = becomes w3.controller (node (batch ∷ []) 0 (Leads (leader no_reports))) (At 0)
 
-abbrev w4 : World
+abbrev pub w4 : World
 w4 = moved w3 0 a4
 
 pub e4 : Step w3 (Acts 0 (Produce (Ok body))) (told (At 0)) w4
@@ -193,7 +193,7 @@ committed = refl
 
 -- stop 1, restart 1, adopt 1, deliver 3: the answer was asked for in an earlier life, and is taken all the same
 abbrev again : Mode → Node
-again mode = record { log = batch ∷ []; watermark = 0; checkpoint = 0; life = 1; mode = mode }
+again mode = record { log = batch ∷ []; watermark = 0; checkpoint = 0; life = 1; kept = Some 0; mode = mode }
 
 abbrev a11 : Effect
 a11 = becomes w10.controller (node (batch ∷ []) 0 Down) Stopped

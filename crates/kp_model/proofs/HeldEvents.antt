@@ -1,35 +1,39 @@
 -- Each action of a node, and each election, takes the facts on.
-use Rattle.std.proofs.Common.{◌≡◌, ◌⊎◌, ℕ, ◌+◌, Bool, true, false, cond, eqb, List, ◌++◌, Option, Some, None, Result, Ok, Err, refl, sym, ap, ◌∙◌, subst, arith, inl, inr}
-use Rattle.std.specs.Prelude.{is_some, max, not, ◌||◌}
-use Rattle.std.proofs.lemmas.Bool.{cond_both, eqb-true, eqb-false, eq-eqb, false≢true, not-false, ltb-false}
+use Rattle.std.proofs.Common.{◌≡◌, ◌⊎◌, ℕ, ◌+◌, Bool, true, false, cond, eqb, List, ◌++◌, Option, Some, None, Result, Ok, Err, refl, sym, ap, ◌∙◌, subst, arith, inl, inr, ◌<◌}
+use Rattle.std.specs.Prelude.{is_some, max, not, ◌||◌, bytes_eq, ◌&&◌}
+use Rattle.std.proofs.lemmas.Slice.Eq.{bytes_eq-Decides}
+use Rattle.std.specs.Option.{option_map_or, option_eq}
+use Rattle.std.proofs.lemmas.Bool.{eqb-true, eqb-false, eq-eqb, false≢true, not-false, ltb-false, cases_Bool, ltb-true, and_parts}
 use Rattle.kp_types.specs.declared.refusal.Refusal.{Refusal}
 use Rattle.kp_types.specs.declared.refusal.Refusal.TheVariants as refusals
 use Rattle.kp_batch.specs.Batch.{Body, IsBody}
 use Rattle.kp_model.specs.Beginning.{Begins}
 use Rattle.kp_model.specs.Log.{Batch, end_of}
 use Rattle.kp_model.specs.Admission.{Admission, Append, Duplicate, Refused as NotAdmitted, admit, admit_marker}
-use Rattle.kp_model.specs.World.{Leader, Leading, Following, Mode, Down, Idle, Leads, Follows, Node, Request, Answer, Message, Asks, Answers, World, no_reports, with_record, with_node, with_message}
+use Rattle.kp_model.specs.World.{Leader, Leading, Following, Mode, Down, Idle, Leads, Follows, Node, Request, Answer, Message, Asks, Answers, World, no_reports, with_record, with_node, with_message, LeaderAndIsr, Proposal, Decision, Proposes, Decides}
 use Rattle.kp_model.specs.Event.{Act, Adopt, Produce, Mark, Ask, Receive, Raise, Join, Leave, Checkpoint, Stop, Restart, Show, Read, Committed, Event, Reply, Outcome, NowLeads, NowFollows, Took, Cut, Refused}
 use Rattle.kp_model.specs.Local
-use Rattle.kp_model.specs.Local.{Effect, cause, Happens, LacksMemory, LacksMemoryFor, next_epoch, Adopts, Appends, Produces, Marks, Receives, Accepts, Serves, Takes, TakesSome, Cuts, Alters, piece, grown, mark_taken, take_cause, cut_cause, serve_cause, has_epoch, marker_body, is_covered, asked, answer, reporting, raised, elected, altered, with_member, without_member, is_member, join_cause, leave_cause}
+use Rattle.kp_model.specs.Local.{Effect, cause, Happens, LacksMemory, LacksMemoryFor, next_epoch, Adopts, Appends, Produces, Marks, Receives, Accepts, Serves, Takes, TakesSome, Cuts, Proposes-set, Learns, proposal, change_cause, learn_cause, is_above, is_news, mode_epoch, same_record, piece, grown, mark_taken, take_cause, cut_cause, serve_cause, has_epoch, marker_body, is_covered, asked, answer, reporting, raised, elected, altered, with_member, without_member, is_member, join_cause, leave_cause}
 use Rattle.kp_model.specs.Step.{Step, moved, IsGiven, elect_cause}
 use Rattle.kp_model.proofs.Beginnings.{Begins-refl, Begins-append, Begins-trans}
-use Rattle.kp_model.proofs.Steps.{where_leads, where_follows, leads_cause, step_cases, becoming, staying, sending, altering, with_node_same, moved_becomes, each_sent}
+use Rattle.kp_model.proofs.Steps.{where_leads, where_follows, leads_cause, step_cases, becoming, staying, sending, with_node_same, moved_becomes, each_sent}
+use Rattle.kp_model.proofs.SoundLogs
 use Rattle.kp_model.proofs.SoundLogs.{elections_of}
 use Rattle.kp_model.proofs.Ledger.{IsMade}
 use Rattle.kp_model.proofs.Kin
-use Rattle.kp_model.proofs.Kin.{History, IsKept, ModeIsKept, MessageIsKept, same_log, re_recorded, elect_kept, take_kept, take_some_kept, cut_kept, grown_made, cut_facts, has_epoch_is}
-use Rattle.kp_model.proofs.Held.{Sets, IsIn, Sent, answer_has, cut_holds}
+use Rattle.kp_model.proofs.Kin.{History, IsKept, ModeIsKept, MessageIsKept, same_log, re_recorded, elect_kept, take_kept, take_some_kept, cut_kept, grown_made, cut_facts, has_epoch_is, leads_kept}
+use Rattle.kp_model.proofs.Held.{Sets, IsIn, Sent, answer_has, cut_holds, kept_bound, IsOfLeader, Knows, CaughtUp, IsHeld}
 use Rattle.kp_model.proofs.HeldNodes.{NodeChange, changed_held, committed_after, epoch_after}
 use Rattle.kp_model.proofs.HeldSteps.{goes_down, restarts, marks_change, follows_now, takes, cuts}
 use Rattle.kp_model.proofs.HeldMarks.{raises}
 use Rattle.kp_model.proofs.HeldMessages.{Sending, sent_held, committed_sent, epoch_sent, asks, lifts, answering}
 use Rattle.kp_model.proofs.HeldRecord.{elect_held, committed_elected, epoch_elected, with_members}
-use Rattle.kp_model.proofs.HeldAlter.{CaughtUp, alter_held, committed_altered, epoch_altered}
-use Rattle.kp_model.proofs.Members.{with_member_cases, with_member_keeps, without_member_had, without_member_keeps, named, caught_up}
-use Rattle.kp_model.proofs.HeldOnto.{AllKept, Onto, onto_same, node_onto, led_same, led_follows}
+use Rattle.kp_model.proofs.HeldPropose.{proposes, proposing, learns}
+use Rattle.kp_model.proofs.HeldDecide.{new_sets, decide_held, committed_decided, epoch_decided, deciding}
+use Rattle.kp_model.proofs.Members.{with_member_cases, with_member_keeps, without_member_had, without_member_keeps, caught_up}
+use Rattle.kp_model.proofs.HeldOnto.{AllKept, Onto, onto_same, node_onto, led_same, led_follows, onto_then}
 use Rattle.kp_model.proofs.HeldAppend.{append_onto}
-use Rattle.kp_model.proofs.HeldLeads.{lead_onto}
+use Rattle.kp_model.proofs.HeldLeads.{lead_onto, node_at}
 use Rattle.kp_types.proofs.Causes.{passed}
 
 module _ (w : World) (g : History) (t : Sets) (a : AllKept w g t) where
@@ -65,19 +69,30 @@ module _ (w : World) (g : History) (t : Sets) (a : AllKept w g t) where
 
     -- ---- adopt
 
-    adopt_by : (l : Leader) (b : Bool) → eqb l.node n ≡ b → w.controller.leader ≡ Some l → Onto w g t (with_node w n (record x {
-      mode = (cond {A = Mode × Reply} b
-          (Leads (record { epoch = l.epoch; isr = w.controller.isr; version = w.controller.version; start = end_of x.log; reported = no_reports }), NowLeads l.epoch (end_of x.log))
-          (Follows (record { leader = l.node; epoch = l.epoch }), NowFollows l.node l.epoch)).0;
-    }))
-    adopt_by l true b e = lead_onto w g t a n l e (eqb-true l.node n b)
-    adopt_by l false b e =
+    adopt_by : (l : Leader) (b : Bool) → eqb l.node n ≡ b → w.controller.leader ≡ Some l → is_above (cond b x.kept (mode_epoch x.mode)) l.epoch ≡ true
+        → Onto w g t (with_node w n (record x {
+          kept = Some l.epoch;
+          mode = (cond {A = Mode × Reply} b
+              (Leads (record { epoch = l.epoch; isr = w.controller.isr; version = w.controller.version; pending = None; start = end_of x.log; reported = no_reports }), NowLeads l.epoch (end_of x.log))
+              (Follows (record { leader = l.node; epoch = l.epoch }), NowFollows l.node l.epoch)).0;
+        }))
+    adopt_by l true b e news = lead_onto w g t a n l e (eqb-true l.node n b) (above x.kept l.epoch news)
+      where
+        above : (o : Option ℕ) (epoch : ℕ) → is_above o epoch ≡ true → kept_bound o < epoch + 1
+        above None epoch t = omega arith
+        above (Some own) epoch t = (let lower = ltb-true own epoch t in omega arith)
+    adopt_by l false b e news =
         let f : Following = record { leader = l.node; epoch = l.epoch } in
-        same_onto (record x { mode = Follows f }) refl (follows_now w g t a.sound a.held a.kept n l f e refl) (λ same. eqb-false l.node n b (sym (a.kept.leader l e) ∙ same))
+        same_onto (record x { kept = Some l.epoch; mode = Follows f }) refl (follows_now w g t a.sound a.held a.kept n l f e refl) (λ same. eqb-false l.node n b (sym (a.kept.leader l e) ∙ same))
 
     adopts : (leader : Option Leader) (f : Effect) → w.controller.leader ≡ leader → cause w.controller n x Adopt ≡ None → Adopts w.controller n x leader f → Onto w g t (moved w n f)
     adopts None f e c h = absurd h
-    adopts (Some l) f e c h = becoming (Onto w g t) w n f _ _ h (adopt_by l (eqb l.node n) refl e)
+    adopts (Some l) f e c h =
+        let news = passed _ _ _ (passed _ _ _ c).1 in
+        let told : is_news w.controller n x ≡ true = not-false _ news.0 in
+        let above : is_above (cond (eqb l.node n) x.kept (mode_epoch x.mode)) l.epoch ≡ true =
+        subst (λ (o : Option Leader). option_map_or (λ y. is_above (cond (eqb y.node n) x.kept (mode_epoch x.mode)) y.epoch) o false ≡ true) e told in
+        becoming (Onto w g t) w n f _ _ h (adopt_by l (eqb l.node n) refl e above)
 
     -- ---- append
 
@@ -156,7 +171,7 @@ module _ (w : World) (g : History) (t : Sets) (a : AllKept w g t) where
         let kept : IsKept (with_node w n y) g =
         subst (λ (v : World). IsKept v g) (moved_becomes w n y w.controller (Refused refusals.Memory)) (take_some_kept w g n b _ c a.kept k (record { continues = h.continues; some = h.some; begins = h.begins; effect_is = refl })) in
         becoming (Onto w g t) w n f y _ h.effect_is
-        (node_onto w g t a n y (goes_down w g t a.sound a.held a.kept n (x.log ++ h.some) (Begins-append x.log h.some)) kept (led_follows w g t a n y made.0 made.1.is)
+        (node_onto w g t a n y (goes_down w g t a.sound a.held a.kept n (x.log ++ h.some) x.kept (Begins-append x.log h.some) (omega arith) (a.held.kept n)) kept (led_follows w g t a n y made.0 made.1.is)
         (λ P i z. Begins-trans z (Begins-append x.log h.some)))
 
     -- ---- cut
@@ -196,6 +211,17 @@ module _ (w : World) (g : History) (t : Sets) (a : AllKept w g t) where
         (λ P p z. cut_holds h.left x.log b.log h.common P h.is_common h.keeps z
         (answer_has w g t a.held a.kept b q (omega (arith, top, asked)) P p (subst (Begins P) (sym h.same) z))))
 
+    -- ---- learn
+
+    learn_onto : (d : Decision) (l : Leading) (f : Effect) → x.mode ≡ Leads l → Sent w (Decides d) → learn_cause d l ≡ None → Learns w.controller x d l f → Onto w g t (moved w n f)
+    learn_onto d l f mode q c h =
+        let has = passed _ _ _ c in
+        let news = passed _ _ _ has.1 in
+        let kept : ModeIsKept g n x.log (Leads l) = subst (ModeIsKept g n x.log) mode (a.kept.nodes n).mode in
+        let y : Node = record x { mode = Leads (record l { isr = d.decided.isr; version = d.decided.version; pending = None }) } in
+        becoming (Onto w g t) w n f y _ h
+        (same_onto y refl (learns w g t a.sound a.held a.kept n l mode d q (not-false _ has.0) (ltb-true l.version d.decided.version (not-false _ news.0))) kept)
+
     accepts : (b : Answer) (covered : Bool) (f : Effect) → Sent w (Answers b) → MessageIsKept g (Answers b) → cond covered (take_cause x b) (cut_cause w.controller n x b) ≡ None → Accepts w.controller x b covered f → Onto w g t (moved w n f)
     accepts b true f q k c h = take_onto b q k c f h
     accepts b false f q k c h = cut_onto b q k c f h
@@ -205,64 +231,113 @@ module _ (w : World) (g : History) (t : Sets) (a : AllKept w g t) where
         let l = where_leads x.mode (λ l. Serves w.controller x r l f) h in
         serve_onto l.0 r f l.1 q k (same_epoch x.log r l.0 (leads_cause x.mode (serve_cause x.log r) l.0 l.1 c)) l.2
     receives (Answers b) f q k c h = accepts b (is_covered b.log b.request) f q k c h
+    receives (Proposes p) f q k c h = absurd h
+    receives (Decides d) f q k c h = let l = where_leads x.mode (λ l. Learns w.controller x d l f) h in learn_onto d l.0 f l.1 q (leads_cause x.mode (learn_cause d) l.0 l.1 c) l.2
 
     lacks : (m : Message) (f : Effect) → Sent w m → MessageIsKept g m → Local.receive_cause w.controller n x m ≡ None → LacksMemoryFor w.controller x m f → Onto w g t (moved w n f)
     lacks (Asks r) f q k c h = staying (Onto w g t) w n f _ h (onto_same w g t a)
     lacks (Answers b) f q k c h =
         let cause = subst (λ (t : Bool). cond t (take_cause x b) (cut_cause w.controller n x b) ≡ None) h.0 c in
         take_some_onto b q k cause f h.1
+    lacks (Proposes p) f q k c h = absurd h
+    lacks (Decides d) f q k c h = absurd h
 
     -- ---- join, leave
 
-    alter_onto : (isr : List ℕ) (l : Leading) (f : Effect) → x.mode ≡ Leads l → w.controller.leader ≡ Some (record { node = n; epoch = l.epoch }) → IsIn n isr
-        → ((m : ℕ) → IsIn m isr → IsIn m w.controller.isr ⊎ CaughtUp w n l m) → Alters w.controller x isr l f → Onto w g t (moved w n f)
-    alter_onto isr l f mode recorded own each h =
-        let y : Node = record x { mode = Leads (record l { isr = isr; version = w.controller.version + 1 }) } in
+    propose_onto : (isr : List ℕ) (l : Leading) (f : Effect) → x.mode ≡ Leads l → IsIn n isr
+        → ((p : Proposal) → Sent w (Proposes p) → IsOfLeader p (g.leader l.epoch) l.epoch → p.known.version ≡ l.version → isr ≡ p.isr)
+        → Knows t (record l { pending = Some isr }) → ((m : ℕ) → IsIn m isr → IsIn m l.isr ⊎ CaughtUp x.watermark l m)
+        → Proposes-set w.controller n x isr l f → Onto w g t (moved w n f)
+    propose_onto isr l f mode own asked knows ready h =
+        let m : Leading = record l { pending = Some isr } in
+        let y : Node = record x { mode = Leads m } in
+        let v : World = with_node w n y in
         let kept : ModeIsKept g n x.log (Leads l) = subst (ModeIsKept g n x.log) mode (a.kept.nodes n).mode in
-        altering (Onto w g t) w n f y (altered w.controller isr) _ h
+        let c = proposes w g t a.sound a.held a.kept n l mode isr own asked knows ready in
+        let first = same_onto y refl c kept in
+        let held : IsHeld v g t = changed_held w g t a.sound a.held a.kept n y c in
+        let history : IsKept v g = Kin.leads_kept w g n l m mode refl a.kept in
+        let here : (v.nodes n).mode ≡ Leads m = ap (λ (z : Node). z.mode) (node_at w n y) in
+        let said = proposing v g t (SoundLogs.leads_keeps w n l m mode refl a.sound) held history n m here isr refl in
+        let committed = committed_after w g t a.sound a.held a.kept n y c in
+        sending (Onto w g t) w n f _ _ _ h
         (record {
           next = g;
-          sets = with_members t l.epoch isr;
-          kept = re_recorded (with_node w n y) g (altered w.controller isr) refl (Kin.changed w g n y a.kept (record { made = (a.kept.nodes n).made; mode = kept }) (same_log w g n a.kept));
-          held = alter_held w g t a.sound a.held a.kept n l mode recorded isr own each;
+          sets = t;
+          kept = Kin.sent v g (Proposes (proposal n l isr)) history tt;
+          held = sent_held v g t held (Proposes (proposal n l isr)) said;
           led = led_same w g t n y refl a.led;
           own = a.own;
           grows = λ e. Begins-refl (g.ledger e);
           began = λ e first o. o;
-          committed = committed_altered w g t a.sound a.held a.kept n l mode recorded isr own each;
-          epoch = λ P p. inl (epoch_altered w g t a.sound a.held a.kept n l mode recorded isr own each P p);
-          stays = λ m P p b. cond_both (eqb m n) y (w.nodes m) (λ (z : Node). Begins P z.log) (λ e. subst (λ (j : ℕ). Begins P (w.nodes j).log) (eqb-true m n e) b) (λ e. b);
+          committed = λ P p. committed_sent v g t held (Proposes (proposal n l isr)) said P (committed P p);
+          epoch = λ P p. inl (epoch_sent v g t held (Proposes (proposal n l isr)) said P (committed P p) ∙ epoch_after w g t a.sound a.held a.kept n y c P p);
+          stays = first.stays;
         })
 
-    pub isr_is : (l : Leading) → x.mode ≡ Leads l → w.controller.leader ≡ Some (record { node = n; epoch = l.epoch }) → l.isr ≡ w.controller.isr
-    isr_is l mode recorded = (a.held.leads n l mode).isr ∙ (a.held.record_is _ recorded).members
+    -- nothing is pending, or the same set
+    change_free : (o : Option (List ℕ)) (isr : List ℕ) (tests : Option Refusal) → change_cause o isr tests ≡ None → ((o ≡ None) × (tests ≡ None)) ⊎ (o ≡ Some isr)
+    change_free None isr tests e = inl (refl, e)
+    change_free (Some pending) isr tests e =
+        elim (cases_Bool (bytes_eq pending isr)) [
+          | inl same ↦ inr (ap Some ((bytes_eq-Decides pending isr).0 same))
+          | inr other ↦ absurd (let refused = rw other at e in false≢true (sym (ap is_some refused)))
+        ]
 
-    joins : (member : ℕ) (l : Leading) (f : Effect) → x.mode ≡ Leads l → join_cause w.controller n x member l ≡ None → Alters w.controller x (with_member member l.isr) l f → Onto w g t (moved w n f)
+    some_set : (one other : List ℕ) → Some one ≡ Some other → one ≡ other
+    some_set one other e = cc
+
+    no_set : (set : List ℕ) → None ≡ Some set → ⊥
+    no_set set e = false≢true (ap is_some e)
+
+    knows_more : (l : Leading) (isr : List ℕ) → Knows t l → (l.pending ≡ None) ⊎ (l.pending ≡ Some isr) → Knows t (record l { pending = Some isr })
+    knows_more l isr (inl now) c = inl now
+    knows_more l isr (inr next) (inl none) = absurd (no_set (t.members l.epoch) (sym none ∙ next.1))
+    knows_more l isr (inr next) (inr same) = inr (next.0, sym same ∙ next.1)
+
+    asked_before : (l : Leading) (isr : List ℕ) → x.mode ≡ Leads l → (l.pending ≡ None) ⊎ (l.pending ≡ Some isr)
+        → (p : Proposal) → Sent w (Proposes p) → IsOfLeader p (g.leader l.epoch) l.epoch → p.known.version ≡ l.version → isr ≡ p.isr
+    asked_before l isr mode c p q of same =
+        let pending = ((a.held.leads n l mode).asked p q of).1 same in
+        elim c [ inl none ↦ absurd (no_set p.isr (sym none ∙ pending)) | inr is ↦ some_set isr p.isr (sym is ∙ pending) ]
+
+    -- the set that is asked for, by whether it is pending already
+    change_onto : (isr : List ℕ) (tests : Option Refusal) (l : Leading) (f : Effect) → x.mode ≡ Leads l → change_cause l.pending isr tests ≡ None
+        → (tests ≡ None → IsIn n isr × ((m : ℕ) → IsIn m isr → IsIn m l.isr ⊎ CaughtUp x.watermark l m)) → Proposes-set w.controller n x isr l f → Onto w g t (moved w n f)
+    change_onto isr tests l f mode free new h =
+        let held = a.held.leads n l mode in
+        let kept : ModeIsKept g n x.log (Leads l) = subst (ModeIsKept g n x.log) mode (a.kept.nodes n).mode in
+        elim (change_free l.pending isr tests free) [
+          | inl none ↦
+              (let ready = new none.1 in
+              propose_onto isr l f mode ready.0 (asked_before l isr mode (inl none.0)) (knows_more l isr held.knows (inl none.0)) ready.1 h)
+          | inr same ↦
+              propose_onto isr l f mode (subst (λ (j : ℕ). IsIn j isr) kept.1 (held.own isr same)) (asked_before l isr mode (inr same)) (knows_more l isr held.knows (inr same))
+              (a.held.ready n l mode isr same) h
+        ]
+
+    own_member : (l : Leading) → x.mode ≡ Leads l → IsIn n l.isr
+    own_member l mode =
+        let kept : ModeIsKept g n x.log (Leads l) = subst (ModeIsKept g n x.log) mode (a.kept.nodes n).mode in
+        subst (λ (j : ℕ). IsIn j l.isr) kept.1 (a.held.leads n l mode).self
+
+    joins : (member : ℕ) (l : Leading) (f : Effect) → x.mode ≡ Leads l → join_cause x member l ≡ None → Proposes-set w.controller n x (with_member member l.isr) l f → Onto w g t (moved w n f)
     joins member l f mode c h =
-        let known = passed _ _ _ c in
-        let ready = passed _ _ _ known.1 in
-        let recorded = named w.controller n l (not-false _ known.0) in
-        let same = isr_is l mode recorded in
+        change_onto (with_member member l.isr) _ l f mode c
+        (λ free. (let ready = passed _ _ _ free in
         let up = caught_up x.watermark l member (not-false _ ready.0) in
-        let new : CaughtUp w n l member = record { end = up.0; reported = up.1; above_mark = up.2; above_start = up.3 } in
-        alter_onto (with_member member l.isr) l f mode recorded
-        (with_member_keeps member n l.isr (subst (IsIn n) (sym same) (a.held.record_is _ recorded).leader))
-        (λ m i. elim (with_member_cases member m l.isr i) [
-          | inl old ↦ inl (subst (IsIn m) same old)
-          | inr is ↦ inr (subst (CaughtUp w n l) is new)
-        ])
-        h
+        let new : CaughtUp x.watermark l member = record { end = up.0; reported = up.1; above_mark = up.2; above_start = up.3 } in (
+          with_member_keeps member n l.isr (own_member l mode),
+          λ m i. elim (with_member_cases member m l.isr i) [ inl old ↦ inl old | inr is ↦ inr (subst (CaughtUp x.watermark l) is new) ],
+        ))) h
 
-    leaves : (member : ℕ) (l : Leading) (f : Effect) → x.mode ≡ Leads l → leave_cause w.controller n member l ≡ None → Alters w.controller x (without_member member l.isr) l f → Onto w g t (moved w n f)
+    leaves : (member : ℕ) (l : Leading) (f : Effect) → x.mode ≡ Leads l → leave_cause n member l ≡ None → Proposes-set w.controller n x (without_member member l.isr) l f → Onto w g t (moved w n f)
     leaves member l f mode c h =
-        let known = passed _ _ _ c in
-        let other = passed _ _ _ known.1 in
-        let recorded = named w.controller n l (not-false _ known.0) in
-        let same = isr_is l mode recorded in
-        alter_onto (without_member member l.isr) l f mode recorded
-        (without_member_keeps member n l.isr (λ is. not_own other.0 (sym is)) (subst (IsIn n) (sym same) (a.held.record_is _ recorded).leader))
-        (λ m i. inl (subst (IsIn m) same (without_member_had member m l.isr i)))
-        h
+        change_onto (without_member member l.isr) _ l f mode c
+        (λ free. (let other = passed _ _ _ free in (
+          without_member_keeps member n l.isr (λ is. not_own other.0 (sym is)) (own_member l mode),
+          λ m i. inl (without_member_had member m l.isr i),
+        ))) h
       where
         not_own : (not (is_member member l.isr) || eqb member n) ≡ false → member ≡ n → ⊥
         not_own e is = false≢true (sym (or_false (not (is_member member l.isr)) (eqb member n) e) ∙ eq-eqb member n is)
@@ -292,18 +367,18 @@ module _ (w : World) (g : History) (t : Sets) (a : AllKept w g t) where
         becoming (Onto w g t) w n f _ _ l.2
         (same_onto (record x { watermark = raised n x l.0 }) refl (raises w g t a.sound a.held a.kept n l.0 l.1) (a.kept.nodes n).mode)
     does (Join member) f i c h =
-        let l = where_leads x.mode (λ l. Alters w.controller x (with_member member l.isr) l f) h in
-        joins member l.0 f l.1 (leads_cause x.mode (join_cause w.controller n x member) l.0 l.1 c) l.2
+        let l = where_leads x.mode (λ l. Proposes-set w.controller n x (with_member member l.isr) l f) h in
+        joins member l.0 f l.1 (leads_cause x.mode (join_cause x member) l.0 l.1 c) l.2
     does (Leave member) f i c h =
-        let l = where_leads x.mode (λ l. Alters w.controller x (without_member member l.isr) l f) h in
-        leaves member l.0 f l.1 (leads_cause x.mode (leave_cause w.controller n member) l.0 l.1 c) l.2
+        let l = where_leads x.mode (λ l. Proposes-set w.controller n x (without_member member l.isr) l f) h in
+        leaves member l.0 f l.1 (leads_cause x.mode (leave_cause n member) l.0 l.1 c) l.2
     does Checkpoint f i c h =
         becoming (Onto w g t) w n f _ _ h
         (same_onto (record x { checkpoint = x.watermark }) refl
-        (marks_change w g t a.sound a.held a.kept n x.watermark x.watermark (omega arith) (inl (a.held.marks n)) (a.held.marks n)) (a.kept.nodes n).mode)
+        (marks_change w g t a.sound a.held a.kept n x.watermark x.watermark (omega arith) (inl (a.held.marks n)) (a.held.marks n) (a.held.ready n)) (a.kept.nodes n).mode)
     does Stop f i c h =
         becoming (Onto w g t) w n f _ _ h
-        (same_onto (record x { mode = Down }) refl (goes_down w g t a.sound a.held a.kept n x.log (Begins-refl x.log)) tt)
+        (same_onto (record x { mode = Down }) refl (goes_down w g t a.sound a.held a.kept n x.log x.kept (Begins-refl x.log) (omega arith) (a.held.kept n)) tt)
     does Restart f i c h =
         becoming (Onto w g t) w n f _ _ h
         (same_onto (record x { watermark = x.checkpoint; life = x.life + 1; mode = Idle }) refl (restarts w g t a.sound a.held a.kept n) tt)
@@ -316,6 +391,8 @@ module _ (w : World) (g : History) (t : Sets) (a : AllKept w g t) where
     lacks_memory (Mark time producer epoch coordinator commit) f i c h = staying (Onto w g t) w n f _ h (onto_same w g t a)
     lacks_memory Ask f i c h = staying (Onto w g t) w n f _ h (onto_same w g t a)
     lacks_memory (Receive m) f i c h = lacks m f i (each_sent (MessageIsKept g) w.messages m a.kept.messages i) c h
+    lacks_memory (Join member) f i c h = staying (Onto w g t) w n f _ h (onto_same w g t a)
+    lacks_memory (Leave member) f i c h = staying (Onto w g t) w n f _ h (onto_same w g t a)
     lacks_memory Restart f i c h = staying (Onto w g t) w n f _ h (onto_same w g t a)
     lacks_memory (Read from) f i c h = staying (Onto w g t) w n f _ h (onto_same w g t a)
     lacks_memory (Committed from) f i c h = staying (Onto w g t) w n f _ h (onto_same w g t a)
@@ -329,7 +406,7 @@ module _ (w : World) (g : History) (t : Sets) (a : AllKept w g t) where
         let member : IsIn n w.controller.isr = not-false _ first.0 in
         record {
           next = Kin.elected_history g n (elections_of w);
-          sets = with_members t (elections_of w) w.controller.isr;
+          sets = with_members t (elections_of w) w.controller.isr (w.controller.version + 1);
           kept = elect_kept w g n a.sound a.kept;
           held = elect_held w g t a.sound a.held a.kept n member;
           led = λ l e f o. absurd (let same : record { node = n; epoch = elections_of w } ≡ l = cc in
@@ -343,13 +420,63 @@ module _ (w : World) (g : History) (t : Sets) (a : AllKept w g t) where
           stays = λ m P p b. b;
         }
 
+-- ---- the controller decides
+
+same_record_is : (c r : LeaderAndIsr) → same_record c r ≡ true → r ≡ c
+same_record_is c r e =
+    let both = and_parts _ _ e in
+    let first = and_parts _ _ both.0 in
+    let leader : c.leader ≡ r.leader = by_leader c.leader r.leader first.0 in
+    let isr : c.isr ≡ r.isr = (bytes_eq-Decides c.isr r.isr).0 first.1 in
+    let version : c.version ≡ r.version = eqb-true c.version r.version both.1 in
+    λ i. record { leader = sym leader i; isr = sym isr i; version = sym version i }
+  where
+    leader_is : (x y : Leader) → x.node ≡ y.node → x.epoch ≡ y.epoch → x ≡ y
+    leader_is x y p q = λ i. record { node = p i; epoch = q i }
+
+    by_leader : (o q : Option Leader) → option_eq (λ x y. eqb x.node y.node && eqb x.epoch y.epoch) o q ≡ true → o ≡ q
+    by_leader None None t = refl
+    by_leader None (Some y) t = absurd (false≢true t)
+    by_leader (Some x) None t = absurd (false≢true t)
+    by_leader (Some x) (Some y) t = let parts = and_parts (eqb x.node y.node) (eqb x.epoch y.epoch) t in ap Some (leader_is x y (eqb-true x.node y.node parts.0) (eqb-true x.epoch y.epoch parts.1))
+
+module _ (w : World) (g : History) (t : Sets) (a : AllKept w g t) (p : Proposal) (sent : Sent w (Proposes p)) where
+  decided : (same : p.known ≡ w.controller) → Onto w g t (with_record w (altered w.controller p.isr))
+  decided same =
+      record {
+        next = g;
+        sets = new_sets w g t a.sound a.held a.kept p sent same;
+        kept = re_recorded w g (altered w.controller p.isr) refl a.kept;
+        held = decide_held w g t a.sound a.held a.kept p sent same;
+        led = a.led;
+        own = a.own;
+        grows = λ e. Begins-refl (g.ledger e);
+        began = λ e first o. o;
+        committed = committed_decided w g t a.sound a.held a.kept p sent same;
+        epoch = λ P c. inl (epoch_decided w g t a.sound a.held a.kept p sent same P c);
+        stays = λ m P c b. b;
+      }
+
+  decide_by : (b : Bool) → same_record w.controller p.known ≡ b
+      → Onto w g t (with_message (with_record w (cond b (altered w.controller p.isr) w.controller)) (Decides (record { proposal = p; decided = cond b (altered w.controller p.isr) w.controller })))
+  decide_by false e = sent_onto w g t a (Decides (record { proposal = p; decided = w.controller })) (deciding w g t a.held a.kept p) tt
+  decide_by true e =
+      let v : World = with_record w (altered w.controller p.isr) in
+      let o = decided (same_record_is w.controller p.known e) in
+      let all : AllKept v o.next o.sets = record { sound = SoundLogs.record_keeps w (altered w.controller p.isr) refl a.sound; kept = o.kept; held = o.held; led = o.led; own = o.own } in
+      onto_then w v _ g t o (sent_onto v o.next o.sets all (Decides (record { proposal = p; decided = v.controller })) (deciding v o.next o.sets all.held all.kept p) tt)
+
 pub step_onto : (w : World) (g : History) (t : Sets) (event : Event) (outcome : Outcome) (new : World) → AllKept w g t → Step w event outcome new → Onto w g t new
 step_onto w g t event outcome new a s =
     elim (step_cases w event outcome new s) [
       | inl same ↦ subst (Onto w g t) (sym same) (onto_same w g t a)
       | inr done ↦
           elim done [
-            | inl e ↦ subst (Onto w g t) (sym e.new_is) (elects w g t a e.node e.free)
+            | inl e ↦
+                elim e [
+                  | inl chosen ↦ subst (Onto w g t) (sym chosen.new_is) (elects w g t a chosen.node chosen.free)
+                  | inr d ↦ subst (Onto w g t) (sym d.new_is) (decide_by w g t a d.asked d.sent (same_record w.controller d.asked.known) refl)
+                ]
             | inr b ↦
                 subst (Onto w g t) (sym b.new_is)
                 (elim b.does [

@@ -1,29 +1,28 @@
 -- The controller's record stays in range.
 use Rattle.std.proofs.Common.{◌≡◌, ℕ, zero, suc, ◌+◌, zero-add, ◌<◌, ◌≤◌, leb, ltb, Bool, true, false, cond, eqb, List, [], ◌∷◌, ◌++◌, Option, Some, None, Result, Ok, Err, refl, sym, ap, ◌∙◌, subst, arith, inl, inr}
-use Rattle.std.specs.Prelude.{filter, ◌||◌, is_some}
+use Rattle.std.specs.Prelude.{filter, ◌||◌, is_some, bytes_eq, ◌&&◌, max, unwrap_or}
 use Rattle.std.specs.List.{AllByRecursion, range_with_len}
-use Rattle.std.proofs.lemmas.Bool.{cond_both, ltb-true, ltb-false, leb-false, false≢true, not-false}
+use Rattle.std.proofs.lemmas.Slice.Eq.{bytes_eq-Decides}
+use Rattle.std.proofs.lemmas.Bool.{cond_both, ltb-true, ltb-false, leb-false, false≢true, not-false, cases_Bool}
 use Rattle.kp_batch.specs.Batch.{Body}
 use Rattle.kp_types.specs.declared.refusal.Refusal.{Refusal}
 use Rattle.kp_model.specs.Log.{end_of}
 use Rattle.kp_model.specs.Admission.{Admission, Append, Duplicate, Refused as NotAdmitted, admit, admit_marker}
-use Rattle.kp_model.specs.World.{Leader, LeaderAndIsr, Leading, Mode, Down, Idle, Leads, Follows, Node, Request, Answer, Message, Asks, Answers, World, start, with_record, no_reports, report_of, IsSent}
+use Rattle.kp_model.specs.World.{Leader, LeaderAndIsr, Leading, Mode, Down, Idle, Leads, Follows, Node, Request, Answer, Message, Asks, Answers, World, start, with_record, no_reports, report_of, IsSent, Proposal, Proposes, Decides, with_message}
 use Rattle.kp_model.specs.Event.{Act, Adopt, Produce, Mark, Ask, Receive, Raise, Join, Leave, Checkpoint, Stop, Restart, Show, Read, Committed, Event, Reply, Outcome, NowLeads, NowFollows}
 use Rattle.kp_model.specs.Local
-use Rattle.kp_model.specs.Local.{Effect, becomes, cause, Happens, LacksMemory, LacksMemoryFor, Adopts, Appends, Produces, Marks, Accepts, Receives, Serves, Alters, reporting, is_covered, marker_body, with_member, without_member, join_cause, leave_cause, next_epoch, elected, greatest_epoch, greatest_version}
-use Rattle.kp_model.specs.Step.{Step, moved, IsGiven, Rise, IsInRange, elect_cause}
+use Rattle.kp_model.specs.Local.{Effect, becomes, cause, Happens, LacksMemory, LacksMemoryFor, Adopts, Appends, Produces, Marks, Accepts, Receives, Serves, Proposes-set, Learns, change_cause, same_record, altered, reporting, is_covered, marker_body, with_member, without_member, join_cause, leave_cause, next_epoch, elected, greatest_epoch, greatest_version}
+use Rattle.kp_model.specs.Step.{Step, moved, IsGiven, Rise, IsInRange, elect_cause, decide_cause, decided_on, decision}
 use Rattle.kp_model.specs.Run.{Moment, IsRun, Run, now, worlds, IsOf}
 use Rattle.kp_model.proofs.Steps.{where_leads, where_follows, leads_cause, step_cases, each_sent, served_either}
 use Rattle.kp_model.proofs.Runs.{among_each}
 use Rattle.kp_model.proofs.RunLaws.{step_onward}
 use Rattle.kp_model.proofs.Kin.{with_node_each}
 use Rattle.kp_model.proofs.Held.{IsIn}
-use Rattle.kp_model.proofs.HeldMessages.{set_cases, leads_is}
-use Rattle.kp_model.proofs.HeldSteps.{down_leads, idle_leads, follows_leads}
-use Rattle.kp_model.proofs.Members.{in_cases, named, same_version, caught_up}
+use Rattle.kp_model.proofs.HeldMessages.{set_cases}
+use Rattle.kp_model.proofs.HeldSteps.{down_leads, idle_leads, follows_leads, leads_is}
+use Rattle.kp_model.proofs.Members.{in_cases, caught_up}
 use Rattle.kp_model.proofs.HeldLeads.{replicate_each}
-use Rattle.kp_model.proofs.HeldEvents.{isr_is}
-use Rattle.kp_model.proofs.HeldRuns.{run_is_held}
 use Rattle.kp_types.proofs.Elements.{all_append}
 use Rattle.kp_types.proofs.Causes.{passed}
 
@@ -76,9 +75,16 @@ rise_range a (suc c) =
 abbrev MessageIsInRange : ℕ → Message → Type 0
 MessageIsInRange count (Asks r) = r.from < count
 MessageIsInRange count (Answers a) = Unit {0}
+MessageIsInRange count (Proposes p) = Rise 0 count p.isr
+MessageIsInRange count (Decides d) = Rise 0 count d.decided.isr
+
+record LeadingIsInRange (count : ℕ) (l : Leading) : Type 0 where
+  isr : Rise 0 count l.isr
+  pending : (set : List ℕ) → l.pending ≡ Some set → Rise 0 count set
+  reports : (m v : ℕ) → report_of l m ≡ Some v → m < count
 
 abbrev ModeIsInRange : ℕ → Mode → Type 0
-ModeIsInRange count mode = (l : Leading) → mode ≡ Leads l → (m v : ℕ) → report_of l m ≡ Some v → m < count
+ModeIsInRange count mode = (l : Leading) → mode ≡ Leads l → LeadingIsInRange count l
 
 record WorldIsInRange (count : ℕ) (w : World) : Type 0 where
   controller : IsInRange count w.controller
@@ -98,24 +104,28 @@ moved_in_range count w n e h f =
       nodes = with_node_each (λ m y. ModeIsInRange count y.mode) w.nodes n e.node (λ m ne. h.nodes m) f.mode;
     }
 
-module _ (count : ℕ) (c : LeaderAndIsr) (n : ℕ) (x : Node) (counted : n < count) (h : IsInRange count c) (k : ModeIsInRange count x.mode)
-    (isr : (l : Leading) → x.mode ≡ Leads l → c.leader ≡ Some (record { node = n; epoch = l.epoch }) → l.isr ≡ c.isr) where
+module _ (count : ℕ) (c : LeaderAndIsr) (n : ℕ) (x : Node) (counted : n < count) (h : IsInRange count c) (k : ModeIsInRange count x.mode) where
   plain : (e : Effect) (y : Node) (reply : Reply) → e ≡ becomes c y reply → ModeIsInRange count y.mode → EffectIsInRange count e
   plain e y reply is mode = subst (EffectIsInRange count) (sym is) (record { controller = h; sent = tt; mode = mode })
 
   no_leads_down : ModeIsInRange count Down
-  no_leads_down l e m v q = absurd (down_leads l e)
+  no_leads_down l e = absurd (down_leads l e)
 
   no_leads_idle : ModeIsInRange count Idle
-  no_leads_idle l e m v q = absurd (idle_leads l e)
+  no_leads_idle l e = absurd (idle_leads l e)
+
+  leads_now : (l : Leading) → LeadingIsInRange count l → ModeIsInRange count (Leads l)
+  leads_now l p z e = subst (LeadingIsInRange count) (leads_is l z e) p
+
+  no_set : (set : List ℕ) → None ≡ Some set → ⊥
+  no_set set e = false≢true (ap is_some e)
 
   adopt_by : (l : Leader) (b : Bool) → ModeIsInRange count (cond {A = Mode × Reply} b
-      (Leads (record { epoch = l.epoch; isr = c.isr; version = c.version; start = end_of x.log; reported = no_reports }), NowLeads l.epoch (end_of x.log))
+      (Leads (record { epoch = l.epoch; isr = c.isr; version = c.version; pending = None; start = end_of x.log; reported = no_reports }), NowLeads l.epoch (end_of x.log))
       (Follows (record { leader = l.node; epoch = l.epoch }), NowFollows l.node l.epoch)).0
-  adopt_by l true z e m v q =
-      let none : report_of z m ≡ None = ap (λ (y : Leading). report_of y m) (sym (leads_is _ z e)) ∙ replicate_each 7 m None in
-      absurd (false≢true (ap is_some (sym none ∙ q)))
-  adopt_by l false z e m v q = absurd (follows_leads _ z e)
+  adopt_by l true z e =
+      leads_now _ (record { isr = h.isr; pending = λ set e. absurd (no_set set e); reports = λ m v q. absurd (false≢true (ap is_some (sym (replicate_each 7 m None) ∙ q))) }) z e
+  adopt_by l false z e = absurd (follows_leads _ z e)
 
   adopts : (leader : Option Leader) (e : Effect) → Adopts c n x leader e → EffectIsInRange count e
   adopts None e a = absurd a
@@ -130,12 +140,16 @@ module _ (count : ℕ) (c : LeaderAndIsr) (n : ℕ) (x : Node) (counted : n < co
   produces l (Ok body) e a = appends l body (admit x.log body.content) e a.1
   produces l (Err fault) e a = absurd a
 
-  lifted_mode : (r : Request) (l : Leading) → x.mode ≡ Leads l → r.from < count → ModeIsInRange count (Leads (reporting l r.from (end_of r.log)))
-  lifted_mode r l mode from z q m v p =
-      elim (set_cases l.reported r.from m _ v (subst (λ (y : Leading). report_of y m ≡ Some v) (sym (leads_is _ z q)) p)) [
+  lifted_report : (r : Request) (l : Leading) → x.mode ≡ Leads l → r.from < count → (m v : ℕ) → report_of (reporting l r.from (end_of r.log)) m ≡ Some v → m < count
+  lifted_report r l mode from m v p =
+      elim (set_cases l.reported r.from m (Some (max (unwrap_or (report_of l r.from) 0) (end_of r.log))) v p) [
         | inl new ↦ (let same = new.0 in omega arith)
-        | inr old ↦ k l mode m v old
+        | inr old ↦ (k l mode).reports m v old
       ]
+
+  lifted_mode : (r : Request) (l : Leading) → x.mode ≡ Leads l → r.from < count → ModeIsInRange count (Leads (reporting l r.from (end_of r.log)))
+  lifted_mode r l mode from =
+      leads_now (reporting l r.from (end_of r.log)) (record { isr = (k l mode).isr; pending = (k l mode).pending; reports = lifted_report r l mode from })
 
   serves : (r : Request) (l : Leading) (e : Effect) → x.mode ≡ Leads l → r.from < count → Serves c x r l e → EffectIsInRange count e
   serves r l e mode from a =
@@ -148,19 +162,37 @@ module _ (count : ℕ) (c : LeaderAndIsr) (n : ℕ) (x : Node) (counted : n < co
   receives : (m : Message) (e : Effect) → MessageIsInRange count m → Receives c x m e → EffectIsInRange count e
   receives (Asks r) e from a = let l = where_leads x.mode (λ l. Serves c x r l e) a in serves r l.0 e l.1 from l.2
   receives (Answers b) e from a = accepts b (is_covered b.log b.request) e a
+  receives (Proposes p) e from a = absurd a
+  receives (Decides d) e from a =
+      let l = where_leads x.mode (λ l. Learns c x d l e) a in
+      plain e _ _ l.2 (leads_now _ (record { isr = from; pending = λ set q. absurd (no_set set q); reports = (k l.0 l.1).reports }))
 
   lacks : (m : Message) (e : Effect) → LacksMemoryFor c x m e → EffectIsInRange count e
   lacks (Asks r) e a = plain e _ _ a k
   lacks (Answers b) e a = plain e _ _ a.1.effect_is no_leads_down
+  lacks (Proposes p) e a = absurd a
+  lacks (Decides d) e a = absurd a
 
-  alters : (set : List ℕ) (l : Leading) (e : Effect) → x.mode ≡ Leads l → Rise 0 count set → c.version < greatest_version → Alters c x set l e → EffectIsInRange count e
-  alters set l e mode rise low a =
+  some_set : (one other : List ℕ) → Some one ≡ Some other → one ≡ other
+  some_set one other e = cc
+
+  proposes : (set : List ℕ) (l : Leading) (e : Effect) → x.mode ≡ Leads l → Rise 0 count set → Proposes-set c n x set l e → EffectIsInRange count e
+  proposes set l e mode rise a =
       subst (EffectIsInRange count) (sym a)
       (record {
-        controller = record { leader = h.leader; isr = rise; version = (let v = h.version in omega arith) };
-        sent = tt;
-        mode = λ z q m v p. k l mode m v (subst (λ (y : Leading). report_of y m ≡ Some v) (sym (leads_is _ z q)) p);
+        controller = h;
+        sent = (rise, tt);
+        mode = leads_now _ (record { isr = (k l mode).isr; pending = λ other q. subst (Rise 0 count) (some_set set other q) rise; reports = (k l mode).reports });
       })
+
+  -- the set is pending already, or tested
+  rise_change : (o : Option (List ℕ)) (set : List ℕ) (tests : Option Refusal) → change_cause o set tests ≡ None → ((other : List ℕ) → o ≡ Some other → Rise 0 count other) → (tests ≡ None → Rise 0 count set) → Rise 0 count set
+  rise_change None set tests free pending new = new free
+  rise_change (Some other) set tests free pending new =
+      elim (cases_Bool (bytes_eq other set)) [
+        | inl same ↦ subst (Rise 0 count) ((bytes_eq-Decides other set).0 same) (pending other refl)
+        | inr differ ↦ absurd (let refused = rw differ at free in false≢true (sym (ap is_some refused)))
+      ]
 
   does : (act : Act) (e : Effect) → ((m : Message) → act ≡ Receive m → MessageIsInRange count m) → cause c n x act ≡ None → Happens c n x act e → EffectIsInRange count e
   does Adopt e given free a = adopts c.leader e a
@@ -174,26 +206,17 @@ module _ (count : ℕ) (c : LeaderAndIsr) (n : ℕ) (x : Node) (counted : n < co
   does (Receive m) e given free a = receives m e (given m refl) a
   does Raise e given free a = let l = where_leads x.mode (λ l. Local.Raises c n x l e) a in plain e _ _ l.2 k
   does (Join member) e given free a =
-      let l = where_leads x.mode (λ l. Alters c x (with_member member l.isr) l e) a in
-      let known = passed _ _ _ (leads_cause x.mode (join_cause c n x member) l.0 l.1 free) in
-      let ready = passed _ _ _ known.1 in
-      let full = passed _ _ _ ready.1 in
-      let same = same_version c n l.0 (not-false _ known.0) in
-      let low = leb-false greatest_version l.0.version full.0 in
-      let up = caught_up x.watermark l.0 member (not-false _ ready.0) in
-      let recorded = named c n l.0 (not-false _ known.0) in
-      alters (with_member member l.0.isr) l.0 e l.1
-      (rise_with member count l.0.isr (k l.0 l.1 member up.0 up.1) (subst (Rise 0 count) (sym (isr l.0 l.1 recorded)) h.isr)) (omega arith) l.2
+      let l = where_leads x.mode (λ l. Proposes-set c n x (with_member member l.isr) l e) a in
+      let ranged = k l.0 l.1 in
+      proposes (with_member member l.0.isr) l.0 e l.1
+      (rise_change l.0.pending (with_member member l.0.isr) _ (leads_cause x.mode (join_cause x member) l.0 l.1 free) ranged.pending
+      (λ tested. (let up = caught_up x.watermark l.0 member (not-false _ (passed _ _ _ tested).0) in
+      rise_with member count l.0.isr (ranged.reports member up.0 up.1) ranged.isr))) l.2
   does (Leave member) e given free a =
-      let l = where_leads x.mode (λ l. Alters c x (without_member member l.isr) l e) a in
-      let known = passed _ _ _ (leads_cause x.mode (leave_cause c n member) l.0 l.1 free) in
-      let other = passed _ _ _ known.1 in
-      let full = passed _ _ _ other.1 in
-      let same = same_version c n l.0 (not-false _ known.0) in
-      let low = leb-false greatest_version l.0.version full.0 in
-      let recorded = named c n l.0 (not-false _ known.0) in
-      alters (without_member member l.0.isr) l.0 e l.1
-      (rise_filter _ 0 count l.0.isr (subst (Rise 0 count) (sym (isr l.0 l.1 recorded)) h.isr)) (omega arith) l.2
+      let l = where_leads x.mode (λ l. Proposes-set c n x (without_member member l.isr) l e) a in
+      let ranged = k l.0 l.1 in
+      proposes (without_member member l.0.isr) l.0 e l.1
+      (rise_change l.0.pending (without_member member l.0.isr) _ (leads_cause x.mode (leave_cause n member) l.0 l.1 free) ranged.pending (λ tested. rise_filter _ 0 count l.0.isr ranged.isr)) l.2
   does Checkpoint e given free a = plain e _ _ a k
   does Stop e given free a = plain e _ _ a no_leads_down
   does Restart e given free a = plain e _ _ a no_leads_idle
@@ -207,6 +230,8 @@ module _ (count : ℕ) (c : LeaderAndIsr) (n : ℕ) (x : Node) (counted : n < co
   lacks_memory Ask e a = plain e _ _ a k
   lacks_memory (Receive m) e a = lacks m e a
   lacks_memory Restart e a = plain e _ _ a k
+  lacks_memory (Join member) e a = plain e _ _ a k
+  lacks_memory (Leave member) e a = plain e _ _ a k
   lacks_memory (Read from) e a = plain e _ _ a k
   lacks_memory (Committed from) e a = plain e _ _ a k
   lacks_memory _ e a = absurd a
@@ -238,24 +263,50 @@ elect_in_range count w n free h =
     or_false true q e = absurd (false≢true (sym e))
     or_false false q e = (refl, e)
 
+-- the controller's decision
+decide_in_range : (count : ℕ) (w : World) (p : Proposal) → Rise 0 count p.isr → decide_cause w.controller p ≡ None → WorldIsInRange count w
+    → WorldIsInRange count (with_message (with_record w (decided_on w.controller p)) (Decides (decision w.controller p)))
+decide_in_range count w p rise free h =
+    record {
+      controller = after.0;
+      messages = all_append (MessageIsInRange count) w.messages (Decides (decision w.controller p) ∷ []) h.messages (after.1, tt);
+      nodes = h.nodes;
+    }
+  where
+    full : (same_record w.controller p.known && leb greatest_version w.controller.version) ≡ false
+    full = (passed _ _ _ free).0
+
+    lower : same_record w.controller p.known ≡ true → w.controller.version < greatest_version
+    lower e = leb-false greatest_version w.controller.version (let rest = rw e at full in rest)
+
+    after : IsInRange count (decided_on w.controller p) × Rise 0 count (decided_on w.controller p).isr
+    after =
+        cond_both (same_record w.controller p.known) (altered w.controller p.isr) w.controller (λ (r : LeaderAndIsr). IsInRange count r × Rise 0 count r.isr)
+        (λ e. (record { leader = h.controller.leader; isr = rise; version = (let low = lower e in omega arith) }, rise)) (λ e. (h.controller, h.controller.isr))
+
 step_in_range : (count : ℕ) (w : World) (event : Event) (outcome : Outcome) (new : World) → w.count ≡ count
-    → ((n : ℕ) (l : Leading) → (w.nodes n).mode ≡ Leads l → w.controller.leader ≡ Some (record { node = n; epoch = l.epoch }) → l.isr ≡ w.controller.isr)
     → WorldIsInRange count w → Step w event outcome new → WorldIsInRange count new
-step_in_range count w event outcome new counts isr h s =
+step_in_range count w event outcome new counts h s =
     elim (step_cases w event outcome new s) [
       | inl same ↦ subst (WorldIsInRange count) (sym same) h
       | inr done ↦
           elim done [
-            | inl e ↦ subst (WorldIsInRange count) (sym e.new_is) (elect_in_range count w e.node e.free h)
+            | inl e ↦
+                elim e [
+                  | inl chosen ↦ subst (WorldIsInRange count) (sym chosen.new_is) (elect_in_range count w chosen.node chosen.free h)
+                  | inr d ↦
+                      subst (WorldIsInRange count) (sym d.new_is)
+                      (decide_in_range count w d.asked (each_sent (MessageIsInRange count) w.messages (Proposes d.asked) h.messages d.sent) d.free h)
+                ]
             | inr a ↦
                 (let counted : a.node < count = subst (λ (k : ℕ). a.node < k) counts a.counted in
                 subst (WorldIsInRange count) (sym a.new_is)
                 (moved_in_range count w a.node a.effect h
                 (elim a.does [
                   | inl d ↦
-                      does count w.controller a.node (w.nodes a.node) counted h.controller (h.nodes a.node) (isr a.node) a.act a.effect
+                      does count w.controller a.node (w.nodes a.node) counted h.controller (h.nodes a.node) a.act a.effect
                       (λ m e. each_sent (MessageIsInRange count) w.messages m h.messages (given_message w.messages a.act a.given m e)) a.free d
-                  | inr d ↦ lacks_memory count w.controller a.node (w.nodes a.node) counted h.controller (h.nodes a.node) (isr a.node) a.act a.effect d
+                  | inr d ↦ lacks_memory count w.controller a.node (w.nodes a.node) counted h.controller (h.nodes a.node) a.act a.effect d
                 ])))
           ]
     ]
@@ -271,8 +322,7 @@ in_range count [] r =
     record { counts = refl; last = record { controller = first; messages = tt; nodes = λ n l e. absurd (idle_leads l e) }; each = (first, tt) }
 in_range count (m ∷ past) r =
     let before = in_range count past r.1 in
-    let run = run_is_held count past r.1 in
-    let last = step_in_range count (now count past) m.event m.outcome m.after before.counts (λ n. isr_is (now count past) run.history run.sets run.all n) before.last r.0 in
+    let last = step_in_range count (now count past) m.event m.outcome m.after before.counts before.last r.0 in
     record { counts = (step_onward (now count past) m.event m.outcome m.after r.0).0 ∙ before.counts; last = last; each = (last.controller, before.each) }
 
 pub records_are_in_range : (count : ℕ) (r : Run count) (w : World) → IsOf w r → IsInRange count w.controller

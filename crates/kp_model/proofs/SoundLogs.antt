@@ -8,16 +8,16 @@ use Rattle.kp_batch.specs.Batch.{Body, IsBody}
 use Rattle.kp_model.specs.Beginning.{Begins}
 use Rattle.kp_model.specs.Log.{Batch, width, end_of, Follow, IsLog, from_offset}
 use Rattle.kp_model.specs.Admission.{Admission, Append, Duplicate, Refused as NotAdmitted, admit, admit_marker}
-use Rattle.kp_model.specs.World.{Leader, Leading, Mode, Down, Idle, Leads, Follows, Node, Request, Answer, Message, Asks, Answers, World, start, with_record, with_node, with_message}
+use Rattle.kp_model.specs.World.{Leader, LeaderAndIsr, Leading, Mode, Down, Idle, Leads, Follows, Node, Request, Answer, Decision, Message, Asks, Answers, Proposes, Decides, World, start, with_record, with_node, with_message}
 use Rattle.kp_model.specs.Event.{Act, Adopt, Produce, Mark, Ask, Receive, Raise, Join, Leave, Checkpoint, Stop, Restart, Show, Read, Committed, Event, Reply, Outcome}
 use Rattle.kp_model.specs.Local
-use Rattle.kp_model.specs.Local.{Effect, cause, Happens, LacksMemory, next_epoch, last_epoch, stamped, under, Adopts, Appends, Produces, Marks, Receives, Accepts, Serves, Takes, TakesSome, Cuts, Alters, piece, cannot_follow, grown, awaits, take_cause, serve_cause, is_covered, answer, marker_body, LacksMemoryFor, elected, altered}
-use Rattle.kp_model.specs.Step.{Step, moved, IsGiven}
+use Rattle.kp_model.specs.Local.{Effect, cause, Happens, LacksMemory, next_epoch, last_epoch, stamped, under, Adopts, Appends, Produces, Marks, Receives, Accepts, Serves, Takes, TakesSome, Cuts, Proposes-set, Learns, piece, cannot_follow, grown, awaits, take_cause, serve_cause, is_covered, answer, marker_body, LacksMemoryFor, elected}
+use Rattle.kp_model.specs.Step.{Step, moved, IsGiven, decided_on}
 use Rattle.kp_model.proofs.FetchLimit.{each_at_least_one}
 use Rattle.kp_model.proofs.Following.{cannot_follow-cons}
 use Rattle.kp_model.proofs.Beginnings.{Begins-after}
 use Rattle.kp_model.proofs.Logs.{last_epoch_or, IsLog-begins, IsLog-push}
-use Rattle.kp_model.proofs.Steps.{where_leads, where_follows, leads_cause, with_node_keeps, step_cases, becoming, staying, sending, altering, each_sent}
+use Rattle.kp_model.proofs.Steps.{where_leads, where_follows, leads_cause, with_node_keeps, step_cases, becoming, staying, sending, decided_leader, each_sent}
 use Rattle.kp_types.proofs.Elements.{all_weaker, all_append, all_front, all_kept}
 use Rattle.kp_types.proofs.Causes.{passed}
 
@@ -103,6 +103,7 @@ pub record AnswerIsSound (a : Answer) : Type 0 where
 abbrev pub MessageIsSound : Message → Type 0
 MessageIsSound (Asks r) = IsLog r.log
 MessageIsSound (Answers a) = AnswerIsSound a
+MessageIsSound _ = Unit {0}
 
 abbrev pub elections_of : World → ℕ
 elections_of w = next_epoch w.controller.leader
@@ -150,8 +151,8 @@ adopt_keeps w n (Some l) f e h a =
     cond_both (eqb l.node n) _ _ (λ (p : Mode × Reply). mode_bound (elections_of w) p.0 ≡ l.epoch + 1) (λ t. refl) (λ t. refl) in
     let elections : elections_of w ≡ l.epoch + 1 = ap next_epoch e in
     let sound = all_below (elections_of w) x (h.nodes n) in
-    becoming WorldIsSound w n f (record x { mode = role.0 }) role.1 a
-    (changed w n (record x { mode = role.0 }) h
+    becoming WorldIsSound w n f (record x { kept = Some l.epoch; mode = role.0 }) role.1 a
+    (changed w n (record x { kept = Some l.epoch; mode = role.0 }) h
     (record {
       log = (h.nodes n).log;
       epochs = below_later (elections_of w) (mode_bound (elections_of w) role.0) x.log (omega (arith, bound, elections)) sound;
@@ -274,14 +275,28 @@ cut_keeps w n a effect h c =
       within = sound.within;
     }))
 
-alter_keeps : (w : World) (n : ℕ) (isr : List ℕ) (l : Leading) (f : Effect) → (w.nodes n).mode ≡ Leads l → WorldIsSound w → Alters w.controller (w.nodes n) isr l f → WorldIsSound (moved w n f)
-alter_keeps w n isr l f e h a =
-    let x = w.nodes n in
+-- what a leader knows of the in-sync set changes
+pub leads_keeps : (w : World) (n : ℕ) (l m : Leading) → (w.nodes n).mode ≡ Leads l → m.epoch ≡ l.epoch → WorldIsSound w → WorldIsSound (with_node w n (record (w.nodes n) { mode = Leads m }))
+leads_keeps w n l m e same h =
     let sound = h.nodes n in
-    let bound : mode_bound (elections_of w) x.mode ≡ l.epoch + 1 = ap (mode_bound (elections_of w)) e in
-    let world = changed w n (record x { mode = Leads (record l { isr = isr; version = w.controller.version + 1 }) }) h
-    (record { log = sound.log; epochs = rw bound at sound.epochs; within = omega (arith, bound, sound.within) }) in
-    altering WorldIsSound w n f _ (altered w.controller isr) _ a (record { nodes = world.nodes; messages = world.messages })
+    let bound : mode_bound (elections_of w) (w.nodes n).mode ≡ m.epoch + 1 = ap (mode_bound (elections_of w)) e ∙ ap (λ (k : ℕ). k + 1) (sym same) in
+    changed w n (record (w.nodes n) { mode = Leads m }) h (record { log = sound.log; epochs = rw bound at sound.epochs; within = omega (arith, bound, sound.within) })
+
+propose_keeps : (w : World) (n : ℕ) (isr : List ℕ) (l : Leading) (f : Effect) → (w.nodes n).mode ≡ Leads l → WorldIsSound w → Proposes-set w.controller n (w.nodes n) isr l f → WorldIsSound (moved w n f)
+propose_keeps w n isr l f e h a = sending WorldIsSound w n f _ _ _ a (sent _ _ (leads_keeps w n l (record l { pending = Some isr }) e refl h) tt)
+
+learn_keeps : (w : World) (n : ℕ) (d : Decision) (l : Leading) (f : Effect) → (w.nodes n).mode ≡ Leads l → WorldIsSound w → Learns w.controller (w.nodes n) d l f → WorldIsSound (moved w n f)
+learn_keeps w n d l f e h a =
+    becoming WorldIsSound w n f _ _ a (leads_keeps w n l (record l { isr = d.decided.isr; version = d.decided.version; pending = None }) e refl h)
+
+pub record_keeps : (w : World) (r : LeaderAndIsr) → r.leader ≡ w.controller.leader → WorldIsSound w → WorldIsSound (with_record w r)
+record_keeps w r same h =
+    record { nodes = λ n. subst (λ (elections : ℕ). NodeIsSound elections (w.nodes n)) (sym (ap next_epoch same)) (h.nodes n); messages = h.messages }
+
+-- the controller's decision
+decide_keeps : (w : World) (r : LeaderAndIsr) (m : Message) → r.leader ≡ w.controller.leader → MessageIsSound m → WorldIsSound w → WorldIsSound (with_message (with_record w r) m)
+decide_keeps w r m same p h =
+    sent (with_record w r) m (record_keeps w r same h) p
 
 accept_keeps : (w : World) (n : ℕ) (a : Answer) (covered : Bool) (f : Effect) → cond covered (take_cause (w.nodes n) a) (Local.cut_cause w.controller n (w.nodes n) a) ≡ None → WorldIsSound w → AnswerIsSound a → Accepts w.controller (w.nodes n) a covered f → WorldIsSound (moved w n f)
 accept_keeps w n a true f c h g r = take_keeps w n a f c h g r
@@ -292,12 +307,18 @@ receive_keeps w n (Asks r) f m c h d =
     let l = where_leads (w.nodes n).mode (λ l. Serves w.controller (w.nodes n) r l f) d in
     serve_keeps w n r l.0 f l.1 (leads_cause (w.nodes n).mode (serve_cause (w.nodes n).log r) l.0 l.1 c) m h l.2
 receive_keeps w n (Answers a) f m c h d = accept_keeps w n a (is_covered a.log a.request) f c h m d
+receive_keeps w n (Proposes p) f m c h d = absurd d
+receive_keeps w n (Decides p) f m c h d =
+    let l = where_leads (w.nodes n).mode (λ l. Learns w.controller (w.nodes n) p l f) d in
+    learn_keeps w n p l.0 f l.1 h l.2
 
 lacks_keeps : (w : World) (n : ℕ) (m : Message) (f : Effect) → MessageIsSound m → Local.receive_cause w.controller n (w.nodes n) m ≡ None → WorldIsSound w → LacksMemoryFor w.controller (w.nodes n) m f → WorldIsSound (moved w n f)
 lacks_keeps w n (Asks r) f m c h d = staying WorldIsSound w n f _ d h
 lacks_keeps w n (Answers a) f m c h d =
     let cause = subst (λ (t : Bool). cond t (take_cause (w.nodes n) a) (Local.cut_cause w.controller n (w.nodes n) a) ≡ None) d.0 c in
     take_some_keeps w n a f cause h m d.1
+lacks_keeps w n (Proposes p) f m c h d = absurd d
+lacks_keeps w n (Decides p) f m c h d = absurd d
 
 -- ---- each step
 
@@ -320,11 +341,11 @@ happens_keeps w n Raise f g c h a =
     let sound = h.nodes n in
     becoming WorldIsSound w n f _ _ l.2 (changed w n _ h (record { log = sound.log; epochs = sound.epochs; within = sound.within }))
 happens_keeps w n (Join member) f g c h a =
-    let l = where_leads (w.nodes n).mode (λ l. Alters w.controller (w.nodes n) (Local.with_member member l.isr) l f) a in
-    alter_keeps w n (Local.with_member member l.0.isr) l.0 f l.1 h l.2
+    let l = where_leads (w.nodes n).mode (λ l. Proposes-set w.controller n (w.nodes n) (Local.with_member member l.isr) l f) a in
+    propose_keeps w n (Local.with_member member l.0.isr) l.0 f l.1 h l.2
 happens_keeps w n (Leave member) f g c h a =
-    let l = where_leads (w.nodes n).mode (λ l. Alters w.controller (w.nodes n) (Local.without_member member l.isr) l f) a in
-    alter_keeps w n (Local.without_member member l.0.isr) l.0 f l.1 h l.2
+    let l = where_leads (w.nodes n).mode (λ l. Proposes-set w.controller n (w.nodes n) (Local.without_member member l.isr) l f) a in
+    propose_keeps w n (Local.without_member member l.0.isr) l.0 f l.1 h l.2
 happens_keeps w n Checkpoint f g c h a =
     let sound = h.nodes n in
     becoming WorldIsSound w n f _ _ a (changed w n _ h (record { log = sound.log; epochs = sound.epochs; within = sound.within }))
@@ -343,6 +364,8 @@ lacks_memory_keeps w n (Produce offer) f g c h a = staying WorldIsSound w n f _ 
 lacks_memory_keeps w n (Mark time producer epoch coordinator commit) f g c h a = staying WorldIsSound w n f _ a h
 lacks_memory_keeps w n Ask f g c h a = staying WorldIsSound w n f _ a h
 lacks_memory_keeps w n (Receive m) f g c h a = lacks_keeps w n m f (each_sent MessageIsSound w.messages m h.messages g) c h a
+lacks_memory_keeps w n (Join member) f g c h a = staying WorldIsSound w n f _ a h
+lacks_memory_keeps w n (Leave member) f g c h a = staying WorldIsSound w n f _ a h
 lacks_memory_keeps w n Restart f g c h a = staying WorldIsSound w n f _ a h
 lacks_memory_keeps w n (Read from) f g c h a = staying WorldIsSound w n f _ a h
 lacks_memory_keeps w n (Committed from) f g c h a = staying WorldIsSound w n f _ a h
@@ -354,7 +377,11 @@ step_keeps w event outcome new h s =
       | inl same ↦ subst WorldIsSound (sym same) h
       | inr done ↦
           elim done [
-            | inl e ↦ subst WorldIsSound (sym e.new_is) (elect_keeps w e.node h)
+            | inl e ↦
+                elim e [
+                  | inl chosen ↦ subst WorldIsSound (sym chosen.new_is) (elect_keeps w chosen.node h)
+                  | inr d ↦ subst WorldIsSound (sym d.new_is) (decide_keeps w (decided_on w.controller d.asked) _ (decided_leader w.controller d.asked) tt h)
+                ]
             | inr a ↦
                 subst WorldIsSound (sym a.new_is)
                 (elim a.does [

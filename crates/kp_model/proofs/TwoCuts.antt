@@ -8,11 +8,11 @@ use Rattle.kp_batch.specs.Batch.{Plain, size_of, covered}
 use Rattle.kp_model.specs.Beginning.{Begins}
 use Rattle.kp_model.specs.Log.{Batch}
 use Rattle.kp_model.specs.Epochs.{end_for, cut_place}
-use Rattle.kp_model.specs.World.{LeaderAndIsr, Mode, Leads, Follows, Request, Answer, Asks, Answers, World, no_reports}
+use Rattle.kp_model.specs.World.{LeaderAndIsr, Mode, Node, Leads, Follows, Request, Answer, Asks, Answers, World, no_reports}
 use Rattle.kp_model.specs.Event.{Ask, Receive, Acts, Deliver, AsksFrom, SentBatches, SentDiverging, Took, Cut}
 use Rattle.kp_model.specs.Local.{Effect, becomes, sends, Cuts}
 use Rattle.kp_model.specs.Step.{Step, moved, told}
-use Rattle.kp_model.proofs.ExampleRun.{did, node}
+use Rattle.kp_model.proofs.ExampleRun.{did}
 use Rattle.std.specs.Prelude.{if◌then◌else◌, ◌==◌}
 
 abbrev letter : Record
@@ -38,10 +38,13 @@ abbrev record_is : LeaderAndIsr
 record_is = record { leader = Some (record { node = 0; epoch = 4 }); isr = 0 ∷ []; version = 6 }
 
 abbrev leads : List (Option ℕ) → Mode
-leads reported = Leads (record { epoch = 4; isr = 0 ∷ []; version = 6; start = 5; reported = reported })
+leads reported = Leads (record { epoch = 4; isr = 0 ∷ []; version = 6; pending = None; start = 5; reported = reported })
 
 abbrev follows : Mode
 follows = Follows (record { leader = 0; epoch = 4 })
+
+abbrev node : List Batch → ℕ → Mode → Node
+node log watermark mode = record { log = log; watermark = watermark; checkpoint = 0; life = 0; kept = Some 4; mode = mode }
 
 abbrev asks : List Batch → Request
 asks log = record { from = 1; to = 0; life = 0; epoch = 4; log = log }

@@ -5,12 +5,13 @@ use Rattle.kp_types.specs.declared.refusal.Refusal.TheVariants as refusals
 use Rattle.kp_model.specs.Log.{Batch, end_of, below, IsLog, IsKin}
 use Rattle.kp_model.specs.Epochs.{covers, cut_place}
 use Rattle.kp_model.specs.World.{Leader, LeaderAndIsr, Leading, Down, Leads, Node, Request, Answer, Message, Asks, Answers}
-use Rattle.kp_model.specs.Event.{Act, Adopt, Reply, Refused, AsksFrom, SentBatches, SentDiverging, Took, Cut}
+use Rattle.kp_model.specs.Event.{Act, Adopt, Reply, Refused, AsksFrom, SentBatches, SentDiverging, SentProposal, SentDecision, Took, Cut}
 use Rattle.kp_model.specs.Local.{Effect, Local, becomes, sends, under, cause, reporting, piece_from, end_asked, take_cause_for, cut_cause_for}
 use Rattle.std.specs.Option.{option_map}
 use Rattle.kp_model.specs.declared.message.Said.{Said}
 use Rattle.kp_model.specs.declared.message.Said.TheVariants as says
-use Rattle.kp_model.specs.Letter.{Letter, Answering, Batches, Diverging, letter_of}
+use Rattle.kp_model.specs.Set.{members_of, record_of}
+use Rattle.kp_model.specs.Letter.{Letter, Answering, Batches, Diverging, FetchLetter, Fetching, Proposing, Deciding, letter_of, asked_letter, answered_letter}
 
 -- Under this record of the controller node n, which was x, did this, replied so, and is y now.
 abbrev pub DoesUnder : LeaderAndIsr → ℕ → Node → Node → Act → Reply → Type 0
@@ -27,13 +28,17 @@ reply_by offset last (Some (Batches batches watermark)) = SentBatches (length ba
 reply_by offset last (Some (Diverging end)) = SentDiverging end
 
 abbrev pub sent_reply : Letter → Reply
-sent_reply l = reply_by l.offset l.last l.answering
+sent_reply (Fetching l) = reply_by l.offset l.last l.answering
+sent_reply (Proposing p) = SentProposal p.isr p.known.version
+sent_reply (Deciding d) = SentDecision d.decided
 
 -- what the code tells of such a message
 abbrev pub said_reply : Said → Reply
 said_reply (says.AsksFrom offset last) = AsksFrom offset last
 said_reply (says.Batches count watermark) = SentBatches count watermark
 said_reply (says.Diverging end) = SentDiverging (option_map (λ e. (e.epoch, e.end)) end)
+said_reply (says.Proposes isr version) = SentProposal (members_of isr) version
+said_reply (says.Decides decided) = SentDecision (record_of decided)
 
 -- It did so and sent a message with this letter, whatever the record was.
 pub record DoesSending (n : ℕ) (x y : Node) (act : Act) (letter : Letter) : Type 0 where
@@ -46,12 +51,12 @@ abbrev pub ForLetter : Letter → (Message → Type 0) → Type 0
 ForLetter letter P = (m : Message) → letter_of m ≡ letter → P m
 
 -- Where it rests on whole logs, it is said for each request, or answer, with that letter whose logs are kin, as all are in a run.
-abbrev pub ForRequest : Letter → List Batch → (Message → Type 0) → Type 0
-ForRequest letter log P = (r : Request) → letter_of (Asks r) ≡ letter → IsLog r.log → IsKin r.log log → P (Asks r)
+abbrev pub ForRequest : FetchLetter → List Batch → (Message → Type 0) → Type 0
+ForRequest letter log P = (r : Request) → asked_letter r ≡ letter → IsLog r.log → IsKin r.log log → P (Asks r)
 
-abbrev pub ForAnswer : Letter → List Batch → (Message → Type 0) → Type 0
+abbrev pub ForAnswer : FetchLetter → List Batch → (Message → Type 0) → Type 0
 ForAnswer letter log P =
-    (a : Answer) → letter_of (Answers a) ≡ letter → IsLog a.log → IsLog a.request.log
+    (a : Answer) → answered_letter a ≡ letter → IsLog a.log → IsLog a.request.log
     → IsKin a.request.log log → IsKin a.request.log a.log → P (Answers a)
 
 -- ---- calls with one result, which is named before the record is known
@@ -59,7 +64,7 @@ ForAnswer letter log P =
 abbrev pub adopted_by : Option Refusal → Option Leader → LeaderAndIsr → ℕ → Node → Effect
 adopted_by (Some refusal) leader c n x = becomes c x (Refused refusal)
 adopted_by None None c n x = becomes c x (Refused refusals.StaleRecord)
-adopted_by None (Some l) c n x = let role = under c l n x.log in becomes c (record x { mode = role.0 }) role.1
+adopted_by None (Some l) c n x = let role = under c l n x.log in becomes c (record x { kept = Some l.epoch; mode = role.0 }) role.1
 
 -- what adopting the record comes to
 abbrev pub adopted : LeaderAndIsr → ℕ → Node → Effect
@@ -69,14 +74,14 @@ adopted c n x = adopted_by (cause c n x Adopt) c.leader c n x
 
 -- The leader that a request with this letter leaves, and the letter of its answer: it sends batches, and the sender's
 -- reported end is lifted, where its log covers what the letter shows; else it tells the last epoch's end, and stays.
-abbrev pub served : Node → Leading → Letter → Node
+abbrev pub served : Node → Leading → FetchLetter → Node
 served x l q = if covers x.log q.offset q.last then record x { mode = Leads (reporting l q.from q.offset) } else x
 
-abbrev pub answering_at : Node → Letter → Answering
+abbrev pub answering_at : Node → FetchLetter → Answering
 answering_at x q =
     if covers x.log q.offset q.last then Batches (piece_from q.offset x.log) x.watermark else Diverging (end_asked x.log q.last)
 
-abbrev pub answer_letter : Node → Letter → Letter
+abbrev pub answer_letter : Node → FetchLetter → FetchLetter
 answer_letter x q = record q { answering = Some (answering_at x q) }
 
 -- what is answered of the asked epoch
@@ -89,7 +94,7 @@ cut_by (Some refusal) c x place = becomes c x (Refused refusal)
 cut_by None c x place = becomes c (record x { log = below place x.log }) (Cut place)
 
 -- what a diverging answer with this letter comes to
-abbrev pub cut : LeaderAndIsr → ℕ → Node → Letter → Effect
+abbrev pub cut : LeaderAndIsr → ℕ → Node → FetchLetter → Effect
 cut c n x l =
     cut_by (cut_cause_for c n x l.from l.life l.epoch l.offset l.last) c x (cut_place x.log (answered_end l.answering))
 

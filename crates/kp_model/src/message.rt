@@ -5,6 +5,7 @@ ghost use Rattle.kp_types.specs.Causes.{IsRefusedOnlyBy};
 ghost use Rattle.kp_model.specs.Beginning.{find_map};
 ghost use Rattle.kp_model.specs.Log.{carry_cause};
 
+use crate::record::{LeaderAndIsr, NodeSet};
 use kp_batch::{Batch, share_all};
 use kp_types::{Epoch, GREATEST_OFFSET, NodeId, Offset, Refusal};
 use std::alloc::Global;
@@ -65,11 +66,34 @@ pub struct FetchAnswer {
     pub answered: Answered,
 }
 
-/// The body of a message of the protocol: a request of a follower, or a leader's answer.
+/// A leader asks the controller for another in-sync set. (KIP-497; Kafka protocol guide, 'AlterPartition'.)
+#[derive(Clone, Copy, Debug, PartialEq, Eq)]
+pub struct Proposal {
+    /// Who asks.
+    pub from: NodeId,
+    /// The record as the leader knows it; the controller follows no proposal that names another one than its own.
+    pub known: LeaderAndIsr,
+    /// The in-sync set that it asks for.
+    pub isr: NodeSet,
+}
+
+/// What the controller says to a proposal, with the proposal. It goes to the sender of the proposal.
+#[derive(Clone, Copy, Debug, PartialEq, Eq)]
+pub struct Decision {
+    /// As it came.
+    pub proposal: Proposal,
+    /// The record that stands then, whether or not the proposal was followed.
+    pub decided: LeaderAndIsr,
+}
+
+/// The body of a message of the protocol: a follower's request, a leader's answer to it, a leader's proposal to the
+/// controller, or the controller's decision on it.
 #[derive(Drop)]
 pub enum MessageBody {
     FetchRequest(FetchRequest),
     FetchAnswer(FetchAnswer),
+    Proposal(Proposal),
+    Decision(Decision),
 }
 
 // Whether a log can keep the batch. O(1).
@@ -129,22 +153,31 @@ pub enum Said {
     /// A leader hasn't all of the follower's log, and says where the follower's last epoch ends in its own; none where
     /// its log has no epoch at most that one.
     Diverging(Option<EpochEnd>),
+    /// A leader asks for this in-sync set, by the record's version that it knows.
+    Proposes {
+        isr: NodeSet,
+        version: u32,
+    },
+    /// The controller says which record stands after it has looked at a proposal.
+    Decides(LeaderAndIsr),
 }
 
 impl MessageBody {
-    ghost use Rattle.std.specs.Prelude.{◌≡◌, IfOk, IfErr};
+    ghost use Rattle.std.specs.Prelude.{◌≡◌, IfOk, IfErr, OnErr};
     ghost use Rattle.kp_types.specs.declared.refusal.Refusal.TheVariants.{Memory};
-    ghost use Rattle.kp_model.specs.Letter.{goes_to, letter};
+    ghost use Rattle.kp_model.specs.Letter.{goes_to, letter, HasBatches};
     ghost use Rattle.kp_model.specs.Calls.{said_reply, sent_reply};
 
-    /// The node to which the message goes: the leader that a request's sender follows, or the sender of an answer's
-    /// request. O(1).
-    pub fn addressee(&self) -> NodeId
+    /// The node to which the message goes: the leader that a request's sender follows, the sender of an answer's
+    /// request, or of a decision's proposal; none where it goes to the controller, as a proposal does. O(1).
+    pub fn addressee(&self) -> Option<NodeId>
         ensures { result ≡ goes_to (letter self.now) }
     {
         match self {
-            MessageBody::FetchRequest(request) => request.to,
-            MessageBody::FetchAnswer(answer) => answer.request.from,
+            MessageBody::FetchRequest(request) => Some(request.to),
+            MessageBody::FetchAnswer(answer) => Some(answer.request.from),
+            MessageBody::Proposal(_) => None,
+            MessageBody::Decision(decision) => Some(decision.proposal.from),
         }
     }
 
@@ -164,6 +197,11 @@ impl MessageBody {
                 },
                 Answered::Diverging(end) => Said::Diverging(*end),
             },
+            MessageBody::Proposal(proposal) => Said::Proposes {
+                isr: proposal.isr,
+                version: proposal.known.version,
+            },
+            MessageBody::Decision(decision) => Said::Decides(decision.decided),
         }
     }
 
@@ -172,6 +210,7 @@ impl MessageBody {
     pub fn share(&self, alloc: Global) -> Result<MessageBody, Refusal>
         ensures same { IfOk result (λ body. letter body ≡ letter self.now) }
         ensures only { IfErr result (λ refusal. refusal ≡ Memory) }
+        ensures plain { OnErr result (HasBatches (letter self.now)) }
     {
         match self {
             MessageBody::FetchRequest(request) => Ok(MessageBody::FetchRequest(*request)),
@@ -188,6 +227,8 @@ impl MessageBody {
                     answered,
                 }))
             }
+            MessageBody::Proposal(proposal) => Ok(MessageBody::Proposal(*proposal)),
+            MessageBody::Decision(decision) => Ok(MessageBody::Decision(*decision)),
         }
     }
 }

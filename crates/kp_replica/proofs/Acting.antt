@@ -1,38 +1,37 @@
 -- What comes of what a node did.
-use Rattle.std.proofs.Common.{◌≡◌, [], ◌∷◌, Option, Some, Result, Ok, Err, MatchResult, refl, sym, ap, ◌∙◌, subst}
-use Rattle.std.specs.Prelude.{IsOkAnd, IfOk, IfErr, IfSome, is_some}
+use Rattle.std.proofs.Common.{◌≡◌, false, [], ◌∷◌, Option, Some, Result, Ok, Err, MatchResult, refl, sym, ap, ◌∙◌, subst}
+use Rattle.std.specs.Prelude.{◌≢◌, IsOkAnd, IfOk, IfErr, IfSome, is_some}
 use Rattle.std.proofs.lemmas.Bool.{false≢true}
 use Rattle.kp_types.specs.declared.refusal.Refusal.{Refusal}
-use Rattle.kp_model.specs.World.{LeaderAndIsr, Node, Answer as ModelAnswer, Message, Asks, Answers as AnswersOf}
+use Rattle.kp_types.specs.declared.refusal.Refusal.TheVariants as refusals
+use Rattle.kp_model.specs.World.{LeaderAndIsr, Answer as ModelAnswer, Decision, Proposal, Message, Asks, Answers as AnswersOf, Proposes, Decides}
 use Rattle.kp_model.specs.declared.message.Answered.{Answered}
 use Rattle.kp_model.specs.declared.message.Answered.TheVariants as givens
 use Rattle.kp_model.specs.declared.message.FetchAnswer.{FetchAnswer}
 use Rattle.kp_model.specs.declared.message.FetchRequest.{FetchRequest}
 use Rattle.kp_model.specs.Calls.{ForLetter, ForRequest, ForAnswer, sent_reply}
 use Rattle.kp_model.specs.Event.{Act, Receive, Reply, Refused}
-use Rattle.kp_model.specs.Letter.{Letter, answering as answering_in, fetch_answer, fetch_request, letter, letter_of}
-use Rattle.kp_model.specs.Local.{becomes, cause, sends}
+use Rattle.kp_model.specs.Letter.{FetchLetter, Fetching, Proposing, Deciding, Letter, answered_letter, answering as answering_in, fetch_answer, fetch_request, letter, letter_of}
+use Rattle.kp_model.specs.Local.{becomes, cause, is_down, sends}
+use Rattle.kp_replica.proofs.Downs.{refuses_proposal}
 use Rattle.kp_model.specs.declared.message.MessageBody.{MessageBody}
-use Rattle.kp_control.specs.declared.record.LeaderAndIsr.{LeaderAndIsr as Record}
 use Rattle.kp_model.specs.Event as model
-use Rattle.kp_replica.specs.Acts.{Comes, Fits, FitsPlain, NamesIn, IsOfRun, Looks, TakesNoMemory, answer_reply, answered_reply, plain_act}
+use Rattle.kp_replica.specs.Acts.{Comes, Fits, FitsPlain, NamesIn, IsOfRun, Looks, answer_reply, answered_reply}
 use Rattle.kp_replica.specs.Adopting.{IsWithin}
-use Rattle.kp_replica.specs.Altering.{Alters, altering_effect, change_act}
 use Rattle.kp_replica.specs.declared.act.Act.{Act as CodeAct}
 use Rattle.kp_replica.specs.declared.act.Act.TheVariants.{Produce, Plain}
 use Rattle.kp_replica.specs.declared.act.PlainAct.{PlainAct}
 use Rattle.kp_replica.specs.declared.act.PlainAct.TheVariants as acts
-use Rattle.kp_replica.specs.declared.altering.IsrChange.{IsrChange}
-use Rattle.kp_replica.specs.declared.altering.IsrChange.TheVariants as changes
-use Rattle.kp_replica.proofs.Downs.{NeedsUp}
 use Rattle.kp_replica.specs.NumberedNode.{NumberedNode, Does, DoesUnder}
 use Rattle.kp_replica.specs.Sending.{DoesSending}
 use Rattle.kp_replica.specs.Hearing.{letter_cause, CutsAbove, DoesShown, IsShown}
 use Rattle.kp_replica.specs.declared.taking.Followed.{Followed}
-use Rattle.kp_replica.proofs.HearingFacts.{cause_is, same_cause, told, unanswered}
+use Rattle.kp_replica.specs.declared.altering.Learned.{Learned as LearnedIsr}
+use Rattle.kp_replica.specs.Replies.{learned_reply}
+use Rattle.kp_replica.proofs.HearingFacts.{cause_is, fetched, same_cause, told, unanswered}
 use Rattle.kp_replica.specs.declared.act.Answer.{Answer}
 use Rattle.kp_replica.specs.declared.act.Effect.{Effect}
-use Rattle.kp_replica.specs.declared.act.Effect.TheVariants.{Answers, Sends, Changes}
+use Rattle.kp_replica.specs.declared.act.Effect.TheVariants.{Answers, Sends}
 
 -- what a result is made of another one by
 abbrev pub IsMadeOf : (A B : Type 0) → (A → B) → Result A Refusal → Result B Refusal → Type 0
@@ -90,25 +89,6 @@ sent c old new act (Ok x) (Ok e) does refused is = subst (λ (y : Effect). Comes
 sent c old new act (Ok x) (Err f) does refused is = absurd is
 sent c old new act (Err f) m does refused is = subst (Comes c old new act) (sym is) (refusing c old new act f (refused c))
 
--- it changed the in-sync replicas, or was refused
-altering : (c : LeaderAndIsr) (old new : NumberedNode) (act : Act) (made : Record) → Alters c old new act (Ok made) → Comes c old new act (Ok (Changes made))
-altering c old new act made did =
-    record {
-      effect = altering_effect c new.state (Ok made);
-      local = did.0;
-      node_is = refl;
-      record_is = refl;
-      letters_are = refl;
-      reply_is = refl;
-      same = did.1;
-    }
-
-pub altered : (c : LeaderAndIsr) (old new : NumberedNode) (act : Act) (r : Result Record Refusal) (m : Result Effect Refusal) → Alters c old new act r → IsMadeOf Record Effect Changes r m
-    → Comes c old new act m
-altered c old new act (Ok x) (Ok e) did is = subst (λ (y : Effect). Comes c old new act (Ok y)) (sym is) (altering c old new act x did)
-altered c old new act (Ok x) (Err f) did is = absurd is
-altered c old new act (Err f) m did is = subst (Comes c old new act) (sym is) (refusing c old new act f did)
-
 -- ---- what looks at the record
 
 pub adopts : (k shown : LeaderAndIsr) (old new : NumberedNode) (reply : Reply) → (Looks model.Adopt → k ≡ shown) → IsOfRun k old model.Adopt
@@ -116,24 +96,6 @@ pub adopts : (k shown : LeaderAndIsr) (old new : NumberedNode) (reply : Reply) �
 adopts k shown old new reply under of event =
     let same : k ≡ shown = under tt in
     subst (λ (r : LeaderAndIsr). DoesUnder r old new model.Adopt reply) (sym same) (event (subst (λ (r : LeaderAndIsr). IsOfRun r old model.Adopt) same of))
-
-changes_look : (change : IsrChange) → Looks (change_act change)
-changes_look (changes.Join m) = tt
-changes_look (changes.Leave m) = tt
-
-pub alters : (k shown : LeaderAndIsr) (old new : NumberedNode) (change : IsrChange) (r : Result Record Refusal) (m : Result Effect Refusal) → (Looks (change_act change) → k ≡ shown)
-    → Alters shown old new (change_act change) r → IsMadeOf Record Effect Changes r m → Comes k old new (change_act change) m
-alters k shown old new change r m under did of =
-    subst (λ (c : LeaderAndIsr). Comes c old new (change_act change) m) (sym (under (changes_look change))) (altered shown old new (change_act change) r m did of)
-
--- ---- a node that is down
-
--- all but a restart is refused
-pub needs_up : (act : PlainAct) → (act ≡ acts.Restart → ⊥) → NeedsUp (plain_act act)
-needs_up acts.Restart other = absurd (other refl)
-needs_up (acts.Alter (changes.Join m)) other = tt
-needs_up (acts.Alter (changes.Leave m)) other = tt
-needs_up _ other = tt
 
 -- ---- what `map` makes of a result
 
@@ -162,41 +124,83 @@ made_twice A B C K L P (Err f) (Ok y) n is then holds = absurd cc
 made_twice A B C K L P (Err f) (Err g) (Ok z) is then holds = absurd cc
 made_twice A B C K L P (Err f) (Err g) (Err h) is then holds = tt
 
+pub same_err : {A : Type 0} (r s : Refusal) → (let x : Result A Refusal = Err r in x) ≡ Err s → r ≡ s
+same_err r s e = cc
+
+-- what isn't refused for want of memory makes nothing that is
+pub spared_too : (A B : Type 0) (K : A → B) (r : Result A Refusal) (m : Result B Refusal) → IsMadeOf A B K r m → r ≢ Err refusals.Memory → m ≢ Err refusals.Memory
+spared_too A B K (Ok x) (Ok y) is spared e = absurd cc
+spared_too A B K (Ok x) (Err f) is spared e = absurd is
+spared_too A B K (Err f) m is spared e = spared (ap (λ (g : Refusal). let x : Result A Refusal = Err g in x) (same_err {A = B} f refusals.Memory (sym is ∙ e)))
+
 -- ---- messages
 
 -- what comes of a request, for each message with its letter
-pub request_came : (c : LeaderAndIsr) (old new : NumberedNode) (r : FetchRequest) (sent : Letter) (m : Message) → letter_of m ≡ fetch_request r → IsOfRun c old (Receive m)
+pub request_came : (c : LeaderAndIsr) (old new : NumberedNode) (r : FetchRequest) (sent : Letter) (m : Message) → letter_of m ≡ Fetching (fetch_request r) → IsOfRun c old (Receive m)
     → ForRequest (fetch_request r) old.state.log (λ m. DoesSending old new (Receive m) sent) → DoesSending old new (Receive m) sent
-request_came c old new r sent (Asks q) is of event = event q is of.0 of.1
-request_came c old new r sent (AnswersOf a) is of event = absurd (false≢true (sym (ap (λ (l : Letter). is_some l.answering) is)))
+request_came c old new r sent (Asks q) is of event = event q (fetched is) of.0 of.1
+request_came c old new r sent (AnswersOf a) is of event = absurd (false≢true (sym (ap (λ (l : FetchLetter). is_some l.answering) (fetched is))))
+request_came c old new r sent (Proposes p) is of event = absurd cc
+request_came c old new r sent (Decides d) is of event = absurd cc
 
 -- the record was shown to what looks at it
-shown_by : (c shown : LeaderAndIsr) (r : FetchRequest) (given : Answered) (a : ModelAnswer) → letter_of (AnswersOf a) ≡ record (fetch_request r) { answering = Some (answering_in given) }
+shown_by : (c shown : LeaderAndIsr) (r : FetchRequest) (given : Answered) (a : ModelAnswer) → answered_letter a ≡ record (fetch_request r) { answering = Some (answering_in given) }
     → (Looks (Receive (AnswersOf a)) → c ≡ shown) → IsShown shown given c
 shown_by c shown r (givens.Batches f) a is under = tt
 shown_by c shown r (givens.Diverging end) a is under = under (told a r end is).covered
 
 -- what comes of an answer
-pub answer_came : (c shown : LeaderAndIsr) (old new : NumberedNode) (answer : FetchAnswer) (m : Message) (reply : Reply) → letter_of m ≡ fetch_answer answer → (Looks (Receive m) → c ≡ shown)
+pub answer_came : (c shown : LeaderAndIsr) (old new : NumberedNode) (answer : FetchAnswer) (m : Message) (reply : Reply) → letter_of m ≡ Fetching (fetch_answer answer) → (Looks (Receive m) → c ≡ shown)
     → IsOfRun c old (Receive m)
     → ForAnswer (fetch_answer answer) old.state.log (λ m. CutsAbove shown old m → DoesShown shown answer.answered old new (Receive m) reply) → DoesUnder c old new (Receive m) reply
 answer_came c shown old new answer (Asks q) reply is under of event = absurd (unanswered q answer.request answer.answered is)
 answer_came c shown old new answer (AnswersOf a) reply is under of event =
-    event a is of.0 of.1 of.2 of.3 (λ diverges. subst (λ (k : LeaderAndIsr). CutsAbove k old (AnswersOf a)) (under diverges) of.4 diverges) c (shown_by c shown answer.request answer.answered a is under)
+    event a (fetched is) of.0 of.1 of.2 of.3 (λ diverges. subst (λ (k : LeaderAndIsr). CutsAbove k old (AnswersOf a)) (under diverges) of.4 diverges) c (shown_by c shown answer.request answer.answered a (fetched is) under)
+answer_came c shown old new answer (Proposes p) reply is under of event = absurd cc
+answer_came c shown old new answer (Decides d) reply is under of event = absurd cc
 
 -- and what refuses it, whatever logs the message has
-pub answer_refused : (c shown : LeaderAndIsr) (old new : NumberedNode) (answer : FetchAnswer) (m : Message) (refusal : Refusal) (result : Result Followed Refusal) → letter_of m ≡ fetch_answer answer
+pub answer_refused : (c shown : LeaderAndIsr) (old new : NumberedNode) (answer : FetchAnswer) (m : Message) (refusal : Refusal) (result : Result Followed Refusal) → letter_of m ≡ Fetching (fetch_answer answer)
     → (Looks (Receive m) → c ≡ shown) → cause c old.number old.state (Receive m) ≡ Some refusal
     → IfSome (letter_cause shown old answer.request answer.answered)
-    (λ refusal. (result ≡ Err refusal) × ForLetter (fetch_answer answer) (λ m. DoesShown shown answer.answered old new (Receive m) (Refused refusal)))
+    (λ refusal. (result ≡ Err refusal) × ForLetter (Fetching (fetch_answer answer)) (λ m. DoesShown shown answer.answered old new (Receive m) (Refused refusal)))
     → (result ≡ Err refusal) × DoesUnder c old new (Receive m) (Refused refusal)
 answer_refused c shown old new answer (Asks q) refusal result is under held refused = absurd (unanswered q answer.request answer.answered is)
 answer_refused c shown old new answer (AnswersOf a) refusal result is under held refused =
-    let known = shown_by c shown answer.request answer.answered a is under in
+    let known = shown_by c shown answer.request answer.answered a (fetched is) under in
     let why : letter_cause shown old answer.request answer.answered ≡ Some refusal =
-    sym (same_cause shown c old answer.request answer.answered known) ∙ sym (cause_is c old answer.request answer.answered a is) ∙ held in
-    let done = subst (λ (o : Option Refusal). IfSome o (λ refusal. (result ≡ Err refusal) × ForLetter (fetch_answer answer) (λ m. DoesShown shown answer.answered old new (Receive m) (Refused refusal)))) why refused in
+    sym (same_cause shown c old answer.request answer.answered known) ∙ sym (cause_is c old answer.request answer.answered a (fetched is)) ∙ held in
+    let done = subst (λ (o : Option Refusal). IfSome o (λ refusal. (result ≡ Err refusal) × ForLetter (Fetching (fetch_answer answer)) (λ m. DoesShown shown answer.answered old new (Receive m) (Refused refusal)))) why refused in
     (done.0, done.1 (AnswersOf a) is c known)
+answer_refused c shown old new answer (Proposes p) refusal result is under held refused = absurd cc
+answer_refused c shown old new answer (Decides d) refusal result is under held refused = absurd cc
+
+-- what the controller is asked, and what it decides
+proposed : {l m : Proposal} → Proposing l ≡ Proposing m → l ≡ m
+proposed e = cc
+
+decided : {l m : Decision} → Deciding l ≡ Deciding m → l ≡ m
+decided e = cc
+
+decision_came : (d : Decision) (m : Message) → letter_of m ≡ Deciding d → Decides d ≡ m
+decision_came d (Asks q) is = absurd cc
+decision_came d (AnswersOf a) is = absurd cc
+decision_came d (Proposes p) is = absurd cc
+decision_came d (Decides e) is = ap Decides (sym (decided is))
+
+proposal_is : (p : Proposal) (m : Message) → letter_of m ≡ Proposing p → Proposes p ≡ m
+proposal_is p (Asks q) is = absurd cc
+proposal_is p (AnswersOf a) is = absurd cc
+proposal_is p (Proposes q) is = ap Proposes (sym (proposed is))
+proposal_is p (Decides d) is = absurd cc
+
+pub proposal_came : (c : LeaderAndIsr) (x : NumberedNode) (p : Proposal) (m : Message) → letter_of m ≡ Proposing p → is_down x.state.mode ≡ false
+    → DoesUnder c x x (Receive m) (Refused refusals.StaleAnswer)
+proposal_came c x p m is up = subst (λ (m : Message). DoesUnder c x x (Receive m) (Refused refusals.StaleAnswer)) (proposal_is p m is) (refuses_proposal c x p up)
+
+pub learned_came : (c : LeaderAndIsr) (old new : NumberedNode) (d : Decision) (m : Message) (r : Result LearnedIsr Refusal) → letter_of m ≡ Deciding d
+    → Does old new (Receive (Decides d)) (learned_reply r) → DoesUnder c old new (Receive m) (learned_reply r)
+learned_came c old new d m r is does = subst (λ (m : Message). DoesUnder c old new (Receive m) (learned_reply r)) (decision_came d m is) (does c)
 
 -- ---- receipts
 
@@ -215,23 +219,3 @@ receipt_stands (Produce bytes) old new (Ok e) fits =
     let r = fits.2 in
     subst (λ (x : Effect). NamesIn new.state.log (Ok x)) (sym fits.1) (r.batch, r.stands, r.named)
 receipt_stands (Plain act) old new (Ok e) fits = plain_stands act new e fits
-
--- ---- what takes no memory
-
-pub same_err : {A : Type 0} (r s : Refusal) → (let x : Result A Refusal = Err r in x) ≡ Err s → r ≡ s
-same_err r s e = cc
-
--- of what a node is asked for without bytes an ask alone does
-pub plain_takes : (x : Node) (act : PlainAct) → TakesNoMemory x (plain_act act) → act ≡ acts.Ask
-plain_takes x acts.Ask takes = refl
-plain_takes x acts.Adopt takes = absurd takes
-plain_takes x (acts.Mark handed) takes = absurd takes
-plain_takes x acts.Raise takes = absurd takes
-plain_takes x (acts.Alter (changes.Join m)) takes = absurd takes
-plain_takes x (acts.Alter (changes.Leave m)) takes = absurd takes
-plain_takes x acts.Checkpoint takes = absurd takes
-plain_takes x acts.Stop takes = absurd takes
-plain_takes x acts.Restart takes = absurd takes
-plain_takes x acts.Show takes = absurd takes
-plain_takes x (acts.Read from) takes = absurd takes
-plain_takes x (acts.Committed from) takes = absurd takes

@@ -1,134 +1,131 @@
--- What it takes that a leader made a change of the in-sync replicas.
-use Rattle.std.proofs.Common.{◌≡◌, ℕ, ◌+◌, Bool, true, false, eqb, List, [], ◌∷◌, Option, Some, None, Result, Ok, Err, refl, sym, ap, ◌∙◌, subst}
-use Rattle.std.specs.Prelude.{not, bytes_eq, nat_le, IfOk, if◌then◌else◌}
-use Rattle.std.proofs.lemmas.Bool.{eq-eqb}
+-- What it takes that a leader asked for a change of the in-sync replicas, or learned a decision.
+use Rattle.std.proofs.Common.{◌≡◌, ℕ, Bool, true, false, eqb, List, [], ◌∷◌, Option, Some, None, Result, Err, refl, sym, ap, ◌∙◌, subst, inl, inr}
+use Rattle.std.specs.Prelude.{◌||◌, not, bytes_eq, nat_lt}
+use Rattle.std.specs.List.{filter}
+use Rattle.std.proofs.lemmas.Bool.{eq-eqb, eqb-true, or_cases}
 use Rattle.kp_types.specs.Causes.{first_of, IsRefusedOnlyBy}
-use Rattle.kp_types.proofs.Causes.{only_none, only_cause}
 use Rattle.kp_types.specs.declared.refusal.Refusal.{Refusal}
 use Rattle.kp_types.specs.declared.refusal.Refusal.TheVariants as refusals
-use Rattle.kp_model.specs.World.{LeaderAndIsr, Leading, Mode, Leads, Node}
-use Rattle.kp_model.specs.Event.{Changed}
-use Rattle.kp_model.specs.Local.{Effect, Local, altered, cause, greatest_version, known_by, same_record, unless_leads, WhereLeads}
-use Rattle.kp_model.specs.Local as local
+use Rattle.kp_model.specs.World.{LeaderAndIsr, Leading, Mode, Leads, Node, Decision, Proposes, Decides}
+use Rattle.kp_model.specs.Event.{Receive, Learned, Refused, SentProposal}
+use Rattle.kp_model.specs.Letter.{Proposing}
+use Rattle.kp_model.specs.Local.{Effect, Local, becomes, cause, has_epoch, is_member, learn_cause, proposal, sends, unless_leads, with_member, without_member, Learns, Proposes-set, WhereLeads}
 use Rattle.kp_replica.specs.declared.altering.IsrChange.{IsrChange}
 use Rattle.kp_replica.specs.declared.altering.IsrChange.TheVariants.{Join, Leave}
-use Rattle.kp_replica.specs.Altering.{change_act, changed_isr, isr_test, isr_cause, would_cause, IsKnown, Alters}
-use Rattle.kp_replica.specs.NumberedNode.{NumberedNode}
-use Rattle.kp_control.specs.declared.record.LeaderAndIsr.{LeaderAndIsr as Record}
-use Rattle.kp_control.specs.Set.{record_of}
-use Rattle.kp_control.specs.Altering.{alter_cause}
+use Rattle.kp_replica.specs.Altering.{change_act, changed_isr, isr_cause}
+use Rattle.kp_replica.specs.NumberedNode.{NumberedNode, Does}
+use Rattle.kp_replica.specs.Sending.{DoesSending}
+use Rattle.kp_model.proofs.Members.{in_back}
 use Rattle.kp_model.proofs.Steps.{happened, was_refused}
 
--- ---- a record is the same as itself
+-- ---- a set without the joiner isn't the one with it
 
-same_list : (xs : List ℕ) → bytes_eq xs xs ≡ true
-same_list [] = refl
-same_list (x ∷ xs) = let here : eqb x x ≡ true = eq-eqb x x refl in rw here (same_list xs)
+neither : (a b : Bool) → (a || b) ≡ false → (a ≡ false) × (b ≡ false)
+neither false false e = (refl, refl)
+neither false true e = absurd cc
+neither true b e = absurd cc
 
-pub same_itself : (n : ℕ) (l : Leading) → same_record (known_by n l) (known_by n l) ≡ true
-same_itself n l =
-    let node : eqb n n ≡ true = eq-eqb n n refl in
-    let epoch : eqb l.epoch l.epoch ≡ true = eq-eqb l.epoch l.epoch refl in
-    let version : eqb l.version l.version ≡ true = eq-eqb l.version l.version refl in
-    rw (node, epoch, same_list l.isr, version) refl
+lists_apart : (n : ℕ) (xs ys : List ℕ) → is_member n xs ≡ false → is_member n ys ≡ true → bytes_eq xs ys ≡ false
+lists_apart n [] [] h i = absurd cc
+lists_apart n [] (y ∷ ys) h i = refl
+lists_apart n (x ∷ xs) [] h i = absurd cc
+lists_apart n (x ∷ xs) (y ∷ ys) h i = by_first (eqb x y) refl (lists_apart n xs ys (neither (eqb x n) (is_member n xs) h).1)
+  where
+    by_first : (t : Bool) → eqb x y ≡ t → (is_member n ys ≡ true → bytes_eq xs ys ≡ false) → bytes_eq (x ∷ xs) (y ∷ ys) ≡ false
+    by_first false e later = rw e refl
+    by_first true e later =
+        let same : x ≡ y = eqb-true x y e in
+        let other : eqb x n ≡ false = (neither (eqb x n) (is_member n xs) h).0 in
+        let rest : is_member n ys ≡ true = elim (or_cases (eqb y n) (is_member n ys) i) [
+          | inl here ↦ absurd (let both : eqb y n ≡ false = subst (λ (m : ℕ). eqb m n ≡ false) same other in cc)
+          | inr there ↦ there
+        ] in
+        rw e (later rest)
+
+pub never_joined : (n : ℕ) (set isr : List ℕ) → is_member n set ≡ false → false ≡ bytes_eq set (with_member n isr)
+never_joined n set isr lacks =
+    let low : List ℕ = filter (λ x. nat_lt x n) isr in
+    let high : List ℕ = filter (λ x. nat_lt n x) isr in
+    let here : is_member n (n ∷ high) ≡ true = (let same : eqb n n ≡ true = eq-eqb n n refl in rw same refl) in
+    sym (lists_apart n set (with_member n isr) lacks (in_back low (n ∷ high) n here))
 
 -- ---- why a change is refused
 
--- by the record, by the change, by the version
-abbrev pub cause_by : Bool → (n watermark : ℕ) → Leading → IsrChange → Option Refusal
-cause_by same n watermark l change =
-    first_of ((not same, refusals.StaleRecord) ∷ isr_test n watermark l change ∷ (nat_le greatest_version l.version, refusals.RecordFull) ∷ [])
+-- a leader's cause to refuse it
+pub cause_is : (c : LeaderAndIsr) (n : ℕ) (x : Node) (l : Leading) (change : IsrChange) → x.mode ≡ Leads l → cause c n x (change_act change) ≡ isr_cause n x.watermark l change
+cause_is c n x l (Join m) leads = rw leads refl
+cause_is c n x l (Leave m) leads = rw leads refl
 
-pub cause_is : (c : LeaderAndIsr) (n : ℕ) (x : Node) (l : Leading) (change : IsrChange) (same : Bool) → x.mode ≡ Leads l → same_record c (known_by n l) ≡ same
-    → cause c n x (change_act change) ≡ cause_by same n x.watermark l change
-cause_is c n x l (Join m) same leads is = rw (leads, is) refl
-cause_is c n x l (Leave m) same leads is = rw (leads, is) refl
-
--- ---- that it is made
-
--- what the change leaves: the changed record, which the leader knows then
-abbrev pub made_effect : LeaderAndIsr → Node → Leading → List ℕ → Effect
-made_effect c x l isr =
-    let r = altered c isr in
-    record { node = record x { mode = Leads (record l { isr = isr; version = r.version }) }; controller = r; sent = []; reply = Changed r }
-
-pub makes : (c : LeaderAndIsr) (n : ℕ) (x : Node) (l : Leading) (change : IsrChange) → x.mode ≡ Leads l → cause c n x (change_act change) ≡ None
-    → Local c n x (change_act change) (made_effect c x l (changed_isr change l.isr))
-makes c n x l (Join m) leads free =
-    let e = made_effect c x l (changed_isr (Join m) l.isr) in
-    happened c n x (change_act (Join m)) e free (subst (λ (k : Mode). WhereLeads k (λ l. local.Alters c x (changed_isr (Join m) l.isr) l e)) (sym leads) refl)
-makes c n x l (Leave m) leads free =
-    let e = made_effect c x l (changed_isr (Leave m) l.isr) in
-    happened c n x (change_act (Leave m)) e free (subst (λ (k : Mode). WhereLeads k (λ l. local.Alters c x (changed_isr (Leave m) l.isr) l e)) (sym leads) refl)
-
--- what a node is after its change
-abbrev pub after : NumberedNode → Leading → IsrChange → (version : ℕ) → Result Record Refusal → NumberedNode
-after m l change version (Ok made) =
-    record m { state = record m.state { mode = Leads (record l { isr = changed_isr change l.isr; version = version }) } }
-after m l change version (Err r) = m
-
-pub alters : (c : LeaderAndIsr) (m : NumberedNode) (l : Leading) (change : IsrChange) (result : Result Record Refusal) → m.state.mode ≡ Leads l
-    → IsRefusedOnlyBy (cause c m.number m.state (change_act change)) result → IfOk result (λ made. record_of made ≡ altered c (changed_isr change l.isr))
-    → Alters c m (after m l change (c.version + 1) result) (change_act change) result
-alters c m l change (Ok made) leads refused is =
-    let step = makes c m.number m.state l change leads (only_none Record (cause c m.number m.state (change_act change)) made refused) in
-    let y : Node = record m.state { mode = Leads (record l { isr = changed_isr change l.isr; version = c.version + 1 }) } in
-    (subst (λ (r : LeaderAndIsr). Local c m.number m.state (change_act change) (record { node = y; controller = r; sent = []; reply = Changed r })) (sym is) step, (refl, refl))
-alters c m l change (Err r) leads refused is =
-    (was_refused c m.number m.state (change_act change) r (only_cause Record (cause c m.number m.state (change_act change)) r refused), (refl, refl))
-
--- under the record that the leader knows
-pub would_cause_is : (n : ℕ) (x : Node) (l : Leading) (change : IsrChange) → x.mode ≡ Leads l → would_cause n x change ≡ cause (known_by n l) n x (change_act change)
-would_cause_is n x l change leads =
-    ap (λ (k : Mode). unless_leads k (λ l. cause (known_by n l) n x (change_act change))) leads
-
-pub foreseen : (m : NumberedNode) (l : Leading) (change : IsrChange) (result : Result Record Refusal) → m.state.mode ≡ Leads l
-    → IsRefusedOnlyBy (would_cause m.number m.state change) result → IfOk result (λ made. record_of made ≡ altered (known_by m.number l) (changed_isr change l.isr))
-    → (c : LeaderAndIsr) → IsKnown m.number m.state.mode c → (new : NumberedNode) × Alters c m new (change_act change) result
-foreseen m l change result leads refused is c known =
-    let own : c ≡ known_by m.number l = subst (λ (k : Mode). IsKnown m.number k c) leads known in
-    let cause_of = subst (λ (o : Option Refusal). IsRefusedOnlyBy o result) (would_cause_is m.number m.state l change leads) refused in
-    let there = alters (known_by m.number l) m l change result leads cause_of is in (
-      after m l change (l.version + 1) result,
-      subst (λ (k : LeaderAndIsr). Alters k m (after m l change (l.version + 1) result) (change_act change) result) (sym own) there,
-    )
-
--- ---- each exit's cause
-
-first_stays : (t : Bool × Refusal) (ts : List (Bool × Refusal)) (r : Refusal) → first_of (t ∷ []) ≡ Some r → first_of (t ∷ ts) ≡ Some r
-first_stays t ts r e = by_test t.0 e
-  where
-    by_test : (b : Bool) → (if b then Some t.1 else None) ≡ Some r → (if b then Some t.1 else first_of ts) ≡ Some r
-    by_test true e = e
-    by_test false e = absurd cc
-
-first_passed : (t : Bool × Refusal) (ts : List (Bool × Refusal)) → first_of (t ∷ []) ≡ None → first_of (t ∷ ts) ≡ first_of ts
-first_passed t ts e = by_test t.0 e
-  where
-    by_test : (b : Bool) → (if b then Some t.1 else None) ≡ None → (if b then Some t.1 else first_of ts) ≡ first_of ts
-    by_test true e = absurd cc
-    by_test false e = refl
-
--- the change was refused
-pub by_change : (c : LeaderAndIsr) (n : ℕ) (x : Node) (l : Leading) (change : IsrChange) (r : Refusal) → x.mode ≡ Leads l → same_record c (known_by n l) ≡ true
-    → isr_cause n x.watermark l change ≡ Some r → cause c n x (change_act change) ≡ Some r
-by_change c n x l change r leads same is = cause_is c n x l change true leads same ∙ first_stays (isr_test n x.watermark l change) ((nat_le greatest_version l.version, refusals.RecordFull) ∷ []) r is
-
--- or only the version stands against it
-pub by_version : (c : LeaderAndIsr) (n : ℕ) (x : Node) (l : Leading) (change : IsrChange) → x.mode ≡ Leads l → same_record c (known_by n l) ≡ true
-    → isr_cause n x.watermark l change ≡ None → cause c n x (change_act change) ≡ alter_cause (known_by n l)
-by_version c n x l change leads same is = cause_is c n x l change true leads same ∙ first_passed (isr_test n x.watermark l change) ((nat_le greatest_version l.version, refusals.RecordFull) ∷ []) is
-
-pub refused_exit : {A : Type 0} (o : Option Refusal) (r : Refusal) (result : Result A Refusal) → o ≡ Some r → result ≡ Err r → IsRefusedOnlyBy o result
-refused_exit o r result is exit = rw (is, exit) refl
-
--- only a leader changes them
+-- only a leader asks
 pub not_leading : (c : LeaderAndIsr) (n : ℕ) (x : Node) (change : IsrChange) → ((why : Leading → Option Refusal) → unless_leads x.mode why ≡ Some refusals.NotLeader)
     → cause c n x (change_act change) ≡ Some refusals.NotLeader
 not_leading c n x (Join m) h = h _
 not_leading c n x (Leave m) h = h _
 
-pub refused_change : (c : LeaderAndIsr) (m : NumberedNode) (change : IsrChange) (r : Refusal) (result : Result Record Refusal) → cause c m.number m.state (change_act change) ≡ Some r → result ≡ Err r
-    → Alters c m m (change_act change) result
-refused_change c m change r result is exit =
-    subst (Alters c m m (change_act change)) (sym exit) (was_refused c m.number m.state (change_act change) r is, (refl, refl))
+pub refused_exit : {A : Type 0} (o : Option Refusal) (r : Refusal) (result : Result A Refusal) → o ≡ Some r → result ≡ Err r → IsRefusedOnlyBy o result
+refused_exit o r result is exit = rw (is, exit) refl
+
+-- what is refused so, whatever the record is
+pub refused_change : (m : NumberedNode) (change : IsrChange) (r : Refusal) → ((c : LeaderAndIsr) → cause c m.number m.state (change_act change) ≡ Some r)
+    → Does m m (change_act change) (Refused r)
+refused_change m change r is = λ c. (was_refused c m.number m.state (change_act change) r (is c), (refl, refl))
+
+-- ---- that it is asked for
+
+-- the leader with this set pending
+abbrev pub with_pending : NumberedNode → Leading → List ℕ → NumberedNode
+with_pending m l isr = record m { state = record m.state { mode = Leads (record l { pending = Some isr }) } }
+
+abbrev proposing : LeaderAndIsr → ℕ → Node → Leading → List ℕ → Effect
+proposing c n x l isr = sends c (record x { mode = Leads (record l { pending = Some isr }) }) (Proposes (proposal n l isr)) (SentProposal isr l.version)
+
+proposed : (c : LeaderAndIsr) (n : ℕ) (x : Node) (l : Leading) (change : IsrChange) → x.mode ≡ Leads l → isr_cause n x.watermark l change ≡ None
+    → Local c n x (change_act change) (proposing c n x l (changed_isr change l.isr))
+proposed c n x l (Join m) leads free =
+    let isr = with_member m l.isr in
+    let e = proposing c n x l isr in
+    happened c n x (change_act (Join m)) e (cause_is c n x l (Join m) leads ∙ free)
+    (subst (λ (k : Mode). WhereLeads k (λ l. Proposes-set c n x (with_member m l.isr) l e)) (sym leads) refl)
+proposed c n x l (Leave m) leads free =
+    let isr = without_member m l.isr in
+    let e = proposing c n x l isr in
+    happened c n x (change_act (Leave m)) e (cause_is c n x l (Leave m) leads ∙ free)
+    (subst (λ (k : Mode). WhereLeads k (λ l. Proposes-set c n x (without_member m l.isr) l e)) (sym leads) refl)
+
+pub proposes : (m : NumberedNode) (l : Leading) (change : IsrChange) (isr : List ℕ) → m.state.mode ≡ Leads l → isr_cause m.number m.state.watermark l change ≡ None → isr ≡ changed_isr change l.isr
+    → DoesSending m (with_pending m l isr) (change_act change) (Proposing (proposal m.number l isr))
+proposes m l change isr leads free is =
+    subst (λ (set : List ℕ). DoesSending m (with_pending m l set) (change_act change) (Proposing (proposal m.number l set))) (sym is) (
+      record {
+        message = Proposes (proposal m.number l (changed_isr change l.isr));
+        letter_is = refl;
+        local = λ c. proposed c m.number m.state l change leads free;
+      },
+      (refl, refl),
+    )
+
+-- ---- that a decision is learned
+
+pub learn_refused : (c : LeaderAndIsr) (m : NumberedNode) (d : Decision) (r : Refusal) → unless_leads m.state.mode (learn_cause d) ≡ Some r
+    → Local c m.number m.state (Receive (Decides d)) (becomes c m.state (Refused r))
+learn_refused c m d r is = was_refused c m.number m.state (Receive (Decides d)) r is
+
+-- the leader that knows the decided set and version
+abbrev pub with_decided : NumberedNode → Leading → List ℕ → ℕ → NumberedNode
+with_decided m l isr version = record m { state = record m.state { mode = Leads (record l { isr = isr; version = version; pending = None }) } }
+
+pub learns : (m : NumberedNode) (l : Leading) (d : Decision) → m.state.mode ≡ Leads l → learn_cause d l ≡ None
+    → Does m (with_decided m l d.decided.isr d.decided.version) (Receive (Decides d)) (Learned d.decided.isr d.decided.version)
+learns m l d leads free = λ c.
+    let y = with_decided m l d.decided.isr d.decided.version in
+    let e : Effect = becomes c y.state (Learned d.decided.isr d.decided.version) in
+    let x = m.state in (
+      happened c m.number x (Receive (Decides d)) e (ap (λ (k : Mode). unless_leads k (learn_cause d)) leads ∙ free)
+          (subst (λ (k : Mode). WhereLeads k (λ l. Learns c x d l e)) (sym leads) refl),
+      (refl, refl),
+    )
+
+-- by its two tests
+pub learn_cause_is : (d : Decision) (l : Leading) (mode : Mode) (has newer : Bool) → mode ≡ Leads l → has_epoch d.decided (Some l.epoch) ≡ has → nat_lt l.version d.decided.version ≡ newer
+    → unless_leads mode (learn_cause d) ≡ first_of ((not has, refusals.StaleRecord) ∷ (not newer, refusals.StaleAnswer) ∷ [])
+learn_cause_is d l mode has newer leads recorded rises = rw (leads, recorded, rises) refl

@@ -4,6 +4,7 @@ use Rattle.kp_types.specs.declared.refusal.Refusal.TheVariants as refusals
 use Rattle.kp_model.specs.Log.{end_of}
 use Rattle.kp_model.specs.World.{Follows, Following}
 use Rattle.kp_model.specs.Event.{Ask, Refused}
+use Rattle.kp_model.specs.Letter.{Fetching}
 use Rattle.kp_model.specs.Local.{ask_cause, last_epoch}
 use Rattle.kp_model.proofs.Sending.{asks}
 use Rattle.kp_model.proofs.Steps.{was_refused}
@@ -16,9 +17,9 @@ use Rattle.kp_replica.specs.Sending.{DoesSending}
 
 -- a follower asks by its log's end and its last epoch
 pub asks_leader : (m : NumberedNode) (f : Following) (offset : ℕ) (last : Option ℕ) → m.state.mode ≡ Follows f → offset ≡ end_of m.state.log → last ≡ last_epoch m.state.log
-    → DoesSending m m Ask (record { from = m.number; to = f.leader; life = m.state.life; epoch = f.epoch; offset = offset; last = last; answering = None })
+    → DoesSending m m Ask (Fetching (record { from = m.number; to = f.leader; life = m.state.life; epoch = f.epoch; offset = offset; last = last; answering = None }))
 asks_leader m f offset last mode at is =
-    subst (λ (p : ℕ × Option ℕ). DoesSending m m Ask (record { from = m.number; to = f.leader; life = m.state.life; epoch = f.epoch; offset = p.0; last = p.1; answering = None })) (λ i. (sym at i, sym is i))
+    subst (λ (p : ℕ × Option ℕ). DoesSending m m Ask (Fetching (record { from = m.number; to = f.leader; life = m.state.life; epoch = f.epoch; offset = p.0; last = p.1; answering = None }))) (λ i. (sym at i, sym is i))
     (asks m.number m.state f mode, (refl, refl))
 
 -- who doesn't follow has nobody to ask

@@ -11,30 +11,30 @@ use Rattle.kp_model.proofs.Steps.{happened, lacked_memory, was_refused}
 
 -- ---- adopt
 
-adopt_cause : (c : LeaderAndIsr) (n : ℕ) (x : Node) (news : Bool) → is_down x.mode ≡ false → is_news c x.mode ≡ news → cause c n x Adopt ≡ cond news None (Some refusals.StaleRecord)
+adopt_cause : (c : LeaderAndIsr) (n : ℕ) (x : Node) (news : Bool) → is_down x.mode ≡ false → is_news c n x ≡ news → cause c n x Adopt ≡ cond news None (Some refusals.StaleRecord)
 adopt_cause c n x true up news = rw (up, news) refl
 adopt_cause c n x false up news = rw (up, news) refl
 
-pub stale : (c : LeaderAndIsr) (n : ℕ) (x : Node) → is_down x.mode ≡ false → is_news c x.mode ≡ false → Local c n x Adopt (becomes c x (Refused refusals.StaleRecord))
+pub stale : (c : LeaderAndIsr) (n : ℕ) (x : Node) → is_down x.mode ≡ false → is_news c n x ≡ false → Local c n x Adopt (becomes c x (Refused refusals.StaleRecord))
 stale c n x up news = was_refused c n x Adopt refusals.StaleRecord (adopt_cause c n x false up news)
 
 -- the node takes up this leader's epoch
-pub adopted : (c : LeaderAndIsr) (n : ℕ) (x : Node) (l : Leader) → c.leader ≡ Some l → is_down x.mode ≡ false → is_news c x.mode ≡ true
-    → Local c n x Adopt (becomes c (record x { mode = (under c l n x.log).0 }) (under c l n x.log).1)
+pub adopted : (c : LeaderAndIsr) (n : ℕ) (x : Node) (l : Leader) → c.leader ≡ Some l → is_down x.mode ≡ false → is_news c n x ≡ true
+    → Local c n x Adopt (becomes c (record x { kept = Some l.epoch; mode = (under c l n x.log).0 }) (under c l n x.log).1)
 adopted c n x l is up news =
-    let e : Effect = becomes c (record x { mode = (under c l n x.log).0 }) (under c l n x.log).1 in
+    let e : Effect = becomes c (record x { kept = Some l.epoch; mode = (under c l n x.log).0 }) (under c l n x.log).1 in
     happened c n x Adopt e (adopt_cause c n x true up news) (subst (λ (o : Option Leader). Adopts c n x o e) (sym is) refl)
 
-pub adopted_leads : (c : LeaderAndIsr) (n : ℕ) (x : Node) (l : Leader) → c.leader ≡ Some l → is_down x.mode ≡ false → is_news c x.mode ≡ true → l.node ≡ n
+pub adopted_leads : (c : LeaderAndIsr) (n : ℕ) (x : Node) (l : Leader) → c.leader ≡ Some l → is_down x.mode ≡ false → is_news c n x ≡ true → l.node ≡ n
     → Local c n x Adopt
-    (becomes c (record x { mode = Leads (record { epoch = l.epoch; isr = c.isr; version = c.version; start = end_of x.log; reported = no_reports }) }) (NowLeads l.epoch (end_of x.log)))
+    (becomes c (record x { kept = Some l.epoch; mode = Leads (record { epoch = l.epoch; isr = c.isr; version = c.version; pending = None; start = end_of x.log; reported = no_reports }) }) (NowLeads l.epoch (end_of x.log)))
 adopted_leads c n x l is up news here =
     let same : eqb l.node n ≡ true = eq-eqb l.node n here in
     rw same at (adopted c n x l is up news)
 
-pub adopted_follows : (c : LeaderAndIsr) (n : ℕ) (x : Node) (l : Leader) → c.leader ≡ Some l → is_down x.mode ≡ false → is_news c x.mode ≡ true → (l.node ≡ n → ⊥)
+pub adopted_follows : (c : LeaderAndIsr) (n : ℕ) (x : Node) (l : Leader) → c.leader ≡ Some l → is_down x.mode ≡ false → is_news c n x ≡ true → (l.node ≡ n → ⊥)
     → Local c n x Adopt
-    (becomes c (record x { mode = Follows (record { leader = l.node; epoch = l.epoch }) }) (NowFollows l.node l.epoch))
+    (becomes c (record x { kept = Some l.epoch; mode = Follows (record { leader = l.node; epoch = l.epoch }) }) (NowFollows l.node l.epoch))
 adopted_follows c n x l is up news apart =
     let other : eqb l.node n ≡ false = ne_eqb l.node n apart in
     rw other at (adopted c n x l is up news)

@@ -3,7 +3,7 @@ use Rattle.std.proofs.Common.{◌≡◌, ℕ, true, false, Option, Some, refl, s
 use Rattle.std.proofs.lemmas.Bool.{cond_both}
 use Rattle.kp_types.specs.declared.refusal.Refusal.{Refusal}
 use Rattle.kp_types.specs.declared.refusal.Refusal.TheVariants as refusals
-use Rattle.kp_model.specs.World.{LeaderAndIsr, Mode, Down, Idle, Leads, Follows, Node, Message, Asks, Answers}
+use Rattle.kp_model.specs.World.{LeaderAndIsr, Mode, Down, Idle, Leads, Follows, Node, Proposal, Message, Asks, Answers, Proposes, Decides}
 use Rattle.kp_model.specs.Event.{Act, Receive, Refused}
 use Rattle.kp_model.specs.Event as model
 use Rattle.kp_model.specs.Local.{cause, is_down, receive_cause, is_covered, take_cause, cut_cause}
@@ -31,6 +31,8 @@ down_receives : (c : LeaderAndIsr) (n : ℕ) (x : Node) (m : Message) → x.mode
 down_receives c n x (Asks r) down = rw down refl
 down_receives c n x (Answers a) down =
     cond_both (is_covered a.log a.request) (take_cause x a) (cut_cause c n x a) (λ (o : Option Refusal). o ≡ Some refusals.Down) (λ e. rw down refl) (λ e. rw down refl)
+down_receives c n x (Proposes p) down = rw down refl
+down_receives c n x (Decides d) down = rw down refl
 
 pub refuses_down : (c : LeaderAndIsr) (x : NumberedNode) (act : Act) (refusal : Refusal) → is_down x.state.mode ≡ true → refusal ≡ refusals.Down → NeedsUp act
     → DoesUnder c x x act (Refused refusal)
@@ -47,6 +49,11 @@ refuses_message c x m refusal down is = (
       (subst (λ (r : Refusal). cause c x.number x.state (Receive m) ≡ Some r) (sym is) (down_receives c x.number x.state m (is_mode_down x.state.mode down))),
   (refl, refl),
 )
+
+-- a proposal is the controller's: also a node that is up refuses it
+pub refuses_proposal : (c : LeaderAndIsr) (x : NumberedNode) (p : Proposal) → is_down x.state.mode ≡ false → DoesUnder c x x (Receive (Proposes p)) (Refused refusals.StaleAnswer)
+refuses_proposal c x p up =
+    (was_refused c x.number x.state (Receive (Proposes p)) refusals.StaleAnswer (let is : cause c x.number x.state (Receive (Proposes p)) ≡ Some refusals.StaleAnswer = rw up refl in is), (refl, refl))
 
 -- and a node that is up refuses a restart
 pub refuses_up : (c : LeaderAndIsr) (x : NumberedNode) (refusal : Refusal) → is_down x.state.mode ≡ false → refusal ≡ refusals.Down → DoesUnder c x x model.Restart (Refused refusal)

@@ -10,9 +10,9 @@ use Rattle.kp_types.specs.declared.refusal.Refusal.TheVariants as refusals
 use Rattle.kp_types.proofs.Causes.{only_cause, only_none}
 use Rattle.kp_model.specs.Beginning.{Begins, find_map, with_before}
 use Rattle.kp_model.specs.Log.{Batch, IsLog, IsKin, end_of, is_boundary}
-use Rattle.kp_model.specs.World.{LeaderAndIsr, Node, Request, Answer, Message, Asks, Answers}
+use Rattle.kp_model.specs.World.{LeaderAndIsr, Node, Request, Answer, Message, Asks, Answers, Proposes, Decides}
 use Rattle.kp_model.specs.Event.{Receive, Reply, Refused}
-use Rattle.kp_model.specs.Letter.{Letter, Batches, answering, letter_of, fetch_request, fetch_answer}
+use Rattle.kp_model.specs.Letter.{FetchLetter, Fetching, Batches, answering, answered_letter, letter_of, fetch_request, fetch_answer}
 use Rattle.kp_model.specs.Local.{Effect, Local, awaits, becomes, cannot_follow, cause, follow_cause, has_epoch, is_down, last_epoch, mode_epoch, piece, reconciles, take_cause_for, take_cause, cut_cause, cut_cause_for}
 use Rattle.kp_model.specs.Laws.{place_of}
 use Rattle.kp_model.specs.Epochs.{cut_place}
@@ -44,13 +44,16 @@ use Rattle.kp_replica.proofs.CuttingFacts.{cause_for, tests, refused_first, refu
 some_is : {A : Type 0} {y z : A} → Some y ≡ Some z → y ≡ z
 some_is e = cc
 
--- a request's letter isn't an answer's
-pub unanswered : (q : Request) (r : FetchRequest) (given : Answered) → letter_of (Asks q) ≡ record (fetch_request r) { answering = Some (answering given) } → ⊥
-unanswered q r given same = none-some (answering given) (ap (λ (l : Letter). l.answering) same)
+pub fetched : {l m : FetchLetter} → Fetching l ≡ Fetching m → l ≡ m
+fetched e = cc
 
-module _ (a : Answer) (r : FetchRequest) (f : Fetched) (same : letter_of (Answers a) ≡ record (fetch_request r) { answering = Some (Batches (handed f) f.watermark) }) where
+-- a request's letter isn't an answer's
+pub unanswered : (q : Request) (r : FetchRequest) (given : Answered) → letter_of (Asks q) ≡ Fetching (record (fetch_request r) { answering = Some (answering given) }) → ⊥
+unanswered q r given same = none-some (answering given) (ap (λ (l : FetchLetter). l.answering) (fetched same))
+
+module _ (a : Answer) (r : FetchRequest) (f : Fetched) (same : answered_letter a ≡ record (fetch_request r) { answering = Some (Batches (handed f) f.watermark) }) where
   pub given : Hands a (handed f) f.watermark
-  given = hands a (handed f) f.watermark (some_is (ap (λ (l : Letter). l.answering) same))
+  given = hands a (handed f) f.watermark (some_is (ap (λ (l : FetchLetter). l.answering) same))
 
   -- what is taken, by the letter
   taken_is : (c : LeaderAndIsr) (x : Node) → taken c x a.request.epoch (end_of a.request.log) (last_epoch a.request.log) (piece a.log a.request) a.watermark ≡ taking c x r f
@@ -59,9 +62,9 @@ module _ (a : Answer) (r : FetchRequest) (f : Fetched) (same : letter_of (Answer
   pub take_refused : (x : Node) → take_cause x a ≡ fetch_cause x r f
   take_refused x = λ i. take_cause_for x (same i).epoch (same i).offset (same i).last (given.batches_are i) (given.mark_is i)
 
-module _ (a : Answer) (r : FetchRequest) (end : Option EpochEnd) (same : letter_of (Answers a) ≡ diverging r end) where
+module _ (a : Answer) (r : FetchRequest) (end : Option EpochEnd) (same : answered_letter a ≡ diverging r end) where
   pub told : Tells a (told_end end)
-  told = tells a (told_end end) (some_is (ap (λ (l : Letter). l.answering) same))
+  told = tells a (told_end end) (some_is (ap (λ (l : FetchLetter). l.answering) same))
 
   pub cut_refused : (c : LeaderAndIsr) (n : ℕ) (x : Node) → cut_cause c n x a ≡ cause_for c n x r
   cut_refused c n x = λ i. cut_cause_for c n x (same i).from (same i).life (same i).epoch (same i).offset (same i).last
@@ -70,7 +73,7 @@ module _ (a : Answer) (r : FetchRequest) (end : Option EpochEnd) (same : letter_
   place_is x = ap (cut_place x.log) told.end_is
 
 -- why a message with this letter is refused
-pub cause_is : (c : LeaderAndIsr) (m : NumberedNode) (r : FetchRequest) (given : Answered) (a : Answer) → letter_of (Answers a) ≡ record (fetch_request r) { answering = Some (answering given) }
+pub cause_is : (c : LeaderAndIsr) (m : NumberedNode) (r : FetchRequest) (given : Answered) (a : Answer) → answered_letter a ≡ record (fetch_request r) { answering = Some (answering given) }
     → cause c m.number m.state (Receive (Answers a)) ≡ letter_cause c m r given
 cause_is c m r (answers.Batches f) a same =
     ap (λ (b : Bool). if b then take_cause m.state a else cut_cause c m.number m.state a) (given a r f same).covered ∙ take_refused a r f same m.state
@@ -86,17 +89,19 @@ same_cause shown c m r (answers.Diverging end) under = ap (λ (k : LeaderAndIsr)
 
 -- what a cause refuses
 pub refuses : (shown : LeaderAndIsr) (m : NumberedNode) (a : FetchAnswer) (refusal : Refusal) → letter_cause shown m a.request a.answered ≡ Some refusal
-    → ForLetter (fetch_answer a) (λ message. DoesShown shown a.answered m m (Receive message) (Refused refusal))
+    → ForLetter (Fetching (fetch_answer a)) (λ message. DoesShown shown a.answered m m (Receive message) (Refused refusal))
 refuses shown m a refusal is = by_message
   where
-    by_message : (message : Message) → letter_of message ≡ fetch_answer a → DoesShown shown a.answered m m (Receive message) (Refused refusal)
+    by_message : (message : Message) → letter_of message ≡ Fetching (fetch_answer a) → DoesShown shown a.answered m m (Receive message) (Refused refusal)
     by_message (Asks q) same = absurd (unanswered q a.request a.answered same)
     by_message (Answers b) same = λ c under.
-        (was_refused c m.number m.state (Receive (Answers b)) refusal (cause_is c m a.request a.answered b same ∙ same_cause shown c m a.request a.answered under ∙ is), (refl, refl))
+        (was_refused c m.number m.state (Receive (Answers b)) refusal (cause_is c m a.request a.answered b (fetched same) ∙ same_cause shown c m a.request a.answered under ∙ is), (refl, refl))
+    by_message (Proposes p) same = absurd cc
+    by_message (Decides d) same = absurd cc
 
 -- and what is done where the letter's effect is left
 does : (shown c : LeaderAndIsr) (old : NumberedNode) (y : Node) (r : FetchRequest) (given : Answered) (reply : Reply) (b : Answer)
-    → letter_of (Answers b) ≡ record (fetch_request r) { answering = Some (answering given) } → IsLog old.state.log → IsLog b.log → IsLog b.request.log
+    → answered_letter b ≡ record (fetch_request r) { answering = Some (answering given) } → IsLog old.state.log → IsLog b.log → IsLog b.request.log
     → IsKin b.request.log old.state.log → IsKin b.request.log b.log → becomes c y reply ≡ answer_effect c old r given
     → Local c old.number old.state (Receive (Answers b)) (becomes c y reply)
 does shown c old y r (answers.Batches f) reply b same h g q k l is =
@@ -107,7 +112,7 @@ does shown c old y r (answers.Diverging end) reply b same h g q k l is =
     subst (λ (e : Effect). Local c old.number old.state (Receive (Answers b)) e) (ap (cut c old.number old.state) same ∙ sym is) step
 
 -- no run cuts below the watermark, or at no boundary
-never_odd : (c : LeaderAndIsr) (m : NumberedNode) (r : FetchRequest) (end : Option EpochEnd) (b : Answer) → letter_of (Answers b) ≡ diverging r end → IsLog m.state.log → IsLog b.log
+never_odd : (c : LeaderAndIsr) (m : NumberedNode) (r : FetchRequest) (end : Option EpochEnd) (b : Answer) → answered_letter b ≡ diverging r end → IsLog m.state.log → IsLog b.log
     → IsLog b.request.log → IsKin b.request.log m.state.log → IsKin b.request.log b.log → CutsAbove c m (Answers b) → cause_for c m.number m.state r ≡ None
     → (ltb (place_for m.state.log end) m.state.watermark ≡ true) ⊎ (not (is_boundary m.state.log (place_for m.state.log end)) ≡ true) → ⊥
 never_odd c m r end b same h g q k l above free odd =
@@ -127,7 +132,7 @@ never_odd c m r end b same h g q k l above free odd =
 
 -- the answer was refused, or followed
 event_by : (shown c : LeaderAndIsr) (old new : NumberedNode) (r : FetchRequest) (given : Answered) (result : Result Followed Refusal) (b : Answer)
-    → letter_of (Answers b) ≡ record (fetch_request r) { answering = Some (answering given) } → IsLog old.state.log → IsLog b.log → IsLog b.request.log
+    → answered_letter b ≡ record (fetch_request r) { answering = Some (answering given) } → IsLog old.state.log → IsLog b.log → IsLog b.request.log
     → IsKin b.request.log old.state.log → IsKin b.request.log b.log → CutsAbove shown old (Answers b) → IsShown shown given c → is_down old.state.mode ≡ false
     → IsRefusedOnlyBy (answer_cause shown old r given) result → OnErr result (new ≡ old)
     → OnOk result ((k : LeaderAndIsr) → IsShown shown given k → becomes k new.state (followed_reply result) ≡ answer_effect k old r given) → IsSameNode old new
@@ -164,16 +169,16 @@ letter_first shown m r (answers.Diverging end) refusal up is = refused_first sho
 -- so it is refused by it, whatever logs the message has
 pub followed_refused : (shown : LeaderAndIsr) (old new : NumberedNode) (a : FetchAnswer) (result : Result Followed Refusal) → IsFollowed shown old new a result
     → IfSome (letter_cause shown old a.request a.answered)
-    (λ refusal. (result ≡ Err refusal) × ForLetter (fetch_answer a) (λ m. DoesShown shown a.answered old new (Receive m) (Refused refusal)))
+    (λ refusal. (result ≡ Err refusal) × ForLetter (Fetching (fetch_answer a)) (λ m. DoesShown shown a.answered old new (Receive m) (Refused refusal)))
 followed_refused shown old new a result s = by_cause (letter_cause shown old a.request a.answered) refl
   where
     by_cause : (o : Option Refusal) → letter_cause shown old a.request a.answered ≡ o
-        → IfSome o (λ refusal. (result ≡ Err refusal) × ForLetter (fetch_answer a) (λ m. DoesShown shown a.answered old new (Receive m) (Refused refusal)))
+        → IfSome o (λ refusal. (result ≡ Err refusal) × ForLetter (Fetching (fetch_answer a)) (λ m. DoesShown shown a.answered old new (Receive m) (Refused refusal)))
     by_cause None is = tt
     by_cause (Some refusal) is =
         let err : result ≡ Err refusal = subst (λ (o : Option Refusal). IsRefusedOnlyBy {A = Followed} o result) (letter_first shown old a.request a.answered refusal s.up is) s.refused in
         let stays : new ≡ old = subst (λ (o : Result Followed Refusal). OnErr o (new ≡ old)) err s.same in
-        (err, subst (λ (y : NumberedNode). ForLetter (fetch_answer a) (λ m. DoesShown shown a.answered old y (Receive m) (Refused refusal))) (sym stays) (refuses shown old a refusal is))
+        (err, subst (λ (y : NumberedNode). ForLetter (Fetching (fetch_answer a)) (λ m. DoesShown shown a.answered old y (Receive m) (Refused refusal))) (sym stays) (refuses shown old a refusal is))
 
 -- ---- what the calls for batches and for a cut leave
 

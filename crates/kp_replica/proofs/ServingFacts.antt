@@ -12,9 +12,9 @@ use Rattle.kp_batch.specs.Batch.{Written}
 use Rattle.kp_model.specs.Beginning.{find_map}
 use Rattle.kp_model.specs.Log.{Batch, written, logged, next_offset, end_of, is_boundary, carry_cause, IsBoundary, IsLog}
 use Rattle.kp_model.specs.Epochs.{covers}
-use Rattle.kp_model.specs.World.{Leading, Mode, Leads, Node, Request, Answer, Message, Asks, Answers}
+use Rattle.kp_model.specs.World.{Leading, Mode, Leads, Node, Request, Answer, Message, Asks, Answers, Proposes, Decides}
 use Rattle.kp_model.specs.Event.{Receive, Refused}
-use Rattle.kp_model.specs.Letter.{Letter, Batches, Diverging, answering_of, letter_of, fetch_request}
+use Rattle.kp_model.specs.Letter.{FetchLetter, Fetching, Batches, Diverging, answering_of, asked_letter, letter_of, fetch_request}
 use Rattle.kp_model.specs.Local.{becomes, piece_from, end_asked, unless_leads, serve_cause, serve_cause_for, reporting}
 use Rattle.kp_model.specs.Calls.{DoesSending as NodeDoesSending, ForLetter, ForRequest, served, answer_letter}
 use Rattle.kp_model.specs.declared.message.FetchRequest.{FetchRequest}
@@ -23,6 +23,7 @@ use Rattle.kp_insync.specs.Reports.{with_report}
 use Rattle.kp_model.proofs.Logs.{boundary_within}
 use Rattle.kp_model.proofs.Sending.{serve_is_the_step}
 use Rattle.kp_model.proofs.Steps.{was_refused, lacked_memory}
+use Rattle.kp_replica.proofs.HearingFacts.{fetched}
 use Rattle.kp_replica.specs.NumberedNode.{NumberedNode, Does, HasReports}
 use Rattle.kp_replica.specs.Sending.{DoesSending, IsServed}
 
@@ -40,26 +41,30 @@ reads_from log offset result refusal boundary refused is =
     let within : ltb (end_of log) offset ≡ false = le-ltb _ _ (boundary_within log offset boundary) in
     rw (within, is) at refused
 
-no_request : (letter : Letter) (a : Answer) → letter.answering ≡ None → letter_of (Answers a) ≡ letter → ⊥
-no_request letter a unanswered e = none-some (answering_of a) (sym unanswered ∙ sym (ap (λ (l : Letter). l.answering) e))
+no_request : (letter : FetchLetter) (a : Answer) → letter.answering ≡ None → letter_of (Answers a) ≡ Fetching letter → ⊥
+no_request letter a unanswered e = none-some (answering_of a) (sym unanswered ∙ sym (ap (λ (l : FetchLetter). l.answering) (fetched e)))
 
 -- why a leader, or another node, refuses a request with this letter
-abbrev pub cause_for : Node → Letter → Option Refusal
+abbrev pub cause_for : Node → FetchLetter → Option Refusal
 cause_for x letter = unless_leads x.mode (serve_cause_for x.log letter.epoch letter.offset letter.last)
 
-by_letter : (x : Node) (q : Request) (letter : Letter) → letter_of (Asks q) ≡ letter → unless_leads x.mode (serve_cause x.log q) ≡ cause_for x letter
+by_letter : (x : Node) (q : Request) (letter : FetchLetter) → asked_letter q ≡ letter → unless_leads x.mode (serve_cause x.log q) ≡ cause_for x letter
 by_letter x q letter e = ap (cause_for x) e
 
-pub refuses : (m : NumberedNode) (letter : Letter) (refusal : Refusal) (message : Message) → letter.answering ≡ None → cause_for m.state letter ≡ Some refusal
-    → letter_of message ≡ letter → Does m m (Receive message) (Refused refusal)
-refuses m letter refusal (Asks q) unanswered cause e = λ c. (was_refused c m.number m.state (Receive (Asks q)) refusal (by_letter m.state q letter e ∙ cause), (refl, refl))
+pub refuses : (m : NumberedNode) (letter : FetchLetter) (refusal : Refusal) (message : Message) → letter.answering ≡ None → cause_for m.state letter ≡ Some refusal
+    → letter_of message ≡ Fetching letter → Does m m (Receive message) (Refused refusal)
+refuses m letter refusal (Asks q) unanswered cause e = λ c. (was_refused c m.number m.state (Receive (Asks q)) refusal (by_letter m.state q letter (fetched e) ∙ cause), (refl, refl))
 refuses m letter refusal (Answers a) unanswered cause e = absurd (no_request letter a unanswered e)
+refuses m letter refusal (Proposes p) unanswered cause e = absurd cc
+refuses m letter refusal (Decides d) unanswered cause e = absurd cc
 
-pub lacks : (m : NumberedNode) (letter : Letter) (message : Message) → letter.answering ≡ None → cause_for m.state letter ≡ None
-    → letter_of message ≡ letter → Does m m (Receive message) (Refused refusals.Memory)
+pub lacks : (m : NumberedNode) (letter : FetchLetter) (message : Message) → letter.answering ≡ None → cause_for m.state letter ≡ None
+    → letter_of message ≡ Fetching letter → Does m m (Receive message) (Refused refusals.Memory)
 lacks m letter (Asks q) unanswered cause e =
-    λ c. (lacked_memory c m.number m.state (Receive (Asks q)) (becomes c m.state (Refused refusals.Memory)) (by_letter m.state q letter e ∙ cause) refl, (refl, refl))
+    λ c. (lacked_memory c m.number m.state (Receive (Asks q)) (becomes c m.state (Refused refusals.Memory)) (by_letter m.state q letter (fetched e) ∙ cause) refl, (refl, refl))
 lacks m letter (Answers a) unanswered cause e = absurd (no_request letter a unanswered e)
+lacks m letter (Proposes p) unanswered cause e = absurd cc
+lacks m letter (Decides d) unanswered cause e = absurd cc
 
 -- a leader of the request's epoch tests whether the offset is a boundary, where it covers the request
 in_epoch : (log : List Batch) (r : FetchRequest) (l : Leading) (covered inside : Bool) → l.epoch ≡ r.epoch → covers log r.offset r.last_epoch ≡ covered
@@ -77,7 +82,7 @@ fetch_cause x l r covered inside mode epoch covering at =
 -- so where the batches aren't had, it is refused so
 pub piece_refused : (m : NumberedNode) (l : Leading) (r : FetchRequest) (refusal : Refusal) → m.state.mode ≡ Leads l → l.epoch ≡ r.epoch → covers m.state.log r.offset r.last_epoch ≡ true
     → ((is_boundary m.state.log r.offset ≡ false) × (refusal ≡ refusals.OffsetOutOfRange)) ⊎ ((is_boundary m.state.log r.offset ≡ true) × (refusal ≡ refusals.Memory))
-    → ForLetter (fetch_request r) (λ message. Does m m (Receive message) (Refused refusal))
+    → ForLetter (Fetching (fetch_request r)) (λ message. Does m m (Receive message) (Refused refusal))
 piece_refused m l r refusal mode epoch covered (inl odd) = λ message e.
     refuses m (fetch_request r) refusal message refl (fetch_cause m.state l r true false mode epoch covered odd.0 ∙ ap Some (sym odd.1)) e
 piece_refused m l r refusal mode epoch covered (inr lacking) = λ message e.
@@ -126,17 +131,17 @@ diverges m l r end mode epoch covered told =
     }
 
 -- what a served letter comes to is the step of each request with it whose log is kin
-pub serves : (old new : NumberedNode) (r : FetchRequest) (sent : Letter) → IsLog old.state.log → IsServed old new (fetch_request r) sent
-    → ForRequest (fetch_request r) old.state.log (λ m. DoesSending old new (Receive m) sent)
+pub serves : (old new : NumberedNode) (r : FetchRequest) (sent : FetchLetter) → IsLog old.state.log → IsServed old new (fetch_request r) sent
+    → ForRequest (fetch_request r) old.state.log (λ m. DoesSending old new (Receive m) (Fetching sent))
 serves old new r sent h s = λ q e lawful kin.
     let x = old.state in
     let l = s.leading in
-    let free : serve_cause x.log q l ≡ None = ap (λ (o : Letter). serve_cause_for x.log o.epoch o.offset o.last l) e ∙ s.free in
-    let left : served x l (letter_of (Asks q)) ≡ new.state = ap (served x l) e ∙ sym s.new_is in
-    let answer : answer_letter x (letter_of (Asks q)) ≡ sent = ap (answer_letter x) e ∙ sym s.sent_is in
+    let free : serve_cause x.log q l ≡ None = ap (λ (o : FetchLetter). serve_cause_for x.log o.epoch o.offset o.last l) e ∙ s.free in
+    let left : served x l (asked_letter q) ≡ new.state = ap (served x l) e ∙ sym s.new_is in
+    let answer : answer_letter x (asked_letter q) ≡ sent = ap (answer_letter x) e ∙ sym s.sent_is in
     let step = serve_is_the_step old.number x l q s.leads h lawful kin free in (
-      subst (λ (y : Node). NodeDoesSending old.number x y (Receive (Asks q)) sent) left
-          (subst (λ (o : Letter). NodeDoesSending old.number x (served x l (letter_of (Asks q))) (Receive (Asks q)) o) answer step),
+      subst (λ (y : Node). NodeDoesSending old.number x y (Receive (Asks q)) (Fetching sent)) left
+          (subst (λ (o : FetchLetter). NodeDoesSending old.number x (served x l (asked_letter q)) (Receive (Asks q)) (Fetching o)) answer step),
       s.same,
     )
 

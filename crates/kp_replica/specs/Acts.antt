@@ -7,18 +7,16 @@ use Rattle.kp_model.specs.Event as model
 use Rattle.kp_model.specs.Event.{Act as ModelAct, Line, Receive, Reply, Refused}
 use Rattle.kp_model.specs.Log.{Batch, IsLog, IsKin}
 use Rattle.kp_model.specs.Admission.{admit, Duplicate}
-use Rattle.kp_model.specs.World.{LeaderAndIsr, Node, Asks, Answers as AnswersOf}
+use Rattle.kp_model.specs.World.{LeaderAndIsr, Node, Asks, Answers as AnswersOf, Proposes, Decides}
 use Rattle.kp_model.specs.Letter.{Letter, letter, letter_of}
 use Rattle.kp_model.specs.Calls.{sent_reply}
 use Rattle.kp_model.specs.Local.{Effect as ModelEffect, Local, cause, is_covered}
 use Rattle.kp_model.specs.declared.message.MessageBody.{MessageBody}
-use Rattle.kp_control.specs.declared.record.LeaderAndIsr.{LeaderAndIsr as Record}
-use Rattle.kp_control.specs.Set.{record_of}
 use Rattle.kp_replica.specs.Adopting.{IsWithin}
 use Rattle.kp_replica.specs.Altering.{change_act}
 use Rattle.kp_replica.specs.Hearing.{CutsAbove}
 use Rattle.kp_replica.specs.NumberedNode.{NumberedNode, IsSameNode}
-use Rattle.kp_replica.specs.Replies.{role_reply, receipt_reply, taken_reply, cut_reply, shown_reply, mark_of, body_of, IsOffer, IsNamedBy, IsReceiptOf, IsReceiptOfBody}
+use Rattle.kp_replica.specs.Replies.{role_reply, receipt_reply, taken_reply, cut_reply, learned_reply, shown_reply, mark_of, body_of, IsOffer, IsNamedBy, IsReceiptOf, IsReceiptOfBody}
 use Rattle.kp_replica.specs.declared.act.Act.{Act}
 use Rattle.kp_replica.specs.declared.act.Act.TheVariants.{Produce, Plain}
 use Rattle.kp_replica.specs.declared.act.PlainAct.{PlainAct}
@@ -26,7 +24,7 @@ use Rattle.kp_replica.specs.declared.act.PlainAct.TheVariants.{Adopt, Mark, Ask,
 use Rattle.kp_replica.specs.declared.act.Answer.{Answer}
 use Rattle.kp_replica.specs.declared.act.Answer.TheVariants as answers
 use Rattle.kp_replica.specs.declared.act.Effect.{Effect}
-use Rattle.kp_replica.specs.declared.act.Effect.TheVariants.{Answers, Sends, Changes}
+use Rattle.kp_replica.specs.declared.act.Effect.TheVariants.{Answers, Sends}
 use Rattle.kp_replica.specs.declared.adopting.Role.{Role}
 use Rattle.kp_replica.specs.declared.producing.Receipt.{Receipt}
 use Rattle.kp_replica.specs.declared.reading.Shown.{Shown}
@@ -63,13 +61,18 @@ abbrev pub HandsBytes : Act → Type 0
 HandsBytes (Produce bytes) = AreBytes bytes
 HandsBytes _ = Unit {0}
 
--- What takes no memory, so that it is never refused for want of it: an ask, a batch that comes twice, a request that no batches
--- answer, and an answer that has none as the logs have parted (own rule).
+-- What takes no memory, so that it is never refused for want of it: an ask, a change of the in-sync replicas that is asked for,
+-- a batch that comes twice, a request that no batches answer, an answer that has none as the logs have parted, and what the
+-- controller is asked or decides (own rule).
 abbrev pub TakesNoMemory : Node → ModelAct → Type 0
 TakesNoMemory x model.Ask = Unit {0}
+TakesNoMemory x (model.Join m) = Unit {0}
+TakesNoMemory x (model.Leave m) = Unit {0}
 TakesNoMemory x (model.Produce (Ok body)) = IsBody body × (base : ℕ) × (admit x.log body.content ≡ Duplicate base)
 TakesNoMemory x (Receive (Asks request)) = IsFalse (is_covered x.log request)
 TakesNoMemory x (Receive (AnswersOf a)) = IsFalse (is_covered a.log a.request)
+TakesNoMemory x (Receive (Proposes p)) = Unit {0}
+TakesNoMemory x (Receive (Decides d)) = Unit {0}
 TakesNoMemory x _ = ⊥
 
 -- ---- what comes of them
@@ -79,6 +82,7 @@ answer_reply (answers.Adopted role) = role_reply (Ok role)
 answer_reply (answers.Appended receipt) = receipt_reply (Ok receipt)
 answer_reply (answers.Took taken) = taken_reply (Ok taken)
 answer_reply (answers.Cut cut) = cut_reply (Ok cut)
+answer_reply (answers.Learned learned) = learned_reply (Ok learned)
 answer_reply (answers.Watermark watermark) = model.MarkAt watermark
 answer_reply (answers.Checkpoint watermark) = model.CheckpointAt watermark
 answer_reply answers.Stopped = model.Stopped
@@ -90,30 +94,24 @@ abbrev pub answered_reply : Result Answer Refusal → Reply
 answered_reply (Ok answer) = answer_reply answer
 answered_reply (Err refusal) = Refused refusal
 
--- what is replied, the letters of the messages that are sent, and the controller's record, which was the given one
+-- what is replied, and the letters of the messages that are sent
 abbrev pub reply_of : Result Effect Refusal → Reply
 reply_of (Ok (Answers answer)) = answer_reply answer
 reply_of (Ok (Sends body)) = sent_reply (letter body)
-reply_of (Ok (Changes made)) = model.Changed (record_of made)
 reply_of (Err refusal) = Refused refusal
 
 abbrev pub letters_in : Result Effect Refusal → List Letter
 letters_in (Ok (Sends body)) = letter body ∷ []
-letters_in (Ok _) = []
+letters_in (Ok (Answers answer)) = []
 letters_in (Err refusal) = []
 
-abbrev pub record_after : LeaderAndIsr → Result Effect Refusal → LeaderAndIsr
-record_after c (Ok (Changes made)) = record_of made
-record_after c (Ok _) = c
-record_after c (Err refusal) = c
-
 -- Under this record the node did so, and is now the new one: what came of it, or why it was refused, is an effect of the
--- definitions.
+-- definitions, and the record stays.
 pub record Comes (c : LeaderAndIsr) (old new : NumberedNode) (act : ModelAct) (outcome : Result Effect Refusal) : Type 0 where
   pub effect : ModelEffect
   pub local : Local c old.number old.state act effect
   pub node_is : effect.node ≡ new.state
-  pub record_is : effect.controller ≡ record_after c outcome
+  pub record_is : effect.controller ≡ c
   pub letters_are : map letter_of effect.sent ≡ letters_in outcome
   pub reply_is : effect.reply ≡ reply_of outcome
   pub same : IsSameNode old new
@@ -121,8 +119,6 @@ pub record Comes (c : LeaderAndIsr) (old new : NumberedNode) (act : ModelAct) (o
 -- the acts that look at the controller's record
 abbrev pub Looks : ModelAct → Type 0
 Looks model.Adopt = Unit {0}
-Looks (model.Join member) = Unit {0}
-Looks (model.Leave member) = Unit {0}
 Looks (Receive (AnswersOf a)) = IsFalse (is_covered a.log a.request)
 Looks _ = ⊥
 
@@ -166,7 +162,7 @@ FitsPlain (Mark handed) new e =
     (receipt : Receipt) × (e ≡ Answers (answers.Appended receipt)) × IsReceiptOfBody (body_of handed.marker) new.state.log receipt
 FitsPlain Ask new e = (body : MessageBody) × (e ≡ Sends body)
 FitsPlain Raise new e = (watermark : ℕ) × (e ≡ Answers (answers.Watermark watermark))
-FitsPlain (Alter change) new e = (made : Record) × (e ≡ Changes made)
+FitsPlain (Alter change) new e = (body : MessageBody) × (e ≡ Sends body)
 FitsPlain Checkpoint new e = (watermark : ℕ) × (e ≡ Answers (answers.Checkpoint watermark))
 FitsPlain Stop new e = e ≡ Answers answers.Stopped
 FitsPlain Restart new e = (answer : Answer) × (e ≡ Answers answer) × IsRestarted answer

@@ -19,4 +19,4 @@ leads_back c n log = option_map_or (λ l. (l.node == n) && nat_lt l.epoch (unwra
 -- why node n, which is up, doesn't take the record up
 abbrev pub adopt_cause : LeaderAndIsr → ℕ → Node → Option Refusal
 adopt_cause c n x =
-    first_of ((not (is_news c x.mode), refusals.StaleRecord) ∷ (leads_back c n x.log, refusals.StaleRecord) ∷ [])
+    first_of ((not (is_news c n x), refusals.StaleRecord) ∷ (leads_back c n x.log, refusals.StaleRecord) ∷ [])

@@ -7,7 +7,7 @@ use Rattle.kp_types.specs.declared.refusal.Refusal.TheVariants as refusals
 use Rattle.kp_model.specs.Log.{Batch, is_boundary}
 use Rattle.kp_model.specs.Epochs.{cut_place}
 use Rattle.kp_model.specs.World.{LeaderAndIsr}
-use Rattle.kp_model.specs.Letter.{Letter, Diverging, fetch_request}
+use Rattle.kp_model.specs.Letter.{FetchLetter, Diverging, fetch_request}
 use Rattle.kp_model.specs.Local.{has_epoch, mode_epoch, reconciles}
 use Rattle.kp_model.specs.declared.message.EpochEnd.{EpochEnd}
 use Rattle.kp_model.specs.declared.message.FetchRequest.{FetchRequest}
@@ -18,7 +18,7 @@ abbrev pub told_end : Option EpochEnd → Option (ℕ × ℕ)
 told_end end = option_map (λ found. (found.epoch, found.end)) end
 
 -- the letter of the diverging answer
-abbrev pub diverging : FetchRequest → Option EpochEnd → Letter
+abbrev pub diverging : FetchRequest → Option EpochEnd → FetchLetter
 diverging r end = record (fetch_request r) { answering = Some (Diverging (told_end end)) }
 
 -- where the log is cut on it

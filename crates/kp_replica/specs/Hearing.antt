@@ -2,7 +2,7 @@
 use Rattle.std.specs.Prelude.{◌≡◌, ◌≤◌, false, IsFalse, Option, None, Result, OnOk, OnErr}
 use Rattle.kp_types.specs.Causes.{IsRefusedOnlyBy}
 use Rattle.kp_types.specs.declared.refusal.Refusal.{Refusal}
-use Rattle.kp_model.specs.World.{LeaderAndIsr, Message, Asks, Answers}
+use Rattle.kp_model.specs.World.{LeaderAndIsr, Message, Answers}
 use Rattle.kp_model.specs.Event.{Act, Reply}
 use Rattle.kp_model.specs.Local.{Effect, becomes, is_covered, is_down, cut_cause, cut_cause_for}
 use Rattle.kp_model.specs.Laws.{place_of}
@@ -48,9 +48,9 @@ DoesShown shown answered old new act reply = (c : LeaderAndIsr) → IsShown show
 
 -- as in each world of a run, the node wouldn't cut below its watermark
 abbrev pub CutsAbove : LeaderAndIsr → NumberedNode → Message → Type 0
-CutsAbove c m (Asks r) = Unit {0}
 CutsAbove c m (Answers a) =
     IsFalse (is_covered a.log a.request) → cut_cause c m.number m.state a ≡ None → m.state.watermark ≤ place_of m.state a
+CutsAbove c m _ = Unit {0}
 
 -- what it leaves and replies is what the letter comes to
 abbrev pub DoneAs : (shown : LeaderAndIsr) → NumberedNode → NumberedNode → FetchAnswer → Result Followed Refusal → Type 0

@@ -19,6 +19,7 @@ node_of r =
             watermark = r.watermark;
             checkpoint = r.checkpoint;
             life = r.life;
+            kept = r.kept_epoch;
             mode = mode_of r.mode;
           };
     }
@@ -47,6 +48,7 @@ kept_node r =
             watermark = r.watermark;
             checkpoint = r.kept.from;
             life = r.life;
+            kept = r.kept_epoch;
             mode = IsDown;
           };
     }

@@ -7,9 +7,10 @@ use Rattle.kp_batch.specs.Reading.{IsFirstFault}
 use Rattle.kp_model.specs.Log.{Batch, last_offset}
 use Rattle.kp_marker.specs.Marker.{commits}
 use Rattle.kp_marker.specs.declared.parts.Marker.{Marker as HandedMarker}
-use Rattle.kp_model.specs.Event.{Act, Mark, Reply, Refused, NowLeads, NowFollows, At, DuplicateOf, Took, Cut, MarkAt, CheckpointAt, Shown as StateShown, Lines, Line}
+use Rattle.kp_model.specs.Event.{Act, Mark, Reply, Refused, NowLeads, NowFollows, At, DuplicateOf, Learned, Took, Cut, MarkAt, CheckpointAt, Shown as StateShown, Lines, Line}
 use Rattle.kp_model.specs.Local.{marker_body}
 use Rattle.kp_model.specs.Producers.{sequence_after}
+use Rattle.kp_model.specs.Set.{members_of}
 use Rattle.kp_replica.specs.declared.adopting.Role.{Role}
 use Rattle.kp_replica.specs.declared.adopting.Role.TheVariants as roles
 use Rattle.kp_replica.specs.declared.producing.Receipt.{Receipt}
@@ -18,6 +19,7 @@ use Rattle.kp_replica.specs.declared.taking.Taken.{Taken}
 use Rattle.kp_replica.specs.declared.taking.Followed.{Followed}
 use Rattle.kp_replica.specs.declared.taking.Followed.TheVariants as follows
 use Rattle.kp_replica.specs.declared.cutting.CutBack.{CutBack}
+use Rattle.kp_replica.specs.declared.altering.Learned.{Learned as LearnedIsr}
 
 abbrev pub role_reply : Result Role Refusal → Reply
 role_reply (Ok (roles.Leads epoch start)) = NowLeads epoch start
@@ -44,6 +46,10 @@ abbrev pub followed_reply : Result Followed Refusal → Reply
 followed_reply (Ok (follows.Took taken)) = taken_reply (Ok taken)
 followed_reply (Ok (follows.Cut cut)) = cut_reply (Ok cut)
 followed_reply (Err refusal) = Refused refusal
+
+abbrev pub learned_reply : Result LearnedIsr Refusal → Reply
+learned_reply (Ok learned) = Learned (members_of learned.isr) learned.version
+learned_reply (Err refusal) = Refused refusal
 
 abbrev pub checkpoint_reply : Result ℕ Refusal → Reply
 checkpoint_reply (Ok watermark) = CheckpointAt watermark

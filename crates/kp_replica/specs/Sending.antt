@@ -2,7 +2,7 @@
 use Rattle.std.specs.Prelude.{◌≡◌, None}
 use Rattle.kp_model.specs.World.{Leading, Leads}
 use Rattle.kp_model.specs.Event.{Act}
-use Rattle.kp_model.specs.Letter.{Letter}
+use Rattle.kp_model.specs.Letter.{FetchLetter, Letter}
 use Rattle.kp_model.specs.Local.{serve_cause_for}
 use Rattle.kp_model.specs.Calls.{DoesSending as NodeDoesSending, served, answer_letter}
 use Rattle.kp_replica.specs.NumberedNode.{NumberedNode, IsSameNode}
@@ -13,7 +13,7 @@ DoesSending old new act letter = NodeDoesSending old.number old.state new.state 
 
 -- A leader answered a request with this letter, which no cause refuses: what it is now, and what it sent, are what the letter
 -- comes to.
-pub record IsServed (old new : NumberedNode) (asked sent : Letter) : Type 0 where
+pub record IsServed (old new : NumberedNode) (asked sent : FetchLetter) : Type 0 where
   pub leading : Leading
   pub leads : old.state.mode ≡ Leads leading
   pub free : serve_cause_for old.state.log asked.epoch asked.offset asked.last leading ≡ None

@@ -5,13 +5,12 @@ ghost use Rattle.kp_replica.specs.Acts.{answer_reply};
 ghost use Rattle.kp_replica.specs.Replies.{followed_reply};
 
 use crate::adopting::Role;
-use crate::altering::IsrChange;
+use crate::altering::{IsrChange, Learned};
 use crate::cutting::CutBack;
 use crate::producing::Receipt;
 use crate::reading::Shown;
 use crate::taking::{Followed, Taken};
 use kp_batch::Handed;
-use kp_control::LeaderAndIsr;
 use kp_marker::HandedMarker;
 use kp_model::MessageBody;
 use kp_types::Offset;
@@ -28,7 +27,7 @@ pub enum PlainAct {
     Ask,
     /// It raises its high watermark, as far as it may.
     Raise,
-    /// It changes the in-sync replicas, which it leads.
+    /// It asks the controller for a change of the in-sync replicas, which it leads.
     Alter { change: IsrChange },
     /// It notes its high watermark, to start from there when it is restarted.
     Checkpoint,
@@ -53,7 +52,7 @@ pub enum Act {
     Plain(PlainAct),
 }
 
-/// What a node answers that isn't refused, and neither sends a message nor changes the controller's record.
+/// What a node answers that isn't refused, and sends no message.
 #[derive(Drop)]
 pub enum Answer {
     Adopted(Role),
@@ -62,6 +61,8 @@ pub enum Answer {
     Took(Taken),
     /// It took back its log's tail, on a leader's diverging answer.
     Cut(CutBack),
+    /// It took the in-sync replicas of the controller's decision.
+    Learned(Learned),
     /// The high watermark.
     Watermark(Offset),
     /// The high watermark that was noted.
@@ -82,8 +83,6 @@ pub enum Effect {
     Answers(Answer),
     /// The node sends this message.
     Sends(MessageBody),
-    /// The controller's record is changed to this one.
-    Changes(LeaderAndIsr),
 }
 
 impl Followed {

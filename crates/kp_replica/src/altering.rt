@@ -1,21 +1,52 @@
-//! What a leader does to the in-sync replicas.
+//! What a leader asks of the controller for the in-sync replicas, and what it learns from the controller's decisions.
 
-ghost use Rattle.std.specs.Prelude.{◌≡◌, ◌<◌, ◌^◌, ◌+◌};
+ghost use Rattle.std.specs.Prelude.{◌≡◌, ◌<◌, ◌^◌, ◌+◌, bytes_eq};
 ghost use Rattle.kp_model.specs.Local.{known_by};
-ghost use Rattle.kp_control.specs.Set.{record_of};
+ghost use Rattle.kp_model.specs.Set.{members_of, record_of};
+ghost use Rattle.kp_replica.specs.Altering.{changed_isr};
 ghost use Rattle.kp_replica.specs.Modes.{leading_of};
 
 use crate::replica::{Leading, Mode, Replica};
-use kp_control::{Leader, LeaderAndIsr, NodeSet};
+use kp_model::{Decision, Leader, LeaderAndIsr, MessageBody, NodeSet, Proposal};
 use kp_types::{NodeId, Refusal};
 
-/// A change of the in-sync replicas, which their leader makes.
+/// A change of the in-sync replicas, for which their leader asks.
 #[derive(Clone, Copy, Debug, PartialEq, Eq)]
 pub enum IsrChange {
     /// This node joins them, or stays.
     Join(NodeId),
     /// This node leaves them.
     Leave(NodeId),
+}
+
+/// What a leader learned from a decision of the controller.
+#[derive(Clone, Copy, Debug, PartialEq, Eq)]
+pub struct Learned {
+    /// The in-sync replicas, as it knows them now.
+    pub isr: NodeSet,
+    /// The version of the controller's record that it knows now.
+    pub version: u32,
+}
+
+/// Whether the sets have the same nodes. O(1).
+fn are_same(one: &NodeSet, other: &NodeSet) -> bool
+    ensures { result ≡ bytes_eq (members_of one.now) (members_of other.now) }
+{
+    one.members == other.members
+}
+
+impl IsrChange {
+    /// Whether the change makes this set of that one. O(1).
+    fn makes(self, made: &NodeSet, isr: &NodeSet) -> bool
+        ensures { result ≡ bytes_eq (members_of made.now) (changed_isr self (members_of isr.now)) }
+    {
+        match self {
+            IsrChange::Join(member) => {
+                made.contains(member) && are_same(made, &isr.with(member))
+            }
+            IsrChange::Leave(member) => are_same(made, &isr.without(member)),
+        }
+    }
 }
 
 impl Leading {
@@ -38,18 +69,24 @@ impl Leading {
 }
 
 impl Replica {
-    ghost use Rattle.std.specs.Prelude.{◌≡◌, IfOk, IfNone, IfSome, OnErr};
+    ghost use Rattle.std.specs.Prelude.{◌≡◌, ◌≢◌, Err, IfOk, IfErr, OnErr};
     ghost use Rattle.kp_types.specs.Causes.{IsRefusedOnlyBy};
-    ghost use Rattle.kp_model.specs.World.{LeaderAndIsr as ModelRecord, Leading as ModelLeading, Leads as ModelLeads};
-    ghost use Rattle.kp_model.specs.Local.{cause};
-    ghost use Rattle.kp_control.specs.Set.{members_of, record_of};
-    ghost use Rattle.kp_replica.specs.NumberedNode.{NumberedNode, IsSameNode};
+    ghost use Rattle.kp_types.specs.declared.refusal.Refusal.TheVariants.{Memory};
+    ghost use Rattle.kp_model.specs.Event.{Receive, Refused};
+    ghost use Rattle.kp_model.specs.Letter.{letter, decision_of};
+    ghost use Rattle.kp_model.specs.Local.{cause, learn_cause, unless_leads};
+    ghost use Rattle.kp_model.specs.Set.{members_of};
+    ghost use Rattle.kp_model.specs.World.{LeaderAndIsr as ModelRecord, Decides};
+    ghost use Rattle.kp_replica.specs.NumberedNode.{Does, IsSameNode};
     ghost use Rattle.kp_replica.specs.Modes.{leading_of};
-    ghost use Rattle.kp_replica.specs.Altering.{change_act, changed_isr, isr_cause, would_cause, WouldMake, IsKnown, Alters};
+    ghost use Rattle.kp_replica.specs.Altering.{change_act, changed_isr, isr_cause, first_cause, IsProposal};
+    ghost use Rattle.kp_replica.specs.Replies.{learned_reply};
+    ghost use Rattle.kp_replica.specs.Sending.{DoesSending};
 
-    /// The in-sync replicas after the change. F23 for a node that hasn't caught up, F21 for one that can't leave.
-    fn isr_after(&self, leading: &Leading, change: IsrChange) -> Result<NodeSet, Refusal>
-        ensures refused { IsRefusedOnlyBy (isr_cause self.now.number self.now.state.watermark
+    /// The in-sync replicas after the change, where nothing is pending. F23 for a node that hasn't caught up, F21 for one that
+    /// can't leave. O(1).
+    fn first_change(&self, leading: &Leading, change: IsrChange) -> Result<NodeSet, Refusal>
+        ensures refused { IsRefusedOnlyBy (first_cause self.now.number self.now.state.watermark
             (leading_of leading.now) change) result }
         ensures changed { IfOk result (λ isr. members_of isr
             ≡ changed_isr change (members_of leading.now.isr)) }
@@ -70,67 +107,83 @@ impl Replica {
         }
     }
 
-    /// The controller's record as the node knows it, where it leads: the one that an exchange by which it changes the in-sync
-    /// replicas starts from. O(1), and no memory.
-    pub fn known(&self) -> Option<LeaderAndIsr>
-        ensures known { IfSome result (λ r.
-            IsKnown self.now.number self.now.state.mode (record_of r)) }
-        ensures none { IfNone result ((leading : ModelLeading) → self.now.state.mode ≡ ModelLeads leading → ⊥) }
+    /// The in-sync replicas after the change: the pending ones, where the change makes these. F34 where others are pending, and
+    /// where none are, as `first_change`. O(1).
+    fn isr_after(&self, leading: &Leading, change: IsrChange) -> Result<NodeSet, Refusal>
+        ensures refused { IsRefusedOnlyBy (isr_cause self.now.number self.now.state.watermark
+            (leading_of leading.now) change) result }
+        ensures changed { IfOk result (λ isr. members_of isr
+            ≡ changed_isr change (members_of leading.now.isr)) }
     {
-        match self.mode {
-            Mode::Leads(leading) => Some(leading.known(self.number)),
-            _ => None,
+        match leading.pending {
+            Some(pending) if change.makes(&pending, &leading.isr) => Ok(pending),
+            Some(_) => Err(Refusal::ChangePending),
+            None => self.first_change(leading, change),
         }
     }
 
-    /// The record that [`Replica::alter`] would make of the one that the leader knows, or its refusal: so a leader can make a
-    /// change by one exchange of the record that it knows for this one. F15 where the node doesn't lead; F23 where the
-    /// node to join has reported no end in this leadership, or one below the leader's high watermark or its start, F21
-    /// where the node to leave isn't in sync or is the leader itself; F24 last, where the version is at its greatest. O(1),
-    /// and no memory (own rule; Kafka's AlterPartition).
-    pub fn would_alter(&self, change: IsrChange) -> Result<LeaderAndIsr, Refusal>
-        ensures refused { IsRefusedOnlyBy
-            (would_cause self.now.number self.now.state change) result }
-        ensures made { IfOk result (λ made.
-            WouldMake self.now.number self.now.state change (record_of made)) }
-        ensures foreseen { (c : ModelRecord) → IsKnown self.now.number self.now.state.mode c
-            → (new : NumberedNode) × Alters c self.now new (change_act change) result }
-    {
-        let Mode::Leads(leading) = self.mode else {
-            return Err(Refusal::NotLeader);
-        };
-        let isr = self.isr_after(&leading, change)?;
-        leading.known(self.number).altered(isr)
-    }
-
-    /// Makes the change in the controller's record, where that is the one that the leader knows, and knows the changed one from
-    /// then on: its high watermark follows from these in-sync replicas. F15 where the node doesn't lead, F22 where the record is
-    /// another, and then as [`Replica::would_alter`]; each leaves all as it was. O(1), and no memory (own rule; Kafka's
-    /// AlterPartition).
-    pub fn alter(
-        &mut self,
-        change: IsrChange,
-        controller: &LeaderAndIsr,
-    ) -> Result<LeaderAndIsr, Refusal>
-        ensures event { Alters (record_of controller.now) self.old self.new
-            (change_act change) result }
-        ensures refused { IsRefusedOnlyBy (cause (record_of controller.now) self.old.number
-            self.old.state (change_act change)) result }
+    /// Asks the controller for the change of the in-sync replicas: the changed set is pending from then on, beside the one that
+    /// the leader knows, and the answered message proposes it for the record that the leader knows. Where that set is pending
+    /// already it is proposed once more, untested, as a proposal or its decision may have been lost. F15 where the node doesn't
+    /// lead; F34 where another set is pending; F23 where the node to join has reported no end in this leadership, or one
+    /// below the leader's high watermark or its start; F21 where the node to leave isn't in sync or is the leader itself: each
+    /// leaves all as it was. O(1), and no memory (KIP-497; Kafka protocol guide, 'AlterPartition'; own: the tests).
+    pub fn alter(&mut self, change: IsrChange) -> Result<MessageBody, Refusal>
+        ensures sent { IfOk result (λ proposal.
+            DoesSending self.old self.new (change_act change) (letter proposal)) }
+        ensures proposed { IfOk result (λ proposal. IsProposal self.old change (letter proposal)) }
+        ensures event { IfErr result (λ refusal.
+            Does self.old self.new (change_act change) (Refused refusal)) }
+        ensures refused { (c : ModelRecord) → IsRefusedOnlyBy
+            (cause c self.old.number self.old.state (change_act change)) result }
+        ensures spared { result ≢ Err Memory }
         ensures same { OnErr result (self.new ≡ self.old) }
+        ensures node { IsSameNode self.old self.new }
     {
         let Mode::Leads(leading) = self.mode else {
             return Err(Refusal::NotLeader);
         };
-        if !controller.is_same(&leading.known(self.number)) {
-            return Err(Refusal::StaleRecord);
-        }
         let isr = self.isr_after(&leading, change)?;
-        let made = controller.altered(isr)?;
         self.mode = Mode::Leads(Leading {
-            isr,
-            version: made.version,
+            pending: Some(isr),
             ..leading
         });
-        Ok(made)
+        Ok(MessageBody::Proposal(Proposal {
+            from: self.number,
+            known: leading.known(self.number),
+            isr,
+        }))
+    }
+
+    /// Learns what the controller has decided: the leader knows the decided set and version from then on, and nothing is
+    /// pending any more, whether or not its proposal was followed. F15 where the node doesn't lead, F22 where the decided
+    /// record has another leader epoch than the node, F29 where it isn't newer than the record that the leader knows: each
+    /// leaves all as it was. O(1), and no memory (KIP-497; Kafka protocol guide, 'AlterPartition').
+    pub fn learn(&mut self, decision: &Decision) -> Result<Learned, Refusal>
+        ensures event { Does self.old self.new (Receive (Decides (decision_of decision.now)))
+            (learned_reply result) }
+        ensures refused { IsRefusedOnlyBy
+            (unless_leads self.old.state.mode (learn_cause (decision_of decision.now))) result }
+        ensures spared { result ≢ Err Memory }
+        ensures same { OnErr result (self.new ≡ self.old) }
+        ensures node { IsSameNode self.old self.new }
+    {
+        let Mode::Leads(leading) = self.mode else {
+            return Err(Refusal::NotLeader);
+        };
+        let LeaderAndIsr { isr, version, .. } = decision.decided;
+        if !decision.decided.has_epoch(Some(leading.epoch)) {
+            return Err(Refusal::StaleRecord);
+        }
+        if version <= leading.version {
+            return Err(Refusal::StaleAnswer);
+        }
+        self.mode = Mode::Leads(Leading {
+            isr,
+            version,
+            pending: None,
+            ..leading
+        });
+        Ok(Learned { isr, version })
     }
 }

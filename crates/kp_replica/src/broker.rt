@@ -4,9 +4,8 @@ use crate::act::{Act, Answer, Effect, PlainAct};
 use crate::kept::KeptNode;
 use crate::replica::Replica;
 use kp_batch::Handed;
-use kp_control::LeaderAndIsr;
 use kp_log::PartitionLog;
-use kp_model::MessageBody;
+use kp_model::{LeaderAndIsr, MessageBody};
 use kp_types::{Limits, NodeId, Offset, Refusal};
 use std::alloc::Global;
 
@@ -21,13 +20,12 @@ impl Broker {
     ghost use Rattle.std.specs.Prelude.{◌≡◌, ◌≢◌, ◌≤◌, IfOk, Result};
     ghost use Rattle.kp_types.specs.declared.refusal.Refusal.{Refusal};
     ghost use Rattle.kp_types.specs.declared.refusal.Refusal.TheVariants.{Memory};
-    ghost use Rattle.kp_replica.specs.declared.act.PlainAct.TheVariants.{Ask};
     ghost use Rattle.kp_batch.specs.Batch.{Body};
     ghost use Rattle.kp_model.specs.Event.{Act as ModelAct, Produce, Receive};
     ghost use Rattle.kp_model.specs.Letter.{letter, letter_of};
     ghost use Rattle.kp_model.specs.Log.{IsBoundary};
     ghost use Rattle.kp_model.specs.World.{LeaderAndIsr as ModelRecord, Message, fresh};
-    ghost use Rattle.kp_control.specs.Set.{record_of};
+    ghost use Rattle.kp_model.specs.Set.{record_of};
     ghost use Rattle.kp_replica.specs.Acts.{Acts, Fits, FitsPlain, IsAct, IsAppended, Refuses, TakesNoMemory, plain_act};
     ghost use Rattle.kp_replica.specs.Broker.{node_at};
     ghost use Rattle.kp_replica.specs.Replies.{IsOffer};
@@ -98,14 +96,12 @@ impl Broker {
     ) -> Result<Effect, Refusal>
         ensures acts { Acts (record_of controller.now) (node_at self.old) (node_at self.new)
             (plain_act act) result }
-        ensures spared { act ≡ Ask → result ≢ Err Memory }
+        ensures spared { TakesNoMemory (node_at self.old).state (plain_act act) → result ≢ Err Memory }
         ensures fits { IfOk result (FitsPlain act (node_at self.new)) }
     {
         let answered = match act {
             PlainAct::Ask => return self.ask().map(Effect::Sends),
-            PlainAct::Alter { change } => return self
-                .alter(change, controller)
-                .map(Effect::Changes),
+            PlainAct::Alter { change } => return self.alter(change).map(Effect::Sends),
             PlainAct::Adopt => self.adopt(controller).map(Answer::Adopted),
             PlainAct::Mark { marker } => self.mark(alloc, &marker).map(Answer::Appended),
             PlainAct::Raise => self.raise().map(Answer::Watermark),
@@ -119,9 +115,8 @@ impl Broker {
         answered.map(Effect::Answers)
     }
 
-    /// The node does this, under this record of the controller, which none but [`PlainAct::Adopt`] and
-    /// [`PlainAct::Alter`] look at. F28 where the node is down, but for its restart; for what else is refused, and for the
-    /// cost, see the call of [`Replica`] of that name.
+    /// The node does this, under this record of the controller, at which [`PlainAct::Adopt`] alone looks. F28 where the node is
+    /// down, but for its restart; for what else is refused, and for the cost, see the call of [`Replica`] of that name.
     pub fn act(
         &mut self,
         alloc: Global,
@@ -141,8 +136,8 @@ impl Broker {
     }
 
     /// The message comes to the node, under this record of the controller, at which a diverging answer alone looks. F28 where
-    /// the node is down; for what else is refused, and for the cost, see `serve_fetch` and `take_fetch` of [`Replica`]. Where
-    /// memory is refused in a take (F33) the node is down.
+    /// the node is down; for what else is refused, and for the cost, see `serve_fetch`, `take_fetch` and `learn` of [`Replica`].
+    /// Where memory is refused in a take (F33) the node is down. A proposal is for the controller: F29, and it costs O(1).
     pub fn receive(
         &mut self,
         alloc: Global,
@@ -164,6 +159,14 @@ impl Broker {
             MessageBody::FetchAnswer(answer) => {
                 let followed = self.take_fetch(controller, answer)?;
                 Ok(Effect::Answers(followed.answer()))
+            }
+            MessageBody::Proposal(_) => {
+                self.up()?;
+                Err(Refusal::StaleAnswer)
+            }
+            MessageBody::Decision(decision) => {
+                let learned = self.learn(decision)?;
+                Ok(Effect::Answers(Answer::Learned(learned)))
             }
         }
     }

@@ -3,7 +3,7 @@
 ghost use Rattle.std.specs.Prelude.{◌≡◌};
 
 use kp_log::{Kept, PartitionLog};
-use kp_types::{NodeId, Offset, Refusal};
+use kp_types::{Epoch, NodeId, Offset, Refusal};
 use std::marker::Model;
 
 /// A node that is down, with its number: what it keeps until it is restarted. Dropped, it is gone.
@@ -13,6 +13,7 @@ pub struct KeptNode {
     pub(crate) kept: Kept,
     pub(crate) watermark: Offset,
     pub(crate) life: u64,
+    pub(crate) kept_epoch: Option<Epoch>,
 }
 
 impl Model for KeptNode {
@@ -34,9 +35,16 @@ impl KeptNode {
     ghost use Rattle.kp_types.specs.declared.refusal.Refusal.TheVariants.{Down as IsDown};
 
     /// A node that is down, from a log that was closed elsewhere, as where it was read back from files: the log, settled up to
-    /// the high watermark at which the node went down and closed from its checkpoint, and how often the node was restarted
-    /// before. An answer of an earlier life is refused only where this number is that of the node's last life. O(1).
-    pub fn of(number: NodeId, kept: Kept, watermark: Offset, life: u64) -> KeptNode
+    /// the high watermark at which the node went down and closed from its checkpoint, how often the node was restarted before,
+    /// and the leader epoch that it last took up, none where it has taken up none. An answer of an earlier life is refused only
+    /// where the life is that of the node's last one, and a record that the node has led under only where the epoch is. O(1).
+    pub fn of(
+        number: NodeId,
+        kept: Kept,
+        watermark: Offset,
+        life: u64,
+        kept_epoch: Option<Epoch>,
+    ) -> KeptNode
         requires boundary { IsBoundary kept.of.log watermark }
         requires settled { kept.of.settled ≡ watermark }
         requires passed { kept.from ≤ watermark }
@@ -48,6 +56,7 @@ impl KeptNode {
             watermark = watermark;
             checkpoint = kept.from;
             life = life;
+            kept = kept_epoch;
             mode = ModelDown;
           };
         } }
@@ -57,6 +66,7 @@ impl KeptNode {
             kept,
             watermark,
             life,
+            kept_epoch,
         }
     }
 
@@ -104,5 +114,12 @@ impl KeptNode {
         ensures { result ≡ self.now.state.life }
     {
         self.life
+    }
+
+    /// The leader epoch that the node last took up, in whatever life: none where it has taken up none. O(1).
+    pub fn kept_epoch(&self) -> Option<Epoch>
+        ensures { result ≡ self.now.state.kept }
+    {
+        self.kept_epoch
     }
 }

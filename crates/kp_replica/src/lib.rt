@@ -1,5 +1,5 @@
 //! One broker node: its log, its high watermark and its part in the replication. It stands on the log,
-//! on the controller's record, on what other nodes reported and on the model's definitions. Its contract says of each call
+//! on what other nodes reported and on the model's record, messages and definitions. Its contract says of each call
 //! which event of the definitions it is: the answer, the state before and the state after.
 #![tactic(auto)]
 
@@ -24,7 +24,7 @@ mod up_or_down;
 
 pub use act::{Act, Answer, Effect, PlainAct};
 pub use adopting::Role;
-pub use altering::IsrChange;
+pub use altering::{IsrChange, Learned};
 pub use broker::Broker;
 pub use cutting::CutBack;
 pub use kept::KeptNode;

@@ -22,8 +22,8 @@ impl Replica {
         self.watermark
     }
 
-    /// Stops the node: its log, its high watermark as it was, its checkpoint and its life stay, and its undo entries are spent.
-    /// O(entries), and no memory (own rule).
+    /// Stops the node: its log, its high watermark as it was, its checkpoint, its life and the leader epoch that it last took up
+    /// stay, and its undo entries are spent. O(entries), and no memory (own rule).
     pub fn stop(self) -> KeptNode
         ensures kept { result ≡ record self { state = record self.state { mode = Down } } }
         ensures event { Does self result Stop Stopped }
@@ -31,10 +31,10 @@ impl Replica {
         self.close()
     }
 
-    /// Starts the node that is down again, in its next life: idle, with the log that it kept and the high watermark at its
-    /// checkpoint, up to which the log is settled, so that what lies above it may be taken back. Its tables are built anew. F24
-    /// where its life is at its greatest, 2^64 - 1, and F33: either gives the node back as it was. The cost is that of
-    /// `Kept::reopen` (own rule).
+    /// Starts the node that is down again, in its next life: idle, with the log and the leader epoch that it kept and the high
+    /// watermark at its checkpoint, up to which the log is settled, so that what lies above it may be taken back. Its tables are
+    /// built anew. F24 where its life is at its greatest, 2^64 - 1, and F33: either gives the node back as it was. The cost is that
+    /// of `Kept::reopen` (own rule).
     pub fn restart(alloc: Global, node: KeptNode) -> Result<Replica, (KeptNode, Refusal)>
         ensures restarted { IfOk result (λ replica. Does node replica Restart (Restarted
             replica.state.life (end_of replica.state.log) replica.state.watermark)) }
@@ -49,6 +49,7 @@ impl Replica {
             kept,
             watermark,
             life,
+            kept_epoch,
         } = node;
         let checkpoint = kept.start_offset();
         match kept.reopen(alloc) {
@@ -59,6 +60,7 @@ impl Replica {
                 watermark: checkpoint,
                 checkpoint,
                 life: life + 1,
+                kept_epoch,
                 mode: Mode::Idle,
             }),
             Err((kept, refusal)) => {
@@ -67,6 +69,7 @@ impl Replica {
                     kept,
                     watermark,
                     life,
+                    kept_epoch,
                 };
                 Err((node, refusal))
             }

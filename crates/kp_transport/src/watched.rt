@@ -9,10 +9,14 @@ use std::sync::Arc;
 use std::sync::atomic::{AtomicU64, Ordering};
 use std::thread;
 
-/// How many parcels are on their way to each place of a node. Nothing is promised of a count but that it is one. (Own rule.)
+// A place for each node, and the controller's.
+const PLACES: usize = NODE_PLACES + 1;
+
+/// How many parcels are on their way to each place, a node's or the controller's. Nothing is promised of a count but that it is one.
+/// (Own rule.)
 #[derive(Drop)]
 pub struct Waiting {
-    counts: [AtomicU64; NODE_PLACES],
+    counts: [AtomicU64; PLACES],
 }
 
 impl Waiting {
@@ -20,6 +24,7 @@ impl Waiting {
     pub fn new() -> Waiting {
         Waiting {
             counts: [
+                AtomicU64::new(0),
                 AtomicU64::new(0),
                 AtomicU64::new(0),
                 AtomicU64::new(0),

@@ -38,6 +38,7 @@ refusal_text refusals.ControlFromClient = codes "F30 ControlFromClient"
 refusal_text (refusals.BadScript line) = codes "F31 BadScript " ++ decimal line
 refusal_text refusals.Device = codes "F32 Device"
 refusal_text refusals.Memory = codes "F33 Memory"
+refusal_text refusals.ChangePending = codes "F34 ChangePending"
 
 -- the place or the line that a refusal has
 abbrev pub place_of : Refusal → Option ℕ

@@ -78,6 +78,8 @@ pub enum Refusal {
     Device,
     /// A growth was refused.
     Memory,
+    /// Another in-sync change of this leader waits for the controller's answer.
+    ChangePending,
 }
 
 impl Refusal {
@@ -119,6 +121,7 @@ impl Refusal {
             Refusal::BadScript(_) => "F31 BadScript",
             Refusal::Device => "F32 Device",
             Refusal::Memory => "F33 Memory",
+            Refusal::ChangePending => "F34 ChangePending",
         }
     }
 

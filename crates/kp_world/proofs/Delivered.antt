@@ -1,30 +1,31 @@
 -- What a message that comes leads on to.
-use Rattle.std.proofs.Common.{◌≡◌, ◌≢◌, ℕ, ◌<◌, ◌≤◌, List, [], ◌∷◌, length, map, set, get_or, None, Some, Option, Result, Err, refl, sym, ap, ◌∙◌, subst, arith, inl, inr}
-use Rattle.std.specs.Prelude.{slice_get, is_some}
+use Rattle.std.proofs.Common.{◌≡◌, ◌≢◌, ℕ, ◌<◌, ◌≤◌, List, [], ◌∷◌, ◌++◌, length, map, get_or, None, Some, Option, Result, Ok, Err, refl, sym, ap, ◌∙◌, subst, arith, inl, inr}
+use Rattle.std.specs.Prelude.{slice_get, IfOk, OnOk, OnErr}
+use Rattle.kp_types.specs.Causes.{IsRefusedOnlyBy}
+use Rattle.kp_types.proofs.Causes.{only_cause, only_none}
 use Rattle.std.specs.Option.{option_map}
-use Rattle.std.proofs.lemmas.List.{get_or-map, length-map, map-set}
+use Rattle.std.proofs.lemmas.List.{length-map, map-append}
 use Rattle.std.proofs.lemmas.Option.{slice_get-map}
 use Rattle.kp_types.specs.declared.limits.Limits.{Limits}
 use Rattle.kp_types.specs.declared.refusal.Refusal.{Refusal}
 use Rattle.kp_types.specs.declared.refusal.Refusal.TheVariants as refusals
-use Rattle.kp_model.specs.Log.{IsLog, IsKin}
-use Rattle.kp_model.specs.World.{LeaderAndIsr, Node, Answer as ModelAnswer, Message, Asks, Answers, IsSent, addressee, sender}
-use Rattle.kp_model.specs.Event.{Receive, Refused, Deliver, Reply}
-use Rattle.kp_model.specs.Laws.{MessagesGoToNodes, RunsKeepCount, RunsKeepLogs, RunsKeepKin, NoCutBelowTheWatermark, AreTwoNodes, StandsIn, place_of}
-use Rattle.kp_model.specs.Letter.{Letter, goes_to, letter_of}
+use Rattle.kp_model.specs.World.{LeaderAndIsr, Node, Proposal, Message, Asks, Answers, Proposes, Decides, World, IsSent, addressee, sender, with_message, with_record}
+use Rattle.kp_model.specs.Event.{Receive, Refused, Deliver, Outcome, SentDecision}
+use Rattle.kp_model.specs.Laws.{MessagesGoToNodes, RunsKeepCount, RunsKeepLogs, RunsKeepKin, NoCutBelowTheWatermark, AreTwoParties, IsParty, StandsIn, place_of}
+use Rattle.kp_model.specs.Letter.{Letter, Proposing, Deciding, goes_to, letter_of}
 use Rattle.kp_model.specs.Local.{cut_cause}
 use Rattle.kp_model.specs.Run.{Run, last}
-use Rattle.kp_model.specs.Step.{Delivers, NodeStep, told}
+use Rattle.kp_model.specs.Step.{Delivers, DecidesBy, NodeStep, decide_cause, decided_on, decision, told}
 use Rattle.kp_model.proofs.RunLaws.{last_is_of}
-use Rattle.kp_replica.specs.NumberedNode.{NumberedNode, DoesUnder}
+use Rattle.kp_replica.specs.NumberedNode.{NumberedNode}
 use Rattle.kp_world.specs.declared.event.EventAnswer.{EventAnswer}
 use Rattle.kp_replica.specs.Acts.{Acts, IsOfRun, TakesNoMemory}
 use Rattle.kp_replica.specs.declared.act.Effect.{Effect}
-use Rattle.kp_world.specs.Answers.{IsTold, outcome_of}
-use Rattle.kp_world.specs.Plays.{LeadOn}
+use Rattle.kp_world.specs.Answers.{IsTold, TellsOf, outcome_of}
+use Rattle.kp_world.specs.Plays.{LeadOn, SparesAt}
 use Rattle.kp_world.specs.Shown.{IsNode, Stage, next}
-use Rattle.kp_world.proofs.Moved.{never_lacks, stepped}
-use Rattle.kp_world.proofs.Playing.{reached_more}
+use Rattle.kp_world.proofs.Moved.{never_lacks, same_refusal, stepped}
+use Rattle.kp_world.proofs.Playing.{only_full, reached_more}
 
 -- the message of this number, where its letter stands in the pool
 record Sent (messages : List Message) (number : ℕ) (l : Letter) : Type 0 where
@@ -51,6 +52,21 @@ none_there messages letters number are is =
 goes : (m : Message) → goes_to (letter_of m) ≡ addressee m
 goes (Asks r) = refl
 goes (Answers a) = refl
+goes (Proposes p) = refl
+goes (Decides d) = refl
+
+-- a message that goes to a node comes to it
+pub comes_to : (w : World) (m : Message) (n : ℕ) (outcome : Outcome) (new : World) → addressee m ≡ Some n → NodeStep w n (Receive m) outcome new → Delivers w (Some m) outcome new
+comes_to w (Asks r) n outcome new e step = let same : n ≡ r.to = cc in subst (λ (k : ℕ). NodeStep w k (Receive (Asks r)) outcome new) same step
+comes_to w (Answers a) n outcome new e step = let same : n ≡ a.request.from = cc in subst (λ (k : ℕ). NodeStep w k (Receive (Answers a)) outcome new) same step
+comes_to w (Proposes p) n outcome new e step = absurd cc
+comes_to w (Decides d) n outcome new e step = let same : n ≡ d.proposal.from = cc in subst (λ (k : ℕ). NodeStep w k (Receive (Decides d)) outcome new) same step
+
+is_proposal : (p : Proposal) (m : Message) → letter_of m ≡ Proposing p → m ≡ Proposes p
+is_proposal p (Asks q) e = absurd cc
+is_proposal p (Answers a) e = absurd cc
+is_proposal p (Proposes q) e = let same : q ≡ p = cc in ap Proposes same
+is_proposal p (Decides d) e = absurd cc
 
 -- what the laws of runs say of a message
 of_run : RunsKeepLogs → RunsKeepKin → NoCutBelowTheWatermark → (count : ℕ) (r : Run count) (number : ℕ) (m : Message) (c : LeaderAndIsr) (x : NumberedNode) → slice_get (last r).messages number ≡ Some m
@@ -77,6 +93,8 @@ of_run keep_logs keep_kin no_cut count r number (Answers a) c x there record_is 
           (subst (λ (k : LeaderAndIsr). cut_cause k x.number (w.nodes x.number) a ≡ None) (sym record_is)
           (subst (λ (y : Node). cut_cause c x.number y a ≡ None) (sym state) free))),
     )
+of_run keep_logs keep_kin no_cut count r number (Proposes p) c x there record_is state = tt
+of_run keep_logs keep_kin no_cut count r number (Decides d) c x there record_is state = tt
 
 same_message : (m n : Message) → Some m ≡ Some n → m ≡ n
 same_message m n e = cc
@@ -86,7 +104,7 @@ never_both m e = absurd cc
 
 -- the message came to the node to which it goes
 pub delivered : RunsKeepLogs → RunsKeepKin → NoCutBelowTheWatermark → (limits : Limits) (number : ℕ) (l : Letter) (i : ℕ) (stage : Stage) (x m : NumberedNode) (outcome : Result Effect Refusal)
-    (telling : Result EventAnswer Refusal) → slice_get stage.letters number ≡ Some l → i ≡ goes_to l → i < length stage.nodes → x ≡ get_or stage.nodes i x → IsTold (length stage.letters) outcome telling
+    (telling : Result EventAnswer Refusal) → slice_get stage.letters number ≡ Some l → goes_to l ≡ Some i → i < length stage.nodes → x ≡ get_or stage.nodes i x → IsTold (length stage.letters) outcome telling
     → ((message : Message) → letter_of message ≡ l → TakesNoMemory x.state (Receive message) → outcome ≢ Err refusals.Memory)
     → ((message : Message) → letter_of message ≡ l → Acts stage.controller x m (Receive message) outcome) → LeadOn limits stage (Deliver number ∷ []) (telling ∷ []) (next stage i m outcome)
 delivered keep_logs keep_kin no_cut limits number l i stage x m outcome telling is goes_there inside there tells spared did count before earlier p =
@@ -94,19 +112,19 @@ delivered keep_logs keep_kin no_cut limits number l i stage x m outcome telling 
     let c = stage.controller in
     let sent = sent_there w.messages stage.letters number l p.shown.letters_are is in
     let message = sent.message in
-    let here : i ≡ addressee message = goes_there ∙ ap goes_to (sym sent.letter_is) ∙ goes message in
+    let here : addressee message ≡ Some i = sym (goes message) ∙ ap goes_to sent.letter_is ∙ goes_there in
     let old : IsNode limits i x (w.nodes i) = subst (λ (y : NumberedNode). IsNode limits i y (w.nodes i)) (sym there) (p.shown.nodes_are i x inside) in
     let state : w.nodes x.number ≡ x.state = ap w.nodes old.number_is ∙ old.state in
     let s = stepped limits i stage x m (Receive message) outcome telling w inside there p.shown (number, sent.there) tells
     (λ number_is. did message sent.letter_is c (λ looks. refl) (of_run keep_logs keep_kin no_cut count p.run number message c x sent.there p.shown.controller_is state)) in
     reached_more count limits before earlier stage _ (Deliver number) telling p s.after
-    (subst (λ (o : Option Message). Delivers w o (outcome_of telling) s.after) (sym sent.there) (subst (λ (k : ℕ). NodeStep w k (Receive message) (outcome_of telling) s.after) here s.step)) tt
+    (subst (λ (o : Option Message). Delivers w o (outcome_of telling) s.after) (sym sent.there) (comes_to w message i (outcome_of telling) s.after here s.step)) tt
     (λ (k, is_there, takes).
     let same : k ≡ message = same_message k message (sym is_there ∙ sent.there) in
-    let at : addressee k ≡ i = ap addressee same ∙ sym here in
+    let at : addressee k ≡ Some i = ap addressee same ∙ here in
     never_lacks (length stage.letters) outcome telling tells (spared message sent.letter_is
     (subst (λ (y : Message). TakesNoMemory x.state (Receive y)) same
-    (subst (λ (y : Node). TakesNoMemory y (Receive k)) (ap w.nodes at ∙ old.state) takes)))) s.shown
+    (subst (λ (y : Node). TakesNoMemory y (Receive k)) old.state (subst (SparesAt w k) at takes))))) s.shown
 
 -- no message has this number
 pub undelivered : (limits : Limits) (number : ℕ) (stage : Stage) → slice_get stage.letters number ≡ None
@@ -118,12 +136,86 @@ undelivered limits number stage none count before earlier p =
     (λ (m, there, takes). never_both m (sym there ∙ none_there w.messages stage.letters number p.shown.letters_are none)) p.shown
 
 -- no message of a run goes nowhere
-pub goes_nowhere : MessagesGoToNodes → RunsKeepCount → (limits : Limits) (number : ℕ) (l : Letter) (stage new : Stage) (outcome : Result EventAnswer Refusal) → slice_get stage.letters number ≡ Some l
-    → length stage.nodes ≤ goes_to l → LeadOn limits stage (Deliver number ∷ []) (outcome ∷ []) new
-goes_nowhere go keep limits number l stage new outcome is beyond count before earlier p =
+pub goes_nowhere : MessagesGoToNodes → RunsKeepCount → (limits : Limits) (number n : ℕ) (l : Letter) (stage new : Stage) (outcome : Result EventAnswer Refusal) → slice_get stage.letters number ≡ Some l
+    → goes_to l ≡ Some n → length stage.nodes ≤ n → LeadOn limits stage (Deliver number ∷ []) (outcome ∷ []) new
+goes_nowhere go keep limits number n l stage new outcome is there beyond count before earlier p =
     let w = last p.run in
     let is_of = last_is_of count p.run in
     let sent = sent_there w.messages stage.letters number l p.shown.letters_are is in
-    let two : AreTwoNodes count (sender sent.message) (addressee sent.message) = go count p.run w is_of sent.message (number, sent.there) in
-    let there : goes_to l ≡ addressee sent.message = ap goes_to (sym sent.letter_is) ∙ goes sent.message in
-    absurd (omega (arith, two.1, there, beyond, p.shown.count, keep count p.run w is_of))
+    let two : AreTwoParties count (sender sent.message) (addressee sent.message) = go count p.run w is_of sent.message (number, sent.there) in
+    let party : IsParty count (Some n) = subst (IsParty count) (sym (goes sent.message) ∙ ap goes_to sent.letter_is ∙ there) two.1 in
+    absurd (omega (arith, party, beyond, p.shown.count, keep count p.run w is_of))
+
+-- ---- a proposal comes to the controller
+
+-- what stands after its decision
+abbrev pub decided_stage : Stage → Proposal → Stage
+decided_stage stage p =
+    record {
+      controller = decided_on stage.controller p;
+      nodes = stage.nodes;
+      letters = stage.letters ++ Deciding (decision stage.controller p) ∷ [];
+    }
+
+pub decides : (limits : Limits) (number : ℕ) (p : Proposal) (stage : Stage) (answer : EventAnswer) → slice_get stage.letters number ≡ Some (Proposing p) → decide_cause stage.controller p ≡ None
+    → TellsOf (length stage.letters) (Deciding (decision stage.controller p)) answer → LeadOn limits stage (Deliver number ∷ []) (Ok answer ∷ []) (decided_stage stage p)
+decides limits number p stage answer is free (said, tells, says) count before earlier r =
+    let w = last r.run in
+    let c = stage.controller in
+    let shown = r.shown in
+    let sent = sent_there w.messages stage.letters number (Proposing p) shown.letters_are is in
+    let there : slice_get w.messages number ≡ Some (Proposes p) = sent.there ∙ ap Some (is_proposal p sent.message sent.letter_is) in
+    let new : World = with_message (with_record w (decided_on w.controller p)) (Decides (decision w.controller p)) in
+    let unrefused : decide_cause w.controller p ≡ None = ap (λ (k : LeaderAndIsr). decide_cause k p) shown.controller_is ∙ free in
+    let many : length stage.letters ≡ length w.messages = ap length (sym shown.letters_are) ∙ length-map w.messages letter_of in
+    let outcome : outcome_of (Ok answer) ≡ record { reply = SentDecision (decided_on w.controller p); number = Some (length w.messages) } =
+    ap (λ (a : EventAnswer). let o : Result EventAnswer Refusal = Ok a in outcome_of o) tells
+    ∙ (λ i. record { reply = (says ∙ ap (λ (k : LeaderAndIsr). SentDecision (decided_on k p)) (sym shown.controller_is)) i; number = Some (many i) }) in
+    reached_more count limits before earlier stage (decided_stage stage p) (Deliver number) (Ok answer) r new
+    (subst (λ (o : Option Message). Delivers w o (outcome_of (Ok answer)) new) (sym there)
+    (subst (λ (o : Option Refusal). DecidesBy o w p (outcome_of (Ok answer)) new) (sym unrefused) (outcome, refl))) tt
+    (λ spared lacks. told_never p w (sym (ap (λ (o : Outcome). o.reply) outcome) ∙ lacks))
+    (record {
+      controller_is = ap (λ (k : LeaderAndIsr). decided_on k p) shown.controller_is;
+      count = shown.count;
+      nodes_are = shown.nodes_are;
+      letters_are = map-append letter_of w.messages (Decides (decision w.controller p) ∷ [])
+          ∙ (λ i. shown.letters_are i ++ Deciding (decision (shown.controller_is i) p) ∷ []);
+    })
+  where
+    told_never : (p : Proposal) (w : World) → SentDecision (decided_on w.controller p) ≡ Refused refusals.Memory → ⊥
+    told_never p w e = cc
+
+-- or the controller refused it
+pub decides_not : (limits : Limits) (number : ℕ) (p : Proposal) (stage : Stage) (refusal : Refusal) → slice_get stage.letters number ≡ Some (Proposing p)
+    → decide_cause stage.controller p ≡ Some refusal → LeadOn limits stage (Deliver number ∷ []) (Err refusal ∷ []) stage
+decides_not limits number p stage refusal is held count before earlier r =
+    let w = last r.run in
+    let shown = r.shown in
+    let sent = sent_there w.messages stage.letters number (Proposing p) shown.letters_are is in
+    let there : slice_get w.messages number ≡ Some (Proposes p) = sent.there ∙ ap Some (is_proposal p sent.message sent.letter_is) in
+    let refused : decide_cause w.controller p ≡ Some refusal = ap (λ (k : LeaderAndIsr). decide_cause k p) shown.controller_is ∙ held in
+    reached_more count limits before earlier stage stage (Deliver number) (Err refusal) r w
+    (subst (λ (o : Option Message). Delivers w o (told (Refused refusal)) w) (sym there)
+    (subst (λ (o : Option Refusal). DecidesBy o w p (told (Refused refusal)) w) (sym refused) (refl, refl))) tt
+    (λ spared lacks. full_apart (sym (only_full stage.controller p refusal held) ∙ same_refusal refusal refusals.Memory lacks)) shown
+  where
+    full_apart : refusals.RecordFull ≡ refusals.Memory → ⊥
+    full_apart e = cc
+
+pub on_err : {A P Q : Type 0} → (P → Q) → (r : Result A Refusal) → OnErr r P → OnErr r Q
+on_err f (Ok x) h = h
+on_err f (Err e) h = f h
+
+-- what the controller did with it
+pub decided_so : (limits : Limits) (number : ℕ) (p : Proposal) (stage : Stage) (made : LeaderAndIsr) (after : List Letter) (result : Result EventAnswer Refusal)
+    → slice_get stage.letters number ≡ Some (Proposing p) → IsRefusedOnlyBy (decide_cause stage.controller p) result
+    → IfOk result (TellsOf (length stage.letters) (Deciding (decision stage.controller p))) → OnOk result (made ≡ decided_on stage.controller p)
+    → OnOk result (after ≡ stage.letters ++ Deciding (decision stage.controller p) ∷ []) → OnErr result (made ≡ stage.controller) → OnErr result (after ≡ stage.letters)
+    → LeadOn limits stage (Deliver number ∷ []) (result ∷ []) (record { controller = made; nodes = stage.nodes; letters = after })
+decided_so limits number p stage made after (Ok answer) is refused tells changed sent stays same =
+    subst (λ (s : Stage). LeadOn limits stage (Deliver number ∷ []) (Ok answer ∷ []) s) (λ i. record { controller = sym changed i; nodes = stage.nodes; letters = sym sent i })
+    (decides limits number p stage answer is (only_none EventAnswer (decide_cause stage.controller p) answer refused) tells)
+decided_so limits number p stage made after (Err refusal) is refused tells changed sent stays same =
+    subst (λ (s : Stage). LeadOn limits stage (Deliver number ∷ []) (Err refusal ∷ []) s) (λ i. record { controller = sym stays i; nodes = stage.nodes; letters = sym same i })
+    (decides_not limits number p stage refusal is (only_cause EventAnswer (decide_cause stage.controller p) refusal refused))

@@ -1,6 +1,6 @@
 -- Each run goes on: whatever comes next has an answer.
 use Rattle.std.proofs.Common.{◌≡◌, ◌≢◌, ℕ, Bool, true, false, cond, List, [], ◌∷◌, ◌++◌, Option, Some, None, refl, sym, ap, ◌∙◌, subst, inl, inr, append_assoc, append-nil, arith}
-use Rattle.std.specs.Prelude.{map, not, slice_get, IsFalse, IsTrue, Ok, Err}
+use Rattle.std.specs.Prelude.{bytes_eq, length, map, not, slice_get, IsFalse, IsTrue, Ok, Err}
 use Rattle.std.proofs.lemmas.Bool.{false≢true}
 use Rattle.std.specs.List.{AllByRecursion}
 use Rattle.std.specs.Option.{option_map_or}
@@ -12,23 +12,24 @@ use Rattle.kp_batch.specs.Batch.{Body, IsBody}
 use Rattle.kp_model.specs.Admission.{Admission, Append, Duplicate, Refused as NotAdmitted, admit}
 use Rattle.kp_model.specs.Log.{Batch, IsLog, IsKin, end_of}
 use Rattle.kp_model.specs.Transactions.{stable}
-use Rattle.kp_model.specs.World.{Leader, LeaderAndIsr, Leading, Mode, Down, Idle, Leads, Follows, Answer, Request, Message, Asks, Answers, Node, World, addressee, with_record}
-use Rattle.kp_model.specs.Event.{Act, Receive, Event, Outcome, Refused, Changed, Shown}
+use Rattle.kp_model.specs.World.{Leader, LeaderAndIsr, Leading, Mode, Down, Idle, Leads, Follows, Answer, Request, Proposal, Decision, Message, Asks, Answers, Proposes, Decides, Node, World, addressee, with_message, with_record}
+use Rattle.kp_model.specs.Event.{Act, Receive, Event, Outcome, Refused, Changed, SentDecision, Shown}
 use Rattle.kp_model.specs.Event as model
 use Rattle.kp_model.specs.Calls.{DoesSending, answer_letter, answering_at, cut, cut_by, sent_reply, served, taken_some}
-use Rattle.kp_model.specs.Letter.{Answering as LetterAnswering, Batches, Diverging, Letter, letter_of}
-use Rattle.kp_model.specs.Laws.{CutIsTheStep, ServeIsTheStep, TakeIsTheStep, StandsIn, MessagesGoToNodes, NoDeliveryIsRefusedOddly, RunsAreSafe, RunsKeepCount, RunsKeepKin, RunsKeepLogs}
-use Rattle.kp_model.specs.Local.{Adopts, Alters, Appends, Effect, Local, LocalBy, Produces, Raises, WhereFollows, WhereLeads, admission_cause, altered, ask_cause, ask_reply, asked, becomes, cause, cut_cause, elected, is_covered, is_down, piece, raised, sends, serve_cause, take_cause, unless_leads, under, with_member, without_member}
+use Rattle.kp_model.specs.Letter.{Answering as LetterAnswering, Batches, Diverging, FetchLetter, Fetching, asked_letter, answered_letter}
+use Rattle.kp_model.specs.Laws.{CutIsTheStep, ServeIsTheStep, TakeIsTheStep, StandsIn, MessagesGoToNodes, IsParty, NoDeliveryIsRefusedOddly, RunsAreSafe, RunsKeepCount, RunsKeepKin, RunsKeepLogs}
+use Rattle.kp_model.specs.Local.{Adopts, Appends, Effect, Learns, Local, LocalBy, Produces, Proposes-set, Raises, WhereFollows, WhereLeads, admission_cause, ask_cause, change_cause, join_cause, learn_cause, leave_cause, proposal, ask_reply, asked, becomes, cause, cut_cause, elected, is_covered, is_down, piece, raised, sends, serve_cause, take_cause, unless_leads, under, with_member, without_member}
 use Rattle.kp_model.specs.Run.{Moment, Run, extend, last}
 use Rattle.kp_model.proofs.Beginnings.{Begins-nil}
 use Rattle.kp_model.proofs.RunLaws.{last_is_of}
-use Rattle.kp_model.proofs.Steps.{was_refused}
-use Rattle.kp_model.specs.Step.{Delivers, ElectsBy, IsGiven, NodeStep, Step, answered, elect_cause, moved, told}
+use Rattle.kp_model.proofs.Steps.{happened, was_refused}
+use Rattle.kp_model.specs.Step.{DecidesBy, Delivers, ElectsBy, NodeStep, Step, answered, decide_cause, decided_on, decision, elect_cause, moved, told}
 use Rattle.kp_replica.specs.Acts.{IsAsked, TakesNoMemory}
 use Rattle.kp_world.specs.Laws.{IsLawful, MayCome, PlaysGoOn}
-use Rattle.kp_world.specs.Plays.{NoneLacks, SparesMemory, events_of, outcomes_of}
+use Rattle.kp_world.specs.Plays.{NoneLacks, SparesAt, SparesMemory, events_of, outcomes_of}
 use Rattle.kp_world.proofs.Moved.{given, same_refusal}
-use Rattle.kp_world.proofs.Playing.{all_fit}
+use Rattle.kp_world.proofs.Playing.{all_fit, only_full}
+use Rattle.kp_world.proofs.Delivered.{comes_to}
 
 -- an answer to an event, and the world after it
 record Answering (w : World) (e : Event) : Type 0 where
@@ -56,15 +57,25 @@ raises c n x Idle none = absurd cc
 raises c n x (Leads l) none = (becomes c (record x { watermark = raised n x l }) (model.MarkAt (raised n x l)), refl)
 raises c n x (Follows f) none = absurd cc
 
--- and changes the in-sync replicas
-alters : (c : LeaderAndIsr) (x : Node) (isr : List ℕ → List ℕ) (mode : Mode) (why : Leading → Option Refusal) → unless_leads mode why ≡ None
-    → (e : Effect) × WhereLeads mode (λ l. Alters c x (isr l.isr) l e)
-alters c x isr Down why none = absurd cc
-alters c x isr Idle why none = absurd cc
-alters c x isr (Leads l) why none =
-    let r = altered c (isr l.isr) in
-    (record { node = record x { mode = Leads (record l { isr = isr l.isr; version = r.version }) }; controller = r; sent = []; reply = Changed r }, refl)
-alters c x isr (Follows f) why none = absurd cc
+-- and asks for a change of the in-sync replicas
+proposes : (c : LeaderAndIsr) (n : ℕ) (x : Node) (isr : List ℕ → List ℕ) (mode : Mode) (why : Leading → Option Refusal) → unless_leads mode why ≡ None
+    → (e : Effect) × WhereLeads mode (λ l. Proposes-set c n x (isr l.isr) l e) × (e.reply ≢ Refused refusals.Memory)
+proposes c n x isr Down why none = absurd cc
+proposes c n x isr Idle why none = absurd cc
+proposes c n x isr (Leads l) why none =
+    let set = isr l.isr in
+    (sends c (record x { mode = Leads (record l { pending = Some set }) }) (Proposes (proposal n l set)) (model.SentProposal set l.version), refl, λ e. cc)
+proposes c n x isr (Follows f) why none = absurd cc
+
+-- or learns what the controller has decided
+learns : (c : LeaderAndIsr) (x : Node) (d : Decision) (mode : Mode) → unless_leads mode (learn_cause d) ≡ None
+    → (e : Effect) × WhereLeads mode (λ l. Learns c x d l e) × (e.reply ≢ Refused refusals.Memory)
+learns c x d Down none = absurd cc
+learns c x d Idle none = absurd cc
+learns c x d (Leads l) none =
+    let r = d.decided in
+    (becomes c (record x { mode = Leads (record l { isr = r.isr; version = r.version; pending = None }) }) (model.Learned r.isr r.version), refl, λ e. cc)
+learns c x d (Follows f) none = absurd cc
 
 -- a record without a leader is no news
 no_news : (d : Bool) → first_of ((d, refusals.Down) ∷ (true, refusals.StaleRecord) ∷ []) ≡ None → ⊥
@@ -76,7 +87,7 @@ adopts : (c : LeaderAndIsr) (n : ℕ) (x : Node) (d : Bool) (f : Leader → Bool
 adopts c n x d f None none = absurd (no_news d none)
 adopts c n x d f (Some l) none =
     let role = under c l n x.log in
-    (becomes c (record x { mode = role.0 }) role.1, refl)
+    (becomes c (record x { kept = Some l.epoch; mode = role.0 }) role.1, refl)
 
 -- ---- what is done for what takes no memory
 
@@ -112,6 +123,49 @@ hears_spared false true stale e = cc
 hears_spared false false true e = cc
 hears_spared false false false e = cc
 
+-- memory isn't among the tests of a change, nor of a decision
+change_spared : (pending : Option (List ℕ)) (isr : List ℕ) (t : Bool) (r : Refusal) → r ≢ refusals.Memory → change_cause pending isr (first_of ((t, r) ∷ [])) ≢ Some refusals.Memory
+change_spared None isr true r other e = other (let same : r ≡ refusals.Memory = cc in same)
+change_spared None isr false r other e = cc
+change_spared (Some set) isr t r other e = by (bytes_eq set isr) e
+  where
+    by : (b : Bool) → cond b None (Some refusals.ChangePending) ≡ Some refusals.Memory → ⊥
+    by true e = cc
+    by false e = cc
+
+change_apart : refusals.NotCaughtUp ≢ refusals.Memory
+change_apart e = cc
+
+leave_apart : refusals.NotInSync ≢ refusals.Memory
+leave_apart e = cc
+
+join_spared : (x : Node) (m : ℕ) (mode : Mode) → unless_leads mode (join_cause x m) ≢ Some refusals.Memory
+join_spared x m Down e = cc
+join_spared x m Idle e = cc
+join_spared x m (Leads l) e = change_spared l.pending _ _ refusals.NotCaughtUp change_apart e
+join_spared x m (Follows f) e = cc
+
+leave_spared : (n m : ℕ) (mode : Mode) → unless_leads mode (leave_cause n m) ≢ Some refusals.Memory
+leave_spared n m Down e = cc
+leave_spared n m Idle e = cc
+leave_spared n m (Leads l) e = change_spared l.pending _ _ refusals.NotInSync leave_apart e
+leave_spared n m (Follows f) e = cc
+
+decision_spared : (other old : Bool) → first_of ((other, refusals.StaleRecord) ∷ (old, refusals.StaleAnswer) ∷ []) ≢ Some refusals.Memory
+decision_spared true old e = cc
+decision_spared false true e = cc
+decision_spared false false e = cc
+
+learn_spared : (d : Decision) (mode : Mode) → unless_leads mode (learn_cause d) ≢ Some refusals.Memory
+learn_spared d Down e = cc
+learn_spared d Idle e = cc
+learn_spared d (Leads l) e = decision_spared _ _ e
+learn_spared d (Follows f) e = cc
+
+proposal_spared : (down : Bool) → Some (cond down refusals.Down refusals.StaleAnswer) ≢ Some refusals.Memory
+proposal_spared true e = cc
+proposal_spared false e = cc
+
 -- no cause of it is want of memory
 cause_spared : (c : LeaderAndIsr) (n : ℕ) (x : Node) (act : Act) → TakesNoMemory x act → cause c n x act ≢ Some refusals.Memory
 cause_spared c n x model.Ask takes e = ask_spared x.mode e
@@ -121,11 +175,13 @@ cause_spared c n x (model.Produce (Err fault)) takes e = takes
 cause_spared c n x (model.Receive (Asks r)) takes e = serve_spared x.mode x.log r e
 cause_spared c n x (model.Receive (Answers a)) takes e =
     hears_spared _ _ _ (sym (ap (λ (b : Bool). cond b (take_cause x a) (cut_cause c n x a)) takes) ∙ e)
+cause_spared c n x (model.Receive (Proposes p)) takes e = proposal_spared (is_down x.mode) e
+cause_spared c n x (model.Receive (Decides d)) takes e = learn_spared d x.mode e
 cause_spared c n x model.Adopt takes e = takes
 cause_spared c n x (model.Mark time producer epoch coordinator commit) takes e = takes
 cause_spared c n x model.Raise takes e = takes
-cause_spared c n x (model.Join member) takes e = takes
-cause_spared c n x (model.Leave member) takes e = takes
+cause_spared c n x (model.Join member) takes e = join_spared x member x.mode e
+cause_spared c n x (model.Leave member) takes e = leave_spared n member x.mode e
 cause_spared c n x model.Checkpoint takes e = takes
 cause_spared c n x model.Stop takes e = takes
 cause_spared c n x model.Restart takes e = takes
@@ -191,11 +247,11 @@ does c n x model.Raise None is asked lawful =
     let done = raises c n x x.mode (sym is) in
     record { effect = done.0; local = inl done.1; spared = λ never. absurd never }
 does c n x (model.Join member) None is asked lawful =
-    let done = alters c x (with_member member) x.mode _ (sym is) in
-    record { effect = done.0; local = inl done.1; spared = λ never. absurd never }
+    let done = proposes c n x (with_member member) x.mode _ (sym is) in
+    record { effect = done.0; local = inl done.1; spared = λ takes. done.2 }
 does c n x (model.Leave member) None is asked lawful =
-    let done = alters c x (without_member member) x.mode _ (sym is) in
-    record { effect = done.0; local = inl done.1; spared = λ never. absurd never }
+    let done = proposes c n x (without_member member) x.mode _ (sym is) in
+    record { effect = done.0; local = inl done.1; spared = λ takes. done.2 }
 does c n x model.Checkpoint None is asked lawful =
     record { effect = becomes c (record x { checkpoint = x.watermark }) (model.CheckpointAt x.watermark); local = inl refl; spared = λ never. absurd never }
 does c n x model.Stop None is asked lawful =
@@ -223,16 +279,16 @@ acts_locally : (c : LeaderAndIsr) (n : ℕ) (x : Node) (act : Act) → IsAsked a
 acts_locally c n x act asked lawful = acting c n x act (does c n x act (cause c n x act) refl asked lawful)
 
 -- no answer is told to lack memory
-sent_spared : (l : Letter) (answering : LetterAnswering) → sent_reply (record l { answering = Some answering }) ≢ Refused refusals.Memory
+sent_spared : (l : FetchLetter) (answering : LetterAnswering) → sent_reply (Fetching (record l { answering = Some answering })) ≢ Refused refusals.Memory
 sent_spared l (Batches batches watermark) e = cc
 sent_spared l (Diverging end) e = cc
 
 -- what is left to know of a message that comes, whose logs are those of a run
 record Known (c : LeaderAndIsr) (n : ℕ) (x : Node) (m : Message) : Type 0 where
   asked : (r : Request) → m ≡ Asks r → (l : Leading) → x.mode ≡ Leads l → serve_cause x.log r l ≡ None
-      → DoesSending n x (served x l (letter_of (Asks r))) (Receive (Asks r)) (answer_letter x (letter_of (Asks r)))
+      → DoesSending n x (served x l (asked_letter r)) (Receive (Asks r)) (Fetching (answer_letter x (asked_letter r)))
   took : (a : Answer) → m ≡ Answers a → IsTrue (is_covered a.log a.request) → take_cause x a ≡ None → Local c n x (Receive (Answers a)) (taken_some c x [])
-  cuts : (a : Answer) → m ≡ Answers a → IsFalse (is_covered a.log a.request) → Local c n x (Receive (Answers a)) (cut c n x (letter_of (Answers a)))
+  cuts : (a : Answer) → m ≡ Answers a → IsFalse (is_covered a.log a.request) → Local c n x (Receive (Answers a)) (cut c n x (answered_letter a))
 
 -- who leads answers a request
 serves : (c : LeaderAndIsr) (n : ℕ) (x : Node) (r : Request) (mode : Mode) → x.mode ≡ mode → Known c n x (Asks r) → unless_leads mode (serve_cause x.log r) ≡ None
@@ -240,10 +296,10 @@ serves : (c : LeaderAndIsr) (n : ℕ) (x : Node) (r : Request) (mode : Mode) →
 serves c n x r Down is known none = absurd cc
 serves c n x r Idle is known none = absurd cc
 serves c n x r (Leads l) is known none =
-    let asked = letter_of (Asks r) in
+    let asked = asked_letter r in
     let done = known.asked r refl l is none in
     record {
-      effect = sends c (served x l asked) done.message (sent_reply (answer_letter x asked));
+      effect = sends c (served x l asked) done.message (sent_reply (Fetching (answer_letter x asked)));
       local = done.local c;
       spared = λ takes. sent_spared asked (answering_at x asked);
     }
@@ -272,10 +328,14 @@ receives c n x (Answers a) None is known = by (is_covered a.log a.request) refl
       spared = λ takes. absurd (false≢true (sym takes ∙ covered));
     }
     by false parted = record {
-      effect = cut c n x (letter_of (Answers a));
+      effect = cut c n x (answered_letter a);
       local = known.cuts a refl parted;
       spared = λ takes. cut_spared c x _ (cut_cause c n x a) (sym (ap (λ (b : Bool). cond b (take_cause x a) (cut_cause c n x a)) parted) ∙ sym is);
     }
+receives c n x (Proposes p) None is known = absurd cc
+receives c n x (Decides d) None is known =
+    let done = learns c x d x.mode (sym is) in
+    record { effect = done.0; local = happened c n x (Receive (Decides d)) done.0 (sym is) done.1; spared = λ takes. done.2 }
 
 -- the laws of runs by which messages come
 record Laws : Type 0 where
@@ -311,24 +371,16 @@ of_run laws count r number n m is =
           (kin a.request.log x.log (asked a same) own) (kin a.request.log a.log (asked a same) (told a same))).0;
     }
 
-comes : Laws → (count : ℕ) (r : Run count) (number : ℕ) (o : Option Message) → slice_get (last r).messages number ≡ o → Answering (last r) (model.Deliver number)
-comes laws count r number None is =
-    let w = last r in record {
-      outcome = told (Refused refusals.StaleAnswer);
-      after = w;
-      step = subst (λ (o : Option Message). Delivers w o (told (Refused refusals.StaleAnswer)) w) (sym is) (refl, refl);
-      counted = refl;
-      spared = λ takes lacks. cc;
-    }
-comes laws count r number (Some m) is =
+-- a message that goes to this node comes to it
+comes_there : Laws → (count : ℕ) (r : Run count) (number n : ℕ) (m : Message) → slice_get (last r).messages number ≡ Some m → addressee m ≡ Some n → Answering (last r) (model.Deliver number)
+comes_there laws count r number n m is goes =
     let w = last r in
     let is_of = last_is_of count r in
-    let n = addressee m in
     let x = w.nodes n in
     let done = receives w.controller n x m (cause w.controller n x (Receive m)) refl (of_run laws count r number n m is) in
-    let two = laws.go count r w is_of m (number, is) in
+    let party : IsParty count (Some n) = subst (IsParty count) goes (laws.go count r w is_of m (number, is)).1 in
     let step : NodeStep w n (Receive m) (answered w.messages done.effect) (moved w n done.effect) = record {
-      counted = omega (arith, two.1, laws.keep count r w is_of);
+      counted = omega (arith, party, laws.keep count r w is_of);
       given = (number, is);
       effect = done.effect;
       local = done.local;
@@ -338,12 +390,59 @@ comes laws count r number (Some m) is =
     record {
       outcome = answered w.messages done.effect;
       after = moved w n done.effect;
-      step = subst (λ (o : Option Message). Delivers w o (answered w.messages done.effect) (moved w n done.effect)) (sym is) step;
+      step = subst (λ (o : Option Message). Delivers w o (answered w.messages done.effect) (moved w n done.effect)) (sym is) (comes_to w m n _ _ goes step);
       counted = refl;
       spared = λ (k, there, takes).
           let same : k ≡ m = (let both : Some k ≡ Some m = sym there ∙ is in cc) in
-          done.spared (subst (λ (y : Message). TakesNoMemory (w.nodes (addressee y)) (Receive y)) same takes);
+          done.spared (subst (SparesAt w m) goes (subst (λ (y : Message). SparesAt w y (addressee y)) same takes));
     }
+
+-- a proposal comes to the controller
+record Decided (o : Option Refusal) (w : World) (p : Proposal) : Type 0 where
+  outcome : Outcome
+  after : World
+  step : DecidesBy o w p outcome after
+  counted : after.count ≡ w.count
+  spared : outcome.reply ≢ Refused refusals.Memory
+
+decides : (w : World) (p : Proposal) (o : Option Refusal) → decide_cause w.controller p ≡ o → Decided o w p
+decides w p (Some refusal) is =
+    record { outcome = told (Refused refusal); after = w; step = (refl, refl); counted = refl; spared = λ lacks. full_apart (sym (only_full w.controller p refusal is) ∙ same_refusal refusal refusals.Memory lacks) }
+  where
+    full_apart : refusals.RecordFull ≡ refusals.Memory → ⊥
+    full_apart e = cc
+decides w p None is =
+    let r = decided_on w.controller p in
+    record {
+      outcome = record { reply = SentDecision r; number = Some (length w.messages) };
+      after = with_message (with_record w r) (Decides (decision w.controller p));
+      step = (refl, refl);
+      counted = refl;
+      spared = λ lacks. cc;
+    }
+
+comes : Laws → (count : ℕ) (r : Run count) (number : ℕ) (o : Option Message) → slice_get (last r).messages number ≡ o → Answering (last r) (model.Deliver number)
+comes laws count r number None is =
+    let w = last r in record {
+      outcome = told (Refused refusals.StaleAnswer);
+      after = w;
+      step = subst (λ (o : Option Message). Delivers w o (told (Refused refusals.StaleAnswer)) w) (sym is) (refl, refl);
+      counted = refl;
+      spared = λ takes lacks. cc;
+    }
+comes laws count r number (Some (Asks q)) is = comes_there laws count r number q.to (Asks q) is refl
+comes laws count r number (Some (Answers a)) is = comes_there laws count r number a.request.from (Answers a) is refl
+comes laws count r number (Some (Proposes p)) is =
+    let w = last r in
+    let done = decides w p (decide_cause w.controller p) refl in
+    record {
+      outcome = done.outcome;
+      after = done.after;
+      step = subst (λ (o : Option Message). Delivers w o done.outcome done.after) (sym is) done.step;
+      counted = done.counted;
+      spared = λ takes. done.spared;
+    }
+comes laws count r number (Some (Decides d)) is = comes_there laws count r number d.proposal.from (Decides d) is refl
 
 answers : Laws → (count : ℕ) (r : Run count) (e : Event) → MayCome (last r).count e → Answering (last r) e
 answers laws count r (model.Elect n) come =

@@ -1,5 +1,5 @@
 -- What a node or the controller does leads on from each run that was reached.
-use Rattle.std.proofs.Common.{◌≡◌, ◌≢◌, ℕ, ◌<◌, ◌≤◌, Bool, true, false, cond, eqb, List, [], ◌∷◌, ◌++◌, length, map, set, get_or, None, Some, Option, Result, Ok, Err, refl, sym, ap, ◌∙◌, subst, arith, inl, inr, length-set}
+use Rattle.std.proofs.Common.{◌≡◌, ◌≢◌, ℕ, ◌<◌, Bool, true, false, cond, eqb, List, [], ◌∷◌, ◌++◌, length, map, set, get_or, None, Some, Option, Result, Ok, Err, refl, sym, ap, ◌∙◌, subst, arith, inl, inr, length-set}
 use Rattle.std.proofs.lemmas.List.{get_or-map, get_or-set_same, get_or-set_other, length-map, map-append, map-set}
 use Rattle.std.proofs.lemmas.Bool.{eq-eqb, ne_eqb, cases_eq}
 use Rattle.kp_types.specs.declared.limits.Limits.{Limits}
@@ -17,18 +17,18 @@ use Rattle.kp_model.specs.Event as model
 use Rattle.kp_model.specs.Event.{Act, Elect, Acts, Changed, Outcome, Refused, Reply}
 use Rattle.kp_model.specs.Laws.{EpochsAreElected}
 use Rattle.kp_model.specs.Local.{Effect as ModelEffect, Local, elected}
-use Rattle.kp_model.specs.Run.{Run, last}
+use Rattle.kp_model.specs.Run.{last}
 use Rattle.kp_model.specs.Letter.{Letter, letter_of}
 use Rattle.kp_model.specs.Step.{ElectsBy, NodeStep, answered, moved, number_after, told, IsGiven, elect_cause}
-use Rattle.kp_control.specs.Set.{record_of}
-use Rattle.kp_control.specs.declared.record.LeaderAndIsr.{LeaderAndIsr as CodeRecord}
-use Rattle.kp_replica.specs.Acts.{Comes, IsAsked, IsOfRun, NamesIn, TakesNoMemory, answer_reply, letters_in, record_after, reply_of, Acts as ActsSo}
+use Rattle.kp_model.specs.Set.{record_of}
+use Rattle.kp_model.specs.declared.record.LeaderAndIsr.{LeaderAndIsr as CodeRecord}
+use Rattle.kp_replica.specs.Acts.{Comes, IsAsked, IsOfRun, NamesIn, TakesNoMemory, answer_reply, letters_in, reply_of, Acts as ActsSo}
 use Rattle.kp_replica.specs.Broker.{node_at}
 use Rattle.kp_replica.specs.declared.broker.Broker.{Broker}
 use Rattle.kp_replica.specs.Adopting.{IsWithin}
 use Rattle.kp_replica.specs.NumberedNode.{NumberedNode}
 use Rattle.kp_replica.specs.declared.act.Effect.{Effect}
-use Rattle.kp_replica.specs.declared.act.Effect.TheVariants.{Answers, Sends, Changes}
+use Rattle.kp_replica.specs.declared.act.Effect.TheVariants.{Answers, Sends}
 use Rattle.kp_world.specs.Answers.{IsTold, outcome_of}
 use Rattle.kp_world.specs.declared.event.EventAnswer.{EventAnswer}
 use Rattle.kp_world.specs.declared.event.EventAnswer.TheVariants as answers
@@ -56,7 +56,6 @@ told_so : (count : ℕ) (outcome : Result Effect Refusal) (telling : Result Even
 told_so count (Ok (Answers answer)) telling is = ap outcome_of is
 told_so count (Ok (Sends body)) telling (said, is, says) =
     ap outcome_of is ∙ ap (λ (r : Reply). let o : Outcome = record { reply = r; number = Some count } in o) says
-told_so count (Ok (Changes made)) telling is = ap outcome_of is
 told_so count (Err refusal) telling is = ap outcome_of is
 
 told_as : (messages : List Message) (letters : List Letter) (effect : ModelEffect) (outcome : Result Effect Refusal) (telling : Result EventAnswer Refusal) → map letter_of messages ≡ letters
@@ -73,7 +72,6 @@ pub told_receipt : (log : List Batch) (count : ℕ) (outcome : Result Effect Ref
     → KeepsReceipt log telling
 told_receipt log count (Ok (Answers answer)) telling is named = subst (KeepsReceipt log) (sym is) named
 told_receipt log count (Ok (Sends body)) telling is named = subst (KeepsReceipt log) (sym is.1) tt
-told_receipt log count (Ok (Changes made)) telling is named = subst (KeepsReceipt log) (sym is) tt
 told_receipt log count (Err refusal) telling is named = subst (KeepsReceipt log) (sym is) tt
 
 -- ---- what is refused for want of memory
@@ -89,6 +87,7 @@ answers_never (replies.Appended receipt) refusal e = by receipt.duplicate e
     by false e = cc
 answers_never (replies.Took taken) refusal e = cc
 answers_never (replies.Cut cut) refusal e = cc
+answers_never (replies.Learned learned) refusal e = cc
 answers_never (replies.Watermark watermark) refusal e = cc
 answers_never (replies.Checkpoint watermark) refusal e = cc
 answers_never replies.Stopped refusal e = cc
@@ -101,6 +100,8 @@ messages_never : (said : Said) (refusal : Refusal) → said_reply said ≡ Refus
 messages_never (says.AsksFrom offset last) refusal e = cc
 messages_never (says.Batches count watermark) refusal e = cc
 messages_never (says.Diverging end) refusal e = cc
+messages_never (says.Proposes isr version) refusal e = cc
+messages_never (says.Decides decided) refusal e = cc
 
 pub same_refusal : (r s : Refusal) → Refused r ≡ Refused s → r ≡ s
 same_refusal r s e = cc
@@ -112,8 +113,6 @@ refused_so count (Ok (Answers answer)) telling refusal is e =
     absurd (answers_never answer refusal (sym (ap (λ (r : Result EventAnswer Refusal). (outcome_of r).reply) is) ∙ e))
 refused_so count (Ok (Sends body)) telling refusal (said, is, says) e =
     absurd (messages_never said refusal (sym (ap (λ (r : Result EventAnswer Refusal). (outcome_of r).reply) is) ∙ e))
-refused_so count (Ok (Changes made)) telling refusal is e =
-    let told : Changed (record_of made) ≡ Refused refusal = sym (ap (λ (r : Result EventAnswer Refusal). (outcome_of r).reply) is) ∙ e in absurd cc
 refused_so count (Err r) telling refusal is e =
     ap Err (same_refusal r refusal (sym (ap (λ (r : Result EventAnswer Refusal). (outcome_of r).reply) is) ∙ e))
 
@@ -245,16 +244,16 @@ not_elected limits n stage refusal is count before earlier p =
 -- ---- beside the code's nodes and letters
 
 -- what is carried out of an outcome leaves the stage of that outcome
-pub carried : (limits : Limits) (e : model.Event) (i : ℕ) (c made : LeaderAndIsr) (brokers : List Broker) (q : Broker) (letters after : List Letter) (outcome : Result Effect Refusal)
-    (telling : Result EventAnswer Refusal) → made ≡ record_after c outcome → after ≡ letters ++ letters_in outcome
+pub carried : (limits : Limits) (e : model.Event) (i : ℕ) (c : LeaderAndIsr) (brokers : List Broker) (q : Broker) (letters after : List Letter) (outcome : Result Effect Refusal)
+    (telling : Result EventAnswer Refusal) → after ≡ letters ++ letters_in outcome
     → LeadOn limits (record { controller = c; nodes = map node_at brokers; letters = letters }) (e ∷ []) (telling ∷ [])
     (next (record { controller = c; nodes = map node_at brokers; letters = letters }) i (node_at q) outcome)
     → LeadOn limits (record { controller = c; nodes = map node_at brokers; letters = letters }) (e ∷ []) (telling ∷ [])
-    (record { controller = made; nodes = map node_at (set brokers i q); letters = after })
-carried limits e i c made brokers q letters after outcome telling changed sent leads =
+    (record { controller = c; nodes = map node_at (set brokers i q); letters = after })
+carried limits e i c brokers q letters after outcome telling sent leads =
     let old : Stage = record { controller = c; nodes = map node_at brokers; letters = letters } in
-    let same : next old i (node_at q) outcome ≡ record { controller = made; nodes = map node_at (set brokers i q); letters = after } =
-    λ k. record { controller = sym changed k; nodes = sym (map-set node_at brokers i q) k; letters = sym sent k } in
+    let same : next old i (node_at q) outcome ≡ record { controller = c; nodes = map node_at (set brokers i q); letters = after } =
+    λ k. record { controller = c; nodes = sym (map-set node_at brokers i q) k; letters = sym sent k } in
     subst (λ (stage : Stage). LeadOn limits old (e ∷ []) (telling ∷ []) stage) same leads
 
 -- the broker at a place stands there among the nodes

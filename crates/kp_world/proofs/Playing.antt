@@ -1,16 +1,18 @@
 -- A run goes on, event by event.
-use Rattle.std.proofs.Common.{◌≡◌, ◌≢◌, ℕ, length, List, [], ◌∷◌, ◌++◌, Result, refl, sym, ap, ◌∙◌, subst}
-use Rattle.std.specs.Prelude.{map, reverse, slice_get, Option, Some, None}
+use Rattle.std.proofs.Common.{◌≡◌, ◌≢◌, ℕ, leb, Bool, true, false, length, List, [], ◌∷◌, ◌++◌, Result, refl, sym, ap, ◌∙◌, subst}
+use Rattle.std.specs.Prelude.{◌&&◌, map, reverse, slice_get, Option, Some, None}
 use Rattle.std.specs.List.{AllByRecursion}
 use Rattle.std.proofs.lemmas.List.{append_assoc, append-nil, map-append, reverse-append}
 use Rattle.kp_types.specs.declared.limits.Limits.{Limits}
 use Rattle.kp_types.specs.declared.refusal.Refusal.{Refusal}
 use Rattle.kp_types.specs.declared.refusal.Refusal.TheVariants as refusals
-use Rattle.kp_model.specs.World.{World, Message, start, addressee}
-use Rattle.kp_model.specs.Event.{Event, Elect, Acts, Deliver, Outcome, Refused}
+use Rattle.kp_model.specs.World.{LeaderAndIsr, World, Proposal, Message, Asks, Answers, Proposes, Decides, start}
+use Rattle.kp_model.specs.Local.{greatest_version, same_record}
+use Rattle.kp_types.specs.Causes.{first_of}
+use Rattle.kp_model.specs.Event.{Event, Elect, Acts, Deliver, Outcome, Refused, SentDecision}
 use Rattle.kp_model.specs.Laws.{NoDeliveryIsRefusedOddly}
 use Rattle.kp_model.specs.Run.{Moment, Run, IsRun, last, extend, IsSafe}
-use Rattle.kp_model.specs.Step.{Step, Delivers}
+use Rattle.kp_model.specs.Step.{Step, Delivers, DecidesBy, decide_cause, decided_on}
 use Rattle.kp_model.proofs.RunLaws.{last_is_of}
 use Rattle.kp_world.specs.Answers.{outcome_of}
 use Rattle.kp_world.specs.Events.{IsEvent, AreEvents}
@@ -66,17 +68,36 @@ lead_more limits old mid new es ds os qs first second count before earlier p =
     (subst (λ (xs : List (Result EventAnswer Refusal)). IsReached count limits ((before ++ es) ++ ds) xs new) (append_assoc earlier os qs)
     (second count (before ++ es) (earlier ++ os) (first count before earlier p)))
 
+-- the controller refuses a proposal for its version alone
+pub only_full : (c : LeaderAndIsr) (p : Proposal) (refusal : Refusal) → decide_cause c p ≡ Some refusal → refusal ≡ refusals.RecordFull
+only_full c p refusal e = by (same_record c p.known && leb greatest_version c.version) e
+  where
+    by : (t : Bool) → first_of ((t, refusals.RecordFull) ∷ []) ≡ Some refusal → refusal ≡ refusals.RecordFull
+    by true e = cc
+    by false e = absurd cc
+
 -- no message of a run is out of place
 fits : NoDeliveryIsRefusedOddly → (count : ℕ) (r : Run count) (event : Event) (outcome : Outcome) (new : World) → Step (last r) event outcome new → Fits event outcome.reply
 fits odd count r (Elect n) outcome new step = tt
 fits odd count r (Acts n act) outcome new step = tt
 fits odd count r (Deliver number) outcome new step = by (slice_get (last r).messages number) step
   where
+    decides : (p : Proposal) (o : Option Refusal) → decide_cause (last r).controller p ≡ o → DecidesBy o (last r) p outcome new → Fits (Deliver number) outcome.reply
+    decides p None e came =
+        let is : outcome.reply ≡ SentDecision (decided_on (last r).controller p) = ap (λ (o : Outcome). o.reply) came.0 in
+        rw is ((λ e. cc), ((λ e. cc), ((λ e. cc), ((λ e. cc), ((λ e. cc), tt)))))
+    decides p (Some refusal) e came =
+        let is : outcome.reply ≡ Refused refusals.RecordFull = ap (λ (o : Outcome). o.reply) came.0 ∙ ap Refused (only_full (last r).controller p refusal e) in
+        rw is ((λ e. cc), ((λ e. cc), ((λ e. cc), ((λ e. cc), ((λ e. cc), tt)))))
+
     by : (o : Option Message) → Delivers (last r) o outcome new → Fits (Deliver number) outcome.reply
     by None refused =
         let is : outcome.reply ≡ Refused refusals.StaleAnswer = ap (λ (o : Outcome). o.reply) refused.0 in
         rw is ((λ e. cc), ((λ e. cc), ((λ e. cc), ((λ e. cc), ((λ e. cc), tt)))))
-    by (Some m) came = odd count r (last r) (last_is_of count r) (addressee m) m outcome new came
+    by (Some (Asks q)) came = odd count r (last r) (last_is_of count r) q.to (Asks q) outcome new came
+    by (Some (Answers a)) came = odd count r (last r) (last_is_of count r) a.request.from (Answers a) outcome new came
+    by (Some (Proposes p)) came = decides p (decide_cause (last r).controller p) refl came
+    by (Some (Decides d)) came = odd count r (last r) (last_is_of count r) d.proposal.from (Decides d) outcome new came
 
 pub all_fit : NoDeliveryIsRefusedOddly → (count : ℕ) (r : Run count) → AllFit r
 all_fit odd count r = by r.moments r.is_run

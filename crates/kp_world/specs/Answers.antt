@@ -3,12 +3,12 @@ use Rattle.std.specs.Prelude.{◌≡◌, ℕ, Result, Ok, Err, Option, Some, Non
 use Rattle.kp_types.specs.declared.refusal.Refusal.{Refusal}
 use Rattle.kp_model.specs.Calls.{said_reply, sent_reply}
 use Rattle.kp_model.specs.Event.{Reply, Refused, Changed as RecordChanged, Outcome}
-use Rattle.kp_model.specs.Letter.{letter}
+use Rattle.kp_model.specs.Letter.{Letter, letter}
 use Rattle.kp_model.specs.declared.message.Said.{Said}
-use Rattle.kp_control.specs.Set.{record_of}
+use Rattle.kp_model.specs.Set.{record_of}
 use Rattle.kp_replica.specs.Acts.{answer_reply}
 use Rattle.kp_replica.specs.declared.act.Effect.{Effect}
-use Rattle.kp_replica.specs.declared.act.Effect.TheVariants.{Answers, Sends, Changes}
+use Rattle.kp_replica.specs.declared.act.Effect.TheVariants.{Answers, Sends}
 use Rattle.kp_world.specs.declared.event.EventAnswer.{EventAnswer}
 use Rattle.kp_world.specs.declared.event.EventAnswer.TheVariants.{Changed, Sent, Answered}
 
@@ -26,10 +26,13 @@ abbrev pub outcome_of : Result EventAnswer Refusal → Outcome
 outcome_of (Ok answer) = record { reply = told_reply answer; number = number_in answer }
 outcome_of (Err refusal) = record { reply = Refused refusal; number = None }
 
+-- This is told of a message with this letter, where so many had been sent before.
+abbrev pub TellsOf : (count : ℕ) → Letter → EventAnswer → Type 0
+TellsOf count l answer = (said : Said) × (answer ≡ Sent count said) × (said_reply said ≡ sent_reply l)
+
 -- This is told of what came of a node's act, where so many messages had been sent before.
 abbrev pub IsTold : (count : ℕ) → Result Effect Refusal → Result EventAnswer Refusal → Type 0
 IsTold count (Ok (Answers answer)) told = told ≡ Ok (Answered answer)
 IsTold count (Ok (Sends body)) told =
     (said : Said) × (told ≡ Ok (Sent count said)) × (said_reply said ≡ sent_reply (letter body))
-IsTold count (Ok (Changes made)) told = told ≡ Ok (Changed made)
 IsTold count (Err refusal) told = told ≡ Err refusal

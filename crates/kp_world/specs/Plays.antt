@@ -1,5 +1,5 @@
 -- A run over events, with its answers.
-use Rattle.std.specs.Prelude.{◌≡◌, ◌≢◌, ℕ, List, [], ◌∷◌, ◌++◌, length, map, reverse, slice_get, Some, Result}
+use Rattle.std.specs.Prelude.{◌≡◌, ◌≢◌, ℕ, List, [], ◌∷◌, ◌++◌, length, map, reverse, slice_get, Option, Some, None, Result}
 use Rattle.std.specs.List.{AllByRecursion}
 use Rattle.kp_types.specs.declared.limits.Limits.{Limits}
 use Rattle.kp_types.specs.declared.refusal.Refusal.{Refusal}
@@ -30,12 +30,17 @@ Fits _ reply = Unit {0}
 abbrev pub AllFit : {count : ℕ} → Run count → Type 0
 AllFit r = AllByRecursion (λ m. Fits m.event m.outcome.reply) r.moments
 
--- the event takes no memory in this world: an ask, a batch that comes twice, a request that comes and is answered without
--- batches, or such an answer that comes (own rule)
+-- a message takes no memory where it comes: to this node, or to the controller, which never takes any
+abbrev pub SparesAt : World → Message → Option ℕ → Type 0
+SparesAt w m None = Unit {0}
+SparesAt w m (Some n) = TakesNoMemory (w.nodes n) (Receive m)
+
+-- the event takes no memory in this world: an ask, a change of the in-sync replicas that is asked for, a batch that comes twice,
+-- a request that comes and is answered without batches, such an answer that comes, a proposal or a decision that comes (own rule)
 abbrev pub SparesMemory : World → Event → Type 0
 SparesMemory w (Elect n) = ⊥
 SparesMemory w (Acts n act) = TakesNoMemory (w.nodes n) act
-SparesMemory w (Deliver number) = (m : Message) × (slice_get w.messages number ≡ Some m) × TakesNoMemory (w.nodes (addressee m)) (Receive m)
+SparesMemory w (Deliver number) = (m : Message) × (slice_get w.messages number ≡ Some m) × SparesAt w m (addressee m)
 
 -- no event that takes no memory is refused for want of it
 abbrev pub NoneLacks : ℕ → List Moment → Type 0

@@ -8,7 +8,7 @@ use Rattle.kp_model.specs.World.{LeaderAndIsr, Node, World}
 use Rattle.kp_model.specs.Event.{Event, Elect, Acts, Deliver}
 use Rattle.kp_model.specs.Letter.{Letter, letter_of}
 use Rattle.kp_replica.specs.NumberedNode.{NumberedNode}
-use Rattle.kp_replica.specs.Acts.{NamesIn, letters_in, record_after}
+use Rattle.kp_replica.specs.Acts.{NamesIn, letters_in}
 use Rattle.kp_replica.specs.declared.act.Effect.{Effect}
 use Rattle.kp_replica.specs.declared.act.Effect.TheVariants.{Answers}
 use Rattle.kp_world.specs.declared.event.EventAnswer.{EventAnswer}
@@ -28,7 +28,7 @@ pub record Stage : Type 0 where
 abbrev pub next : Stage → ℕ → NumberedNode → Result Effect Refusal → Stage
 next stage place node outcome =
     record {
-      controller = record_after stage.controller outcome;
+      controller = stage.controller;
       nodes = slice_set stage.nodes place node;
       letters = stage.letters ++ letters_in outcome;
     }

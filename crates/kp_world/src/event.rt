@@ -1,7 +1,6 @@
 //! What may happen, and what is answered.
 
-use kp_control::LeaderAndIsr;
-use kp_model::Said;
+use kp_model::{LeaderAndIsr, Said};
 use kp_replica::{Act, Answer};
 use kp_types::{NodeId, Refusal};
 use std::collections::VecDeque;
@@ -13,17 +12,17 @@ pub enum Event {
     Elect { node: NodeId },
     /// The node does this.
     Acts { node: NodeId, act: Act },
-    /// The message of this number comes to the node to which it goes. Messages are numbered from 0 on in the order in which
-    /// they were sent, and each may come any number of times.
+    /// The message of this number comes to the node to which it goes, or a proposal to the controller, which decides on it.
+    /// Messages are numbered from 0 on in the order in which they were sent, and each may come any number of times.
     Deliver { number: u64 },
 }
 
 /// What is told of an event that isn't refused.
 #[derive(Drop)]
 pub enum EventAnswer {
-    /// The controller's record has changed to this.
+    /// The controller's record has changed to this, by an election.
     Changed(LeaderAndIsr),
-    /// The node has sent the message of this number.
+    /// The node, or the controller, has sent the message of this number.
     Sent { number: u64, said: Said },
     /// The node answers.
     Answered(Answer),

@@ -5,19 +5,21 @@ ghost use Rattle.std.specs.List.{AllByRecursion};
 ghost use Rattle.kp_types.specs.declared.limits.Limits.{Limits as LogLimits};
 ghost use Rattle.kp_model.specs.World.{start};
 ghost use Rattle.kp_model.specs.Event.{Act as ModelAct, Acts as ModelActs, Event as ModelEvent, Elect as ModelElect, Deliver as ModelDeliver};
-ghost use Rattle.kp_model.specs.Letter.{letter};
-ghost use Rattle.kp_control.specs.Set.{record_of};
-ghost use Rattle.kp_replica.specs.Acts.{IsAct, letters_in, record_after};
-ghost use Rattle.kp_world.specs.Answers.{IsTold};
+ghost use Rattle.kp_types.specs.Causes.{IsRefusedOnlyBy};
+ghost use Rattle.kp_model.specs.Letter.{Deciding, letter, proposal_of};
+ghost use Rattle.kp_model.specs.Set.{record_of};
+ghost use Rattle.kp_model.specs.Step.{decide_cause, decided_on, decision};
+ghost use Rattle.kp_replica.specs.Acts.{IsAct, letters_in};
+ghost use Rattle.kp_world.specs.Answers.{IsTold, TellsOf};
 ghost use Rattle.kp_world.specs.Events.{AreEvents, IsAmong, IsEvent};
 ghost use Rattle.kp_world.specs.Plays.{AnswersFirst, IsAnswered, LeadOn, PlaysFirst};
 ghost use Rattle.kp_replica.specs.NumberedNode.{NumberedNode};
 ghost use Rattle.kp_world.specs.Shown.{IsShown, log_of};
 
 use crate::event::{Event, EventAnswer, Stopped, Trace};
-use kp_control::LeaderAndIsr;
+use kp_control::{decided, elected};
 use kp_log::PartitionLog;
-use kp_model::MessageBody;
+use kp_model::{LeaderAndIsr, MessageBody, Proposal};
 use kp_replica::{Act, Broker, Effect};
 use kp_types::{Limits, NodeId, Refusal};
 use std::alloc::{AllocError, Global};
@@ -34,7 +36,7 @@ pub struct World {
 }
 
 impl Model for World {
-    ghost use Rattle.kp_control.specs.Set.{record_of};
+    ghost use Rattle.kp_model.specs.Set.{record_of};
     ghost use Rattle.std.specs.Prelude.{map};
     ghost use Rattle.kp_model.specs.Letter.{letter};
     ghost use Rattle.kp_replica.specs.Broker.{node_at};
@@ -49,36 +51,60 @@ impl Model for World {
     } };
 }
 
-/// Carries out what came of a node's act, and tells it: a record that was changed stands from then on, and a message that
-/// was sent stands behind the others, for which there is room. O(1).
+/// Puts a message behind the others, for which there is room, and tells it. O(1).
+fn send(messages: &mut Vec<MessageBody>, body: MessageBody) -> EventAnswer
+    requires { length messages.old.items < vec_capacity messages.old }
+    ensures sent { messages.new.items ≡ messages.old.items ++ body ∷ [] }
+    ensures told { TellsOf (length messages.old.items) (letter body) result }
+{
+    let number = messages.len() as u64;
+    let said = body.said();
+    match messages.push(body) {
+        Ok(()) => {}
+        Err(_) => unreachable!(),
+    }
+    EventAnswer::Sent { number, said }
+}
+
+/// Tells what came of a node's act: a message that was sent stands behind the others, for which there is room. O(1).
 fn carry_out(
-    controller: &mut LeaderAndIsr,
     messages: &mut Vec<MessageBody>,
     outcome: Result<Effect, Refusal>,
 ) -> Result<EventAnswer, Refusal>
     requires { length messages.old.items < vec_capacity messages.old }
     ensures told { IsTold (length messages.old.items) outcome result }
-    ensures record { record_of controller.new ≡ record_after (record_of controller.old) outcome }
     ensures letters { map letter messages.new.items
         ≡ map letter messages.old.items ++ letters_in outcome }
 {
     match outcome {
         Ok(Effect::Answers(answer)) => Ok(EventAnswer::Answered(answer)),
-        Ok(Effect::Sends(body)) => {
-            let number = messages.len() as u64;
-            let said = body.said();
-            match messages.push(body) {
-                Ok(()) => {}
-                Err(_) => unreachable!(),
-            }
-            Ok(EventAnswer::Sent { number, said })
-        }
-        Ok(Effect::Changes(changed)) => {
-            *controller = changed;
-            Ok(EventAnswer::Changed(changed))
-        }
+        Ok(Effect::Sends(body)) => Ok(send(messages, body)),
         Err(refusal) => Err(refusal),
     }
+}
+
+/// The controller decides on the proposal: the record that is decided stands from then on, and the decision stands behind the
+/// other messages, for which there is room. F24 leaves all as it was. O(1), and no memory.
+fn decide(
+    controller: &mut LeaderAndIsr,
+    messages: &mut Vec<MessageBody>,
+    proposal: &Proposal,
+) -> Result<EventAnswer, Refusal>
+    requires { length messages.old.items < vec_capacity messages.old }
+    ensures refused { IsRefusedOnlyBy
+        (decide_cause (record_of controller.old) (proposal_of proposal.now)) result }
+    ensures told { IfOk result (TellsOf (length messages.old.items)
+        (Deciding (decision (record_of controller.old) (proposal_of proposal.now)))) }
+    ensures record { OnOk result (record_of controller.new
+        ≡ decided_on (record_of controller.old) (proposal_of proposal.now)) }
+    ensures letters { OnOk result (map letter messages.new.items ≡ map letter messages.old.items
+        ++ Deciding (decision (record_of controller.old) (proposal_of proposal.now)) ∷ []) }
+    ensures stays { OnErr result (controller.new ≡ controller.old) }
+    ensures same { OnErr result (messages.new.items ≡ messages.old.items) }
+{
+    let decision = decided(controller, proposal)?;
+    *controller = decision.decided;
+    Ok(send(messages, MessageBody::Decision(decision)))
 }
 
 /// Puts an answer behind the others, for which there is room. O(1).
@@ -129,13 +155,13 @@ impl World {
             → LeadOn limits self.old (ModelElect node ∷ []) (result ∷ []) self.new }
         ensures count { length self.new.nodes ≡ length self.old.nodes }
     {
-        let changed = self.controller.elected(node)?;
+        let changed = elected(&self.controller, node)?;
         self.controller = changed;
         Ok(EventAnswer::Changed(changed))
     }
 
-    /// The message of this number comes to the node to which it goes; F29 where no message has it. An `Err` says that there
-    /// was no room for a message more, and nothing has happened.
+    /// The message of this number comes to the node to which it goes, or a proposal to the controller, which decides on it; F29
+    /// where no message has it. An `Err` says that there was no room for a message more, and nothing has happened.
     fn deliver(
         &mut self,
         alloc: Global,
@@ -155,12 +181,19 @@ impl World {
         let Some(body) = self.messages.get(number as usize) else {
             return Ok(Err(Refusal::StaleAnswer));
         };
-        let node = usize::from(body.addressee());
+        if let MessageBody::Proposal(proposal) = body {
+            let proposal = *proposal;
+            return Ok(decide(&mut self.controller, &mut self.messages, &proposal));
+        }
+        let Some(node) = body.addressee() else {
+            return Ok(Err(Refusal::StaleAnswer)); // as no message does: each but a proposal goes to a node
+        };
+        let node = usize::from(node);
         if node >= self.nodes.len() {
-            return Ok(Err(Refusal::StaleAnswer)); // as no message of a run: each goes to a node
+            return Ok(Err(Refusal::StaleAnswer)); // as no message of a run: its node is there
         }
         let outcome = self.nodes[node].receive(alloc, &self.controller, body);
-        Ok(carry_out(&mut self.controller, &mut self.messages, outcome))
+        Ok(carry_out(&mut self.messages, outcome))
     }
 
     /// The node does this. An `Err` gives the act back: there was no room for a message more, and nothing has happened.
@@ -184,7 +217,7 @@ impl World {
             return Err(act);
         }
         let outcome = self.nodes[usize::from(node)].act(alloc, &self.controller, act);
-        Ok(carry_out(&mut self.controller, &mut self.messages, outcome))
+        Ok(carry_out(&mut self.messages, outcome))
     }
 
     /// Makes the event happen. An `Err` gives it back: there was no room for a message, and nothing has happened.
@@ -215,8 +248,8 @@ impl World {
     /// of one run may come a few at a time, with one list for the answers of each few. An `Err` says that the list of answers,
     /// or room for one message more, couldn't be had: then the events that are left in the list haven't happened, and those
     /// before them have, with their answers. The cost of an event doesn't grow with the events before it, but for what the
-    /// calls of `Replica` say of their cost, and for a read, which costs what it reads. Every message stays: a request is some
-    /// numbers, and an answer holds shares of its batches.
+    /// calls of `Replica` say of their cost, and for a read, which costs what it reads. Every message stays: a request, a proposal
+    /// and a decision are some numbers, and an answer holds shares of its batches.
     pub fn play(
         &mut self,
         alloc: Global,

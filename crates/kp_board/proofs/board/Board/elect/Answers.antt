@@ -1,29 +1,13 @@
-use Rattle.std.proofs.Common.{◌≡◌, ◌≤◌, Option, Some, None, Result, Ok, Err, IfErr, inl, inr, refl, sym, ap, subst, ◌∙◌}
-use Rattle.std.specs.Prelude.{IsErrAnd}
-use Rattle.kp_types.specs.Causes.{IsRefusedOnlyBy}
-use Rattle.kp_types.specs.declared.refusal.Refusal.{Refusal}
+use Rattle.std.proofs.Common.{◌≡◌, ◌≤◌, Some, None, inl, inr, refl, sym, ap, subst, ◌∙◌}
+use Rattle.kp_types.proofs.Causes.{only_cause, only_none}
 use Rattle.kp_model.specs.World.{LeaderAndIsr}
 use Rattle.kp_model.specs.Local.{elected}
 use Rattle.kp_model.specs.Step.{elect_cause}
-use Rattle.kp_control.specs.declared.record.LeaderAndIsr.{LeaderAndIsr as CodeRecord}
-use Rattle.kp_control.specs.Set.{record_of}
+use Rattle.kp_model.specs.Set.{record_of}
 use Rattle.kp_board.specs.Views.{CallerView}
 use Rattle.kp_board.specs.Plays.{electing}
+use Rattle.kp_board.proofs.Refusals.{handed_on}
 use Rattle.kp_board.proofs.board.Board.elect.Goals as goal
-
--- an election that is refused has this cause, and one that succeeds has none
-refused_by : (o : Option Refusal) (f : Refusal) → IsRefusedOnlyBy {A = CodeRecord} o (Err f) → o ≡ Some f
-refused_by (Some r) f h = cc
-refused_by None f h = absurd h
-
-free_of : (o : Option Refusal) (r : CodeRecord) → IsRefusedOnlyBy o (Ok r) → o ≡ None
-free_of (Some f) r h = absurd cc
-free_of None r h = refl
-
--- the error that was handed on
-handed_on : (r : Result CodeRecord Refusal) (f : Refusal) (P : Refusal → Type 0) → IsErrAnd r (λ e. e ≡ f) → P f → IfErr r P
-handed_on (Ok x) f P h p = tt
-handed_on (Err e) f P h p = subst P (sym h) p
 
 pub returns-in_err-next-clause-refused : goal.returns-in_err-next-clause-refused
 returns-in_err-next-clause-refused g c =
@@ -33,7 +17,7 @@ returns-in_err-next-clause-refused g c =
     let r = c.found-shown.ensures in
     let f = c.in_err-next.field-0.0 in
     let same : now.shown ≡ record_of c.found-shown.result.1 = ap (λ (x : CallerView). x.shown) r.shown in
-    let cause : elect_cause now.shown node ≡ Some f = ap (λ (s : LeaderAndIsr). elect_cause s node) same ∙ refused_by (elect_cause (record_of c.found-shown.result.1) node) f c.in_err-next.ensures.refused in
+    let cause : elect_cause now.shown node ≡ Some f = ap (λ (s : LeaderAndIsr). elect_cause s node) same ∙ only_cause _ (elect_cause (record_of c.found-shown.result.1) node) f c.in_err-next.ensures.refused in
     handed_on c.from_residual.result f _ c.from_residual.ensures.1 (inr cause)
 
 pub returns-then-exchange-clause-elected : goal.returns-then-exchange-clause-elected
@@ -44,7 +28,7 @@ returns-then-exchange-clause-elected g c =
     let e = c.if-exchange.ensures in
     let node = c.args.node in
     let same : now.shown ≡ record_of c.found-shown.result.1 = ap (λ (x : CallerView). x.shown) r.shown in
-    let free : elect_cause (record_of c.found-shown.result.1) node ≡ None = free_of (elect_cause (record_of c.found-shown.result.1) node) c.in_ok-next.next c.in_ok-next.ensures.refused in
+    let free : elect_cause (record_of c.found-shown.result.1) node ≡ None = only_none _ (elect_cause (record_of c.found-shown.result.1) node) c.in_ok-next.next c.in_ok-next.ensures.refused in
     let next : record_of c.in_ok-next.next ≡ elected now.shown node = c.in_ok-next.ensures.elected ∙ ap (λ (s : LeaderAndIsr). elected s node) (sym same) in (
       now.shown,
       subst (λ (s : LeaderAndIsr). old.shown.version ≤ s.version) (sym same) r.later,
@@ -61,7 +45,7 @@ returns-else-exchange-clause-refused g c =
     let r = c.found-shown.ensures in
     let node = c.args.node in
     let same : now.shown ≡ record_of c.found-shown.result.1 = ap (λ (x : CallerView). x.shown) r.shown in
-    let free : elect_cause (record_of c.found-shown.result.1) node ≡ None = free_of (elect_cause (record_of c.found-shown.result.1) node) c.in_ok-next.next c.in_ok-next.ensures.refused in
+    let free : elect_cause (record_of c.found-shown.result.1) node ≡ None = only_none _ (elect_cause (record_of c.found-shown.result.1) node) c.in_ok-next.next c.in_ok-next.ensures.refused in
     inl (
       refl,
       record {

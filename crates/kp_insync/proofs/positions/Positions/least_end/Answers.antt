@@ -1,34 +1,17 @@
-use Rattle.std.proofs.Common.{◌≡◌, ◌⊎◌, ℕ, List, Option, None, get_or, sym, ap, ◌∙◌, subst, arith}
-use Rattle.std.specs.Option.{unwrap_or}
-use Rattle.kp_insync.specs.Reports.{IsReported}
-use Rattle.kp_insync.proofs.Least.{as_places, unknown_at, none_left, least_known_of, flat}
-use Rattle.kp_control.specs.Set.{numbers_of}
-use Rattle.kp_model.specs.Local.{without_member}
+use Rattle.std.proofs.Common.{Option, Bor, sym, ap, ◌∙◌}
+use Rattle.std.specs.Option.{option_copied}
+use Rattle.kp_model.specs.Local.{least_end}
+use Rattle.kp_model.specs.Set.{members_of}
+use Rattle.kp_model.specs.declared.record.NodeSet.{NodeSet}
+use Rattle.kp_insync.specs.Reports.{ends_over, members_in}
+use Rattle.kp_insync.proofs.Least.{both_known}
 use Rattle.kp_insync.proofs.positions.Positions.least_end.Goals as goal
 
-pub returns-in_err-reported-clause-least : goal.returns-in_err-reported-clause-least
-returns-in_err-reported-clause-least c =
-    let ends = c.self.inside.ends in
-    let place = c.loop-place.place in
-    let none : get_or ends place None ≡ None =
-    sym (c.get.ensures.lookup.4 (omega arith) None) ∙ sym (ap (λ (o : Option (Option ℕ)). unwrap_or o None) c.copied.ensures)
-    ∙ flat c.copied.result ∙ sym c.flatten.ensures ∙ c.in_err-reported.was in
-    c.from_residual.ensures ∙ sym (as_places c.args.self.now ends c.args.set.now.members c.as_slice-members.result.now c.args.own c.args.end c.self.view_is c.as_slice-members.ensures
-    ∙ c.loop-place.invariant
-    ∙ unknown_at ends c.as_slice-members.result.now c.args.own place c.loop-place.least (omega arith) c.if-member.true
-    (λ e. c.if-place-from.true (omega (arith, e, c.from.ensures))) none)
-
-pub returns-clause-least : goal.returns-clause-least
-returns-clause-least c =
-    let ends = c.self.inside.ends in
-    sym (as_places c.args.self.now ends c.args.set.now.members c.as_slice-members.result.now c.args.own c.args.end c.self.view_is c.as_slice-members.ensures
-    ∙ c.loop-place.invariant
-    ∙ none_left ends c.as_slice-members.result.now c.args.own c.loop-place.place c.loop-place.least (omega arith))
-
-pub returns-clause-known : goal.returns-clause-known
-returns-clause-known c =
-    let ends = c.self.inside.ends in
-    let members = c.as_slice-members.result.now in
-    subst (λ (rs : List (Option ℕ)). (c.loop-place.least ≡ c.args.end) ⊎ IsReported rs c.loop-place.least) c.self.view_is
-    (least_known_of ends (without_member c.args.own (numbers_of 0 members)) c.args.end c.loop-place.least
-    (c.loop-place.invariant ∙ none_left ends members c.args.own c.loop-place.place c.loop-place.least (omega arith)))
+pub returns-in-Some-clause-least : goal.returns-in-Some-clause-least
+returns-in-Some-clause-least c =
+    let reported = c.args.self.now in
+    let own = c.args.own in
+    let known = c.args.known.now in
+    c.least_with-in-Some.ensures.least
+    ∙ both_known reported own c.args.end (members_of known) (members_of c.in-Some.pending.now) c.in_ok-least.least c.in_ok-least.ensures.least
+    ∙ ap (λ (o : Option (Bor NodeSet)). least_end (ends_over (members_in known (option_copied o)) own c.args.end reported)) (sym c.in-Some.is)

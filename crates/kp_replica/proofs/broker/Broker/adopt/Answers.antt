@@ -1,5 +1,5 @@
 use Rattle.std.proofs.Common.{sym, subst}
-use Rattle.kp_control.specs.Set.{record_of}
+use Rattle.kp_model.specs.Set.{record_of}
 use Rattle.kp_model.specs.Event as model
 use Rattle.kp_model.specs.Event.{Refused}
 use Rattle.kp_replica.specs.Broker.{node_at}

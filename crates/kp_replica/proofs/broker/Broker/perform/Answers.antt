@@ -1,12 +1,14 @@
 use Rattle.std.proofs.Common.{◌≡◌, ℕ, List, Result, Ok, Err, refl, sym, ap, ◌∙◌, subst}
-use Rattle.std.specs.Prelude.{IfOk}
+use Rattle.std.specs.Prelude.{◌≢◌, IfOk, IfErr}
 use Rattle.kp_types.specs.declared.refusal.Refusal.{Refusal}
-use Rattle.kp_control.specs.Set.{record_of}
-use Rattle.kp_control.specs.declared.record.LeaderAndIsr.{LeaderAndIsr as Record}
+use Rattle.kp_types.specs.declared.refusal.Refusal.TheVariants.{Memory}
+use Rattle.kp_model.specs.Set.{record_of}
+use Rattle.kp_model.specs.declared.message.MessageBody.{MessageBody}
 use Rattle.kp_model.specs.Event as model
 use Rattle.kp_model.specs.Event.{Line}
 use Rattle.kp_model.specs.World.{LeaderAndIsr}
-use Rattle.kp_replica.specs.Acts.{Comes, FitsPlain, IsOfRun, Looks, answered_reply, plain_act}
+use Rattle.kp_replica.specs.Acts.{Comes, FitsPlain, IsOfRun, Looks, TakesNoMemory, answered_reply, plain_act}
+use Rattle.kp_replica.specs.Altering.{change_act}
 use Rattle.kp_replica.specs.Broker.{node_at}
 use Rattle.kp_replica.specs.NumberedNode.{DoesUnder, NumberedNode}
 use Rattle.kp_replica.specs.Replies.{checkpoint_reply, lines_reply, receipt_reply, role_reply, state_reply, watermark_reply}
@@ -15,15 +17,15 @@ use Rattle.kp_replica.specs.declared.act.PlainAct.TheVariants as acts
 use Rattle.kp_replica.specs.declared.act.Answer.{Answer}
 use Rattle.kp_replica.specs.declared.act.Answer.TheVariants as answers
 use Rattle.kp_replica.specs.declared.act.Effect.{Effect}
-use Rattle.kp_replica.specs.declared.act.Effect.TheVariants.{Answers, Changes}
+use Rattle.kp_replica.specs.declared.act.Effect.TheVariants.{Answers, Sends}
 use Rattle.kp_replica.specs.declared.adopting.Role.{Role}
 use Rattle.kp_replica.specs.declared.producing.Receipt.{Receipt}
 use Rattle.kp_replica.specs.declared.reading.Shown.{Shown}
-use Rattle.kp_replica.proofs.Acting.{IsMadeOf, adopts, alters, answered, made, mapped, sent}
+use Rattle.kp_replica.proofs.Acting.{IsMadeOf, adopts, answered, made, mapped, sent, spared_too}
 use Rattle.kp_replica.proofs.broker.Broker.perform.Goals as goal
 use Rattle.kp_replica.proofs.broker.Broker.perform.Goals.{in-Adopt, in-Mark, in-Raise, in-Checkpoint, in-Stop, in-Restart, in-Show, in-Read, in-Committed}
 
--- ---- what is sent or changed
+-- ---- what is sent
 
 pub returns-in-Ask-clause-acts : goal.returns-in-Ask-clause-acts
 returns-in-Ask-clause-acts c = λ k under of.
@@ -35,10 +37,19 @@ pub returns-in-Alter-clause-acts : goal.returns-in-Alter-clause-acts
 returns-in-Alter-clause-acts c = λ k under of.
     let x = node_at c.args.self.now in
     let y = node_at c.alter.new.self in
-    let shown = record_of c.args.controller.now in
     subst (λ (z : PlainAct). Comes k x y (plain_act z) c.map-in-Alter.result) (sym c.in-Alter.is)
-    (alters k shown x y c.in-Alter.change c.alter.result c.map-in-Alter.result (subst (λ (z : PlainAct). Looks (plain_act z) → k ≡ shown) c.in-Alter.is under) c.alter.ensures
-    c.map-in-Alter.ensures.cases)
+    (sent k x y (change_act c.in-Alter.change) c.alter.result c.map-in-Alter.result c.alter.ensures.sent c.alter.ensures.event c.map-in-Alter.ensures.cases)
+
+pub returns-in-Ask-clause-spared : goal.returns-in-Ask-clause-spared
+returns-in-Ask-clause-spared c = λ takes.
+    spared_too MessageBody Effect Sends c.ask.result c.map.result c.map.ensures.cases (err_apart c.ask.result c.ask.ensures.spared)
+  where
+    err_apart : (r : Result MessageBody Refusal) → IfErr r (λ refusal. refusal ≢ Memory) → r ≢ Err Memory
+    err_apart (Ok x) h e = cc
+    err_apart (Err f) h e = h (let same : f ≡ Memory = cc in same)
+
+pub returns-in-Alter-clause-spared : goal.returns-in-Alter-clause-spared
+returns-in-Alter-clause-spared c = λ takes. spared_too MessageBody Effect Sends c.alter.result c.map-in-Alter.result c.map-in-Alter.ensures.cases c.alter.ensures.spared
 
 any : (A B : Type 0) (K : A → B) (r : Result A Refusal) (m : Result B Refusal) → IsMadeOf A B K r m → IfOk m (λ y. (x : A) × (y ≡ K x))
 any A B K (Ok x) (Ok y) is = (x, is)
@@ -49,7 +60,7 @@ any A B K (Err f) (Err g) is = tt
 pub returns-in-Alter-clause-fits : goal.returns-in-Alter-clause-fits
 returns-in-Alter-clause-fits c =
     subst (λ (x : PlainAct). IfOk c.map-in-Alter.result (FitsPlain x (node_at c.alter.new.self))) (sym c.in-Alter.is)
-    (any Record Effect Changes c.alter.result c.map-in-Alter.result c.map-in-Alter.ensures.cases)
+    (any MessageBody Effect Sends c.alter.result c.map-in-Alter.result c.map-in-Alter.ensures.cases)
 
 -- ---- what is answered
 
@@ -154,3 +165,21 @@ returns-clause-fits c =
           answer_fits act (acts.Committed w.in-Committed.from) new old _ outcome w.map-answered-in-Committed.result m w.in-Committed.is (ap node_at w.self-is) w.answered-is c.map-2.ensures.cases
           (any (List Line) Answer answers.Lines w.committed.result w.map-answered-in-Committed.result w.map-answered-in-Committed.ensures.cases) (λ x known. (known.0, ap Answers known.1))
     ]
+
+-- ---- what takes no memory is sent
+
+pub returns-clause-spared : goal.returns-clause-spared
+returns-clause-spared c = λ takes.
+    let none : (act : PlainAct) → c.args.act ≡ act → TakesNoMemory (node_at c.args.self.now).state (plain_act act) = λ act is.
+    subst (λ (a : PlainAct). TakesNoMemory (node_at c.args.self.now).state (plain_act a)) is takes in
+    absurd (elim c.match-act.branch [
+      | in-Adopt w ↦ none acts.Adopt w.in-Adopt.is
+      | in-Mark w ↦ none (acts.Mark w.in-Mark.marker) w.in-Mark.is
+      | in-Raise w ↦ none acts.Raise w.in-Raise.is
+      | in-Checkpoint w ↦ none acts.Checkpoint w.in-Checkpoint.is
+      | in-Stop w ↦ none acts.Stop w.in-Stop.is
+      | in-Restart w ↦ none acts.Restart w.in-Restart.is
+      | in-Show w ↦ none acts.Show w.in-Show.is
+      | in-Read w ↦ none (acts.Read w.in-Read.from) w.in-Read.is
+      | in-Committed w ↦ none (acts.Committed w.in-Committed.from) w.in-Committed.is
+    ])

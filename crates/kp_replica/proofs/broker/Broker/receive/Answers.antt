@@ -1,18 +1,22 @@
 use Rattle.std.proofs.Common.{◌≡◌, Result, Err, sym, ap, ◌∙◌, subst}
 use Rattle.std.proofs.lemmas.Result.{err_from_is_err_and}
 use Rattle.kp_types.specs.declared.refusal.Refusal.{Refusal}
-use Rattle.kp_control.specs.Set.{record_of}
+use Rattle.kp_types.specs.declared.refusal.Refusal.TheVariants.{StaleAnswer}
+use Rattle.kp_model.specs.Set.{record_of}
 use Rattle.kp_model.specs.Event.{Receive, Reply, Refused}
-use Rattle.kp_model.specs.Letter.{letter as letter_in, fetch_answer}
+use Rattle.kp_model.specs.Letter.{Fetching, letter as letter_in, fetch_answer, decision_of}
 use Rattle.kp_model.specs.World.{LeaderAndIsr, Message}
 use Rattle.kp_model.specs.declared.message.MessageBody.TheVariants as bodies
 use Rattle.kp_replica.specs.Acts.{Comes}
 use Rattle.kp_replica.specs.Broker.{node_at}
 use Rattle.kp_replica.specs.NumberedNode.{NumberedNode, DoesUnder}
-use Rattle.kp_replica.specs.Replies.{followed_reply}
+use Rattle.kp_replica.specs.Replies.{followed_reply, learned_reply}
+use Rattle.kp_replica.specs.declared.act.Answer.TheVariants as answers
+use Rattle.kp_replica.specs.declared.altering.Learned.{Learned}
 use Rattle.kp_replica.specs.declared.act.Effect.{Effect}
 use Rattle.kp_replica.specs.declared.taking.Followed.{Followed}
-use Rattle.kp_replica.proofs.Acting.{answering, answer_came, answer_refused, refusing, request_came, same_err, sending}
+use Rattle.kp_replica.proofs.Acting.{answering, answer_came, answer_refused, learned_came, proposal_came, refusing, request_came, same_err, sending}
+use Rattle.kp_replica.proofs.Downs.{refuses_message}
 use Rattle.kp_replica.proofs.broker.Broker.receive.Goals as goal
 
 -- what came of it, where it is written in other words
@@ -46,7 +50,7 @@ returns-in_ok-answer-in-FetchRequest-clause-acts c = λ m is k under of.
     let new = node_at c.serve_fetch.new.self in
     let answer = c.in_ok-answer-in-FetchRequest.answer in
     sending k old new (Receive m) (bodies.FetchAnswer answer)
-    (request_came k old new c.in-FetchRequest.request (fetch_answer answer) m (is ∙ ap letter_in c.in-FetchRequest.is) of c.in_ok-answer-in-FetchRequest.ensures.served)
+    (request_came k old new c.in-FetchRequest.request (Fetching (fetch_answer answer)) m (is ∙ ap letter_in c.in-FetchRequest.is) of c.in_ok-answer-in-FetchRequest.ensures.served)
 
 -- ---- answers
 
@@ -83,3 +87,71 @@ returns-in_ok-followed-in-FetchAnswer-clause-acts c = λ m is k under of.
     c.take_fetch.ensures.event in
     let does = subst (λ (r : Result Followed Refusal). DoesUnder k old new (Receive m) (followed_reply r)) followed.was came in
     answering k old new (Receive m) c.answer.result (subst (λ (r : Reply). DoesUnder k old new (Receive m) r) (sym c.answer.ensures) does)
+
+-- ---- decisions
+
+pub returns-in_err-learned-in-Decision-clause-acts : goal.returns-in_err-learned-in-Decision-clause-acts
+returns-in_err-learned-in-Decision-clause-acts c = λ m is k under of.
+    let refusal = c.in_err-learned-in-Decision.field-0.0 in
+    let p = err_from_is_err_and c.from_residual-in_err-learned-in-Decision.result c.from_residual-in_err-learned-in-Decision.ensures.1 in
+    let old = node_at c.args.self.now in
+    let new = node_at c.learn.new.self in
+    let came = learned_came k old new (decision_of c.in-Decision.decision) m c.learn.result (is ∙ ap letter_in c.in-Decision.is) c.learn.ensures.event in
+    in_other_words k old new m c.from_residual-in_err-learned-in-Decision.result (Err refusal) (p.1 ∙ ap Err p.2)
+    (refusing k old new (Receive m) refusal (subst (λ (r : Result Learned Refusal). DoesUnder k old new (Receive m) (learned_reply r)) c.in_err-learned-in-Decision.was came))
+
+pub returns-in_err-learned-in-Decision-clause-refused : goal.returns-in_err-learned-in-Decision-clause-refused
+returns-in_err-learned-in-Decision-clause-refused c = λ m is k under why held.
+    let refusal = c.in_err-learned-in-Decision.field-0.0 in
+    let p = err_from_is_err_and c.from_residual-in_err-learned-in-Decision.result c.from_residual-in_err-learned-in-Decision.ensures.1 in
+    let old = node_at c.args.self.now in
+    let new = node_at c.learn.new.self in
+    let came = learned_came k old new (decision_of c.in-Decision.decision) m c.learn.result (is ∙ ap letter_in c.in-Decision.is) c.learn.ensures.event in
+    in_other_words k old new m c.from_residual-in_err-learned-in-Decision.result (Err refusal) (p.1 ∙ ap Err p.2)
+    (refusing k old new (Receive m) refusal (subst (λ (r : Result Learned Refusal). DoesUnder k old new (Receive m) (learned_reply r)) c.in_err-learned-in-Decision.was came))
+
+pub returns-in_ok-learned-in-Decision-clause-acts : goal.returns-in_ok-learned-in-Decision-clause-acts
+returns-in_ok-learned-in-Decision-clause-acts c = λ m is k under of.
+    let old = node_at c.args.self.now in
+    let new = node_at c.learn.new.self in
+    let came = learned_came k old new (decision_of c.in-Decision.decision) m c.learn.result (is ∙ ap letter_in c.in-Decision.is) c.learn.ensures.event in
+    answering k old new (Receive m) (answers.Learned c.in_ok-learned-in-Decision.learned)
+    (subst (λ (r : Result Learned Refusal). DoesUnder k old new (Receive m) (learned_reply r)) c.in_ok-learned-in-Decision.was came)
+
+pub returns-in_ok-learned-in-Decision-clause-refused : goal.returns-in_ok-learned-in-Decision-clause-refused
+returns-in_ok-learned-in-Decision-clause-refused c = λ m is k under why held.
+    let old = node_at c.args.self.now in
+    let new = node_at c.learn.new.self in
+    let came = learned_came k old new (decision_of c.in-Decision.decision) m c.learn.result (is ∙ ap letter_in c.in-Decision.is) c.learn.ensures.event in
+    answering k old new (Receive m) (answers.Learned c.in_ok-learned-in-Decision.learned)
+    (subst (λ (r : Result Learned Refusal). DoesUnder k old new (Receive m) (learned_reply r)) c.in_ok-learned-in-Decision.was came)
+
+-- ---- proposals
+
+pub returns-in_err-up-in-Proposal-clause-acts : goal.returns-in_err-up-in-Proposal-clause-acts
+returns-in_err-up-in-Proposal-clause-acts c = λ m is k under of.
+    let refusal = c.in_err-up-in-Proposal.field-0.0 in
+    let p = err_from_is_err_and c.from_residual-in_err-up-in-Proposal.result c.from_residual-in_err-up-in-Proposal.ensures.1 in
+    let x = node_at c.args.self.now in
+    let down = c.in_err-up-in-Proposal.ensures.down in
+    in_other_words k x x m c.from_residual-in_err-up-in-Proposal.result (Err refusal) (p.1 ∙ ap Err p.2)
+    (refusing k x x (Receive m) refusal (refuses_message k x m refusal down.1 down.0))
+
+pub returns-in_err-up-in-Proposal-clause-refused : goal.returns-in_err-up-in-Proposal-clause-refused
+returns-in_err-up-in-Proposal-clause-refused c = λ m is k under why held.
+    let refusal = c.in_err-up-in-Proposal.field-0.0 in
+    let p = err_from_is_err_and c.from_residual-in_err-up-in-Proposal.result c.from_residual-in_err-up-in-Proposal.ensures.1 in
+    let x = node_at c.args.self.now in
+    let down = c.in_err-up-in-Proposal.ensures.down in
+    in_other_words k x x m c.from_residual-in_err-up-in-Proposal.result (Err refusal) (p.1 ∙ ap Err p.2)
+    (refusing k x x (Receive m) refusal (refuses_message k x m refusal down.1 down.0))
+
+pub returns-in_ok-up-in-Proposal-clause-acts : goal.returns-in_ok-up-in-Proposal-clause-acts
+returns-in_ok-up-in-Proposal-clause-acts c = λ m is k under of.
+    let x = node_at c.args.self.now in
+    refusing k x x (Receive m) StaleAnswer (proposal_came k x _ m (is ∙ ap letter_in c.in-Proposal.is) c.in_ok-up-in-Proposal.ensures.up)
+
+pub returns-in_ok-up-in-Proposal-clause-refused : goal.returns-in_ok-up-in-Proposal-clause-refused
+returns-in_ok-up-in-Proposal-clause-refused c = λ m is k under why held.
+    let x = node_at c.args.self.now in
+    refusing k x x (Receive m) StaleAnswer (proposal_came k x _ m (is ∙ ap letter_in c.in-Proposal.is) c.in_ok-up-in-Proposal.ensures.up)

@@ -2,7 +2,7 @@ use Rattle.std.proofs.Common.{refl, ap, subst}
 use Rattle.kp_types.specs.declared.refusal.Refusal.TheVariants as refusals
 use Rattle.kp_model.specs.World.{Following}
 use Rattle.kp_model.specs.Event.{Ask, Refused}
-use Rattle.kp_model.specs.Letter.{fetch_request}
+use Rattle.kp_model.specs.Letter.{Fetching, fetch_request}
 use Rattle.kp_model.specs.declared.message.FetchRequest.{FetchRequest}
 use Rattle.kp_replica.specs.Kept.{node_of}
 use Rattle.kp_replica.specs.NumberedNode.{NumberedNode, Does}
@@ -27,5 +27,5 @@ returns-clause-sent c =
     let follows : Following = record { leader = f.leader; epoch = f.epoch } in
     let request : FetchRequest =
     record { from = m.number; to = f.leader; life = m.state.life; epoch = f.epoch; offset = c.end_offset.result; last_epoch = c.last_epoch.result } in
-    subst (λ (x : NumberedNode). DoesSending x x Ask (fetch_request request)) c.self.view_is
+    subst (λ (x : NumberedNode). DoesSending x x Ask (Fetching (fetch_request request))) c.self.view_is
     (asks_leader m follows c.end_offset.result c.last_epoch.result (ap mode_of c.in-Follows.is) c.end_offset.ensures.value c.last_epoch.ensures.value)

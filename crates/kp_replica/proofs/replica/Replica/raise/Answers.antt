@@ -2,8 +2,9 @@ use Rattle.std.proofs.Common.{◌≡◌, arith, ℕ, List, Option, refl, ap, sub
 use Rattle.kp_types.specs.declared.refusal.Refusal.TheVariants as refusals
 use Rattle.kp_model.specs.Log.{Batch, IsBoundary, end_of}
 use Rattle.kp_model.specs.World.{Mode, Leads}
-use Rattle.kp_model.specs.Local.{raised, least_end}
-use Rattle.kp_insync.specs.Reports.{ends_over}
+use Rattle.kp_model.specs.Local.{counted, raised, least_end}
+use Rattle.kp_model.specs.declared.record.NodeSet.{NodeSet}
+use Rattle.kp_insync.specs.Reports.{ends_over, members_in}
 use Rattle.std.specs.Prelude.{max, unwrap_or}
 use Rattle.kp_log.specs.Partition.{Partition}
 use Rattle.kp_model.specs.Event.{Raise, Refused, MarkAt}
@@ -48,9 +49,10 @@ returns c =
     let m = node_of c.self.inside in
     let l = leading_of c.in-Leads.leading in
     let mark = c.max-watermark.result in
-    let over : ℕ → Option ℕ = λ end. least_end (ends_over l.isr m.number end l.reported) in
-    let least : c.least_end-least.result ≡ over (end_of m.state.log) =
-    c.least_end-least.ensures.least ∙ ap over c.end_offset-end.ensures.value in
+    let over : List ℕ → ℕ → Option ℕ = λ set end. least_end (ends_over set m.number end l.reported) in
+    let least : c.least_end-least.result ≡ over (counted l) (end_of m.state.log) =
+    c.least_end-least.ensures.least ∙ ap (λ (o : Option NodeSet). over (members_in c.in-Leads.leading.isr o) c.end_offset-end.result) c.as_ref-pending.ensures.value
+    ∙ ap (over (counted l)) c.end_offset-end.ensures.value in
     let is : raised m.number m.state l ≡ mark =
     sym (c.max-watermark.ensures
     ∙ ap (λ (o : ℕ). max m.state.watermark o) (c.unwrap_or.ensures ∙ ap (λ (o : Option ℕ). unwrap_or o 0) least)) in

@@ -21,7 +21,7 @@ returns-in-Ok-clause-restarted c =
     let m = kept_node c.node.inside in
     let below : c.node.inside.life < 2 ^ 64 - 1 = omega (arith, c.if-node.false, c.node.ranges) in
     let P : NumberedNode → Partition → ℕ → Type 0 =
-    λ x p mark. Does x (record { number = m.number; limits = p.limits; state = record { log = p.log; watermark = mark; checkpoint = mark; life = m.state.life + 1; mode = Idle } }) Restart
+    λ x p mark. Does x (record { number = m.number; limits = p.limits; state = record { log = p.log; watermark = mark; checkpoint = mark; life = m.state.life + 1; kept = m.state.kept; mode = Idle } }) Restart
     (Restarted (m.state.life + 1) (end_of p.log) mark) in
     subst (λ (x : NumberedNode). P x c.in-Ok.log c.start_offset-checkpoint.result) c.node.view_is
     (subst (λ (p : Partition). P m p c.start_offset-checkpoint.result) (sym c.in-Ok.ensures.log)

@@ -1,7 +1,7 @@
 use Rattle.std.proofs.Common.{◌≡◌, ◌<◌, ℕ, List, [], ◌∷◌, ◌++◌, length, map, set, sym, ap, ◌∙◌, subst, arith}
 use Rattle.std.proofs.lemmas.List.{length-map}
 use Rattle.kp_types.specs.declared.limits.Limits.{Limits}
-use Rattle.kp_control.specs.Set.{record_of}
+use Rattle.kp_model.specs.Set.{record_of}
 use Rattle.kp_model.specs.Event.{Acts}
 use Rattle.kp_model.specs.Letter.{Letter, letter}
 use Rattle.kp_replica.specs.Acts.{IsAct, letters_in}
@@ -27,7 +27,7 @@ returns-clause-step c = λ limits a is.
     let telling = c.carry_out.result in
     let old : Stage = record { controller = r; nodes = map node_at brokers; letters = letters } in
     let after = map letter c.carry_out.new.messages.items in
-    let new : Stage = record { controller = record_of c.carry_out.new.controller; nodes = map node_at (set brokers i q); letters = after } in
+    let new : Stage = record { controller = r; nodes = map node_at (set brokers i q); letters = after } in
     let grown : after ≡ letters ++ letters_in outcome =
     c.carry_out.ensures.letters ∙ ap (λ (ls : List Letter). ls ++ letters_in outcome) (ap (map letter) c.reserve.ensures.items) in
     let many : length c.reserve.new.self.items ≡ length letters = ap length c.reserve.ensures.items ∙ sym (length-map bodies letter) in
@@ -35,7 +35,7 @@ returns-clause-step c = λ limits a is.
     let within : c.args.node < length (map node_at brokers) = omega (arith, counted, c.requires) in
     let inner : i < length brokers = omega (arith, within, c.from.ensures, length-map brokers node_at) in
     subst (λ (stage : Stage). LeadOn limits stage (Acts c.args.node a ∷ []) (telling ∷ []) new) c.self.view_is
-    (carried limits (Acts c.args.node a) i r (record_of c.carry_out.new.controller) brokers q letters after outcome telling c.carry_out.ensures.record grown
+    (carried limits (Acts c.args.node a) i r brokers q letters after outcome telling grown
     (acted c.epochs_are_elected.ensures limits c.args.node i old (node_at p) (node_at q) a outcome telling c.from.ensures within (placed brokers i p c.index_mut.ensures.value inner)
     (c.acts_are_told.ensures.asked limits.max_batch c.args.act a is) (subst (λ (n : ℕ). IsTold n outcome telling) many c.carry_out.ensures.told)
     (receipt_stands c.args.act (node_at p) (node_at q) outcome c.act-outcome.ensures.fits)

@@ -1,18 +1,20 @@
 use Rattle.std.proofs.Common.{◌≡◌, ◌<◌, ◌≤◌, ℕ, List, [], ◌∷◌, ◌++◌, length, map, set, get_or, Some, Err, sym, ap, ◌∙◌, subst, arith}
-use Rattle.std.specs.Prelude.{slice_get}
+use Rattle.std.specs.Prelude.{slice_get, IfOk, OnOk}
 use Rattle.std.proofs.lemmas.List.{get_or-map, length-map}
 use Rattle.std.proofs.lemmas.Option.{slice_get_past, slice_get_read}
 use Rattle.kp_types.specs.declared.refusal.Refusal.TheVariants as refusals
-use Rattle.kp_control.specs.Set.{record_of}
+use Rattle.kp_model.specs.Set.{record_of}
 use Rattle.kp_model.specs.Event.{Deliver}
-use Rattle.kp_model.specs.Letter.{Letter, letter}
+use Rattle.kp_model.specs.Letter.{Letter, Proposing, Deciding, letter, proposal_of}
+use Rattle.kp_model.specs.Step.{decision}
+use Rattle.kp_model.specs.World.{Proposal}
 use Rattle.kp_model.specs.declared.message.MessageBody.{MessageBody}
 use Rattle.kp_replica.specs.Acts.{letters_in}
 use Rattle.kp_replica.specs.Broker.{node_at}
-use Rattle.kp_world.specs.Answers.{IsTold}
+use Rattle.kp_world.specs.Answers.{IsTold, TellsOf}
 use Rattle.kp_world.specs.Plays.{LeadOn}
 use Rattle.kp_world.specs.Shown.{Stage}
-use Rattle.kp_world.proofs.Delivered.{delivered, goes_nowhere, undelivered}
+use Rattle.kp_world.proofs.Delivered.{decided_so, delivered, goes_nowhere, on_err, undelivered}
 use Rattle.kp_world.proofs.Moved.{carried, placed}
 use Rattle.kp_world.proofs.world.World.deliver.Goals as goal
 use Rattle.kp_world.proofs.world.World.deliver.Goals.{In-Some}
@@ -51,9 +53,9 @@ returns-then-node-len-clause-step c = λ limits.
     let old : Stage = record { controller = record_of inside.controller; nodes = map node_at inside.nodes.items; letters = map letter inside.messages.items } in
     let new : Stage = record { controller = record_of inside.controller; nodes = map node_at inside.nodes.items; letters = map letter c.reserve.new.self.items } in
     subst (λ (s : Stage). LeadOn limits s (Deliver c.args.number ∷ []) (Err refusals.StaleAnswer ∷ []) new) c.self.view_is
-    (goes_nowhere c.messages_go_to_nodes.ensures c.runs_keep_count.ensures limits c.args.number (letter c.in-Some.body.now) old new (Err refusals.StaleAnswer)
-    (letter_there ((goal.at.returns-then-node-len-clause-step c).In-Some))
-    (omega (arith, length-map inside.nodes.items node_at, c.addressee.ensures, c.from-node.ensures, c.len.ensures)))
+    (goes_nowhere c.messages_go_to_nodes.ensures c.runs_keep_count.ensures limits c.args.number c.in-Some-addressee.node (letter c.in-Some.body.now) old new (Err refusals.StaleAnswer)
+    (letter_there ((goal.at.returns-then-node-len-clause-step c).In-Some)) (sym c.addressee.ensures ∙ c.in-Some-addressee.is)
+    (omega (arith, length-map inside.nodes.items node_at, c.from-node.ensures, c.len.ensures)))
 
 pub returns-clause-step : goal.returns-clause-step
 returns-clause-step c = λ limits.
@@ -69,14 +71,37 @@ returns-clause-step c = λ limits.
     let telling = c.carry_out.result in
     let old : Stage = record { controller = r; nodes = map node_at brokers; letters = letters } in
     let after = map letter c.carry_out.new.messages.items in
-    let new : Stage = record { controller = record_of c.carry_out.new.controller; nodes = map node_at (set brokers i q); letters = after } in
+    let new : Stage = record { controller = r; nodes = map node_at (set brokers i q); letters = after } in
     let grown : after ≡ letters ++ letters_in outcome =
     c.carry_out.ensures.letters ∙ ap (λ (ls : List Letter). ls ++ letters_in outcome) (ap (map letter) c.reserve.ensures.items) in
     let many : length c.reserve.new.self.items ≡ length letters = ap length c.reserve.ensures.items ∙ sym (length-map bodies letter) in
     let inner : i < length brokers = omega (arith, c.len.ensures) in
     let within : i < length (map node_at brokers) = omega (arith, inner, length-map brokers node_at) in
     subst (λ (stage : Stage). LeadOn limits stage (Deliver c.args.number ∷ []) (telling ∷ []) new) c.self.view_is
-    (carried limits (Deliver c.args.number) i r (record_of c.carry_out.new.controller) brokers q letters after outcome telling c.carry_out.ensures.record grown
+    (carried limits (Deliver c.args.number) i r brokers q letters after outcome telling grown
     (delivered c.runs_keep_logs.ensures c.runs_keep_kin.ensures c.no_cut_below_the_watermark.ensures limits c.args.number (letter c.in-Some.body.now) i old (node_at p) (node_at q) outcome telling
-    (letter_there ((goal.at.returns-clause-step c).In-Some)) (c.from-node.ensures ∙ c.addressee.ensures) within (placed brokers i p c.index_mut.ensures.value inner)
+    (letter_there ((goal.at.returns-clause-step c).In-Some)) (sym c.addressee.ensures ∙ c.in-Some-addressee.is ∙ ap Some (sym c.from-node.ensures)) within (placed brokers i p c.index_mut.ensures.value inner)
     (subst (λ (n : ℕ). IsTold n outcome telling) many c.carry_out.ensures.told) c.receive-outcome.ensures.spared c.receive-outcome.ensures.acts))
+
+-- ---- a proposal
+
+pub returns-in-Proposal-clause-step : goal.returns-in-Proposal-clause-step
+returns-in-Proposal-clause-step c = λ limits.
+    let inside = c.self.inside in
+    let bodies = inside.messages.items in
+    let letters = map letter bodies in
+    let r = record_of inside.controller in
+    let nodes = map node_at inside.nodes.items in
+    let old : Stage = record { controller = r; nodes = nodes; letters = letters } in
+    let result = c.decide.result in
+    let made = record_of c.decide.new.controller in
+    let after = map letter c.decide.new.messages.items in
+    let p : Proposal = proposal_of c.in-Proposal.proposal in
+    let there : slice_get letters c.args.number ≡ Some (Proposing p) =
+    letter_there ((goal.at.returns-in-Proposal-clause-step c).In-Some) ∙ ap (λ (b : MessageBody). Some (letter b)) c.in-Proposal.is in
+    let many : length c.reserve.new.self.items ≡ length letters = ap length c.reserve.ensures.items ∙ sym (length-map bodies letter) in
+    subst (λ (stage : Stage). LeadOn limits stage (Deliver c.args.number ∷ []) (result ∷ []) (record { controller = made; nodes = nodes; letters = after })) c.self.view_is
+    (decided_so limits c.args.number p old made after result there c.decide.ensures.refused
+    (subst (λ (n : ℕ). IfOk result (TellsOf n (Deciding (decision r p)))) many c.decide.ensures.told) c.decide.ensures.record
+    (subst (λ (bs : List MessageBody). OnOk result (after ≡ map letter bs ++ Deciding (decision r p) ∷ [])) c.reserve.ensures.items c.decide.ensures.letters)
+    (on_err (ap record_of) result c.decide.ensures.stays) (on_err (λ same. ap (map letter) (same ∙ c.reserve.ensures.items)) result c.decide.ensures.same))

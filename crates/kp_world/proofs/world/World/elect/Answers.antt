@@ -2,8 +2,8 @@ use Rattle.std.proofs.Common.{◌≡◌, [], ◌∷◌, Some, Result, Ok, Err, m
 use Rattle.std.proofs.lemmas.Result.{err_from_is_err_and}
 use Rattle.kp_model.specs.Event.{Elect}
 use Rattle.kp_model.specs.Step.{elect_cause}
-use Rattle.kp_control.specs.Set.{record_of}
-use Rattle.kp_control.specs.declared.record.LeaderAndIsr.{LeaderAndIsr}
+use Rattle.kp_model.specs.Set.{record_of}
+use Rattle.kp_model.specs.declared.record.LeaderAndIsr.{LeaderAndIsr}
 use Rattle.kp_types.specs.declared.refusal.Refusal.{Refusal}
 use Rattle.kp_world.specs.declared.event.EventAnswer.{EventAnswer}
 use Rattle.kp_world.specs.declared.event.EventAnswer.TheVariants as answers

@@ -1,5 +1,5 @@
-use Rattle.std.proofs.Common.{◌≡◌, ◌≤◌, ℕ, length, vec_capacity}
-use Rattle.std.specs.VecDeque.{deque_capacity, deque_len}
+use Rattle.std.proofs.Common.{◌≡◌, ◌≤◌, length, vec_capacity}
+use Rattle.std.specs.VecDeque.{deque_len}
 use Rattle.kp_world.specs.Plays.{PlaysFirst}
 use Rattle.kp_world.proofs.world.World.play.Given as goal
 

@@ -1,0 +1,177 @@
+-- A decision on a proposal, a step on word 0 by the proposal's pass, keeps the rule.
+use Rattle.std.proofs.Common.{◌≡◌, ◌≢◌, ℕ, ◌<◌, Bool, true, false, List, [], ◌∷◌, length, get_or, set, eqb, Option, Some, None, inr, refl, sym, ap, ◌∙◌, subst, arith, length-set, get_or-set_other, get_or-set_same, eq-eqb, ne_eqb}
+use Rattle.std.specs.Prelude.{slice_get, nat_le, ◌&&◌, if◌then◌else◌}
+use Rattle.std.specs.Option.{option_eq}
+use Rattle.std.proofs.lemmas.Bool.{and_parts, eqb-true, false≢true}
+use Rattle.std.proofs.lemmas.Slice.Eq.{bytes_eq-Decides}
+use mathlib.Core.Logic.{dite}
+use mathlib.Core.Option.{none, some}
+use native.Mathlib.Decide.{ℕ_discrete}
+use lib.ListN.{get_elem?}
+use prog.Atomic.{either}
+use Rattle.atomic_table.specs.Table.{Me, State, step, Act, keeps, stepped, Valid, carried_after, Allows}
+use Rattle.kp_types.specs.Causes.{first_of}
+use Rattle.kp_types.specs.declared.refusal.Refusal.{Refusal}
+use Rattle.kp_types.specs.declared.refusal.Refusal.TheVariants.{RecordFull}
+use Rattle.kp_model.specs.World.{Leader, LeaderAndIsr, Proposal, Message, Asks, Answers, Proposes, Decides, World, with_record, with_message, IsSent, most_nodes}
+use Rattle.kp_model.specs.Event.{Outcome, Deliver, SentDecision}
+use Rattle.kp_model.specs.Local.{same_record, altered, greatest_version}
+use Rattle.kp_model.specs.Step.{Step, IsInRange, Delivers, DecidesBy, decide_cause, decided_on, decision}
+use Rattle.kp_model.specs.Run.{Run, last, extend}
+use Rattle.kp_model.proofs.KnownRecords.{decisions_rise}
+use Rattle.kp_model.proofs.RunLaws.{last_is_of}
+use Rattle.kp_control.specs.Word.{packed}
+use Rattle.kp_control.proofs.Words.{one_word}
+use Rattle.kp_board.specs.Views.{View, of_message, message_view}
+use Rattle.kp_board.specs.Rule.{mark_word, WasWatermark, Fits, Ruled}
+use Rattle.kp_board.specs.Plays.{IsRecordOfWord}
+use Rattle.kp_board.specs.Decisions.{EndsDeciding, ShowsDecision, ShowsAfter, Decided, unless_refused, record_after}
+use Rattle.kp_board.proofs.Steps.{sent_before, keeps_rule, looks_on, record_on}
+use Rattle.kp_board.proofs.Fitting.{record_word, sent_after}
+
+-- a record that compares as the same is the same
+same_record_is : (c r : LeaderAndIsr) → same_record c r ≡ true → c ≡ r
+same_record_is c r e =
+    let both = and_parts _ _ e in
+    let first = and_parts _ _ both.0 in
+    let leader : c.leader ≡ r.leader = by_leader c.leader r.leader first.0 in
+    let isr : c.isr ≡ r.isr = (bytes_eq-Decides c.isr r.isr).0 first.1 in
+    let version : c.version ≡ r.version = eqb-true c.version r.version both.1 in
+    λ i. record { leader = leader i; isr = isr i; version = version i }
+  where
+    leader_is : (x y : Leader) → x.node ≡ y.node → x.epoch ≡ y.epoch → x ≡ y
+    leader_is x y p q = λ i. record { node = p i; epoch = q i }
+
+    by_leader : (o q : Option Leader) → option_eq (λ x y. eqb x.node y.node && eqb x.epoch y.epoch) o q ≡ true → o ≡ q
+    by_leader None None t = refl
+    by_leader None (Some y) t = absurd (false≢true t)
+    by_leader (Some x) None t = absurd (false≢true t)
+    by_leader (Some x) (Some y) t = let parts = and_parts (eqb x.node y.node) (eqb x.epoch y.epoch) t in ap Some (leader_is x y (eqb-true x.node y.node parts.0) (eqb-true x.epoch y.epoch parts.1))
+
+-- a proposal that names another record leaves this one
+not_named : (c : LeaderAndIsr) (p : Proposal) → same_record c p.known ≡ false → record_after c p ≡ c
+not_named c p e =
+    subst (λ (b : Bool). unless_refused (first_of ((b && nat_le greatest_version c.version, RecordFull) ∷ [])) (if b then altered c p.isr else c) c ≡ c) (sym e) refl
+
+-- the exchange from the named record's word leaves the word of the record after the decision
+word_is : (c : LeaderAndIsr) (p : Proposal) → IsInRange most_nodes c → IsInRange most_nodes p.known
+    → either (eqb (packed c) (packed p.known)) (packed (record_after p.known p)) (packed c) ≡ packed (record_after c p)
+word_is c p c_in known_in = dite (ℕ_discrete (packed c) (packed p.known))
+    (λ hit. subst (λ b. either b (packed (record_after p.known p)) (packed c) ≡ packed (record_after c p)) (sym (eq-eqb (packed c) (packed p.known) hit))
+    (ap (λ (x : LeaderAndIsr). packed (record_after x p)) (sym (one_word c p.known c_in known_in hit))))
+    (λ miss. subst (λ b. either b (packed (record_after p.known p)) (packed c) ≡ packed (record_after c p)) (sym (ne_eqb (packed c) (packed p.known) miss))
+    (sym (ap packed (not_named c p (other (same_record c p.known) refl miss)))))
+  where
+    other : (b : Bool) → same_record c p.known ≡ b → packed c ≢ packed p.known → same_record c p.known ≡ false
+    other true e miss = absurd (miss (ap packed (same_record_is c p.known e)))
+    other false e miss = e
+
+-- ---- the run and one decision more
+
+module _ {n : ℕ} (r : Run n) (number : ℕ) (p : Proposal) (proposed : slice_get (last r).messages number ≡ Some (Proposes p)) (free : decide_cause (last r).controller p ≡ None) where
+  abbrev told_so : Outcome
+  told_so = record { reply = SentDecision (decided_on (last r).controller p); number = Some (length (last r).messages) }
+
+  abbrev after : World
+  after = with_message (with_record (last r) (decided_on (last r).controller p)) (Decides (decision (last r).controller p))
+
+  abbrev decision_step : Step (last r) (Deliver number) told_so after
+  decision_step =
+      subst (λ (o : Option Message). Delivers (last r) o told_so after) (sym proposed)
+      (subst (λ (o : Option Refusal). DecidesBy o (last r) p told_so after) (sym free) (refl, refl))
+
+  abbrev pub decided_run : Run n
+  decided_run = extend r (Deliver number) told_so after decision_step
+
+  pub ends_deciding : EndsDeciding decided_run p (last r).controller
+  ends_deciding = record {
+    before = r;
+    number = number;
+    outcome = told_so;
+    after = after;
+    step = decision_step;
+    is = refl;
+    proposed = proposed;
+    old_is = refl;
+    next_is = refl;
+    sent = sent_after n (last r).messages (Decides (decision (last r).controller p) ∷ []) (Decides (decision (last r).controller p)) (0, refl);
+  }
+
+-- a decision's record is newer than the one that its proposal names
+pub is_newer : (p : Proposal) (c : LeaderAndIsr) → ShowsDecision p c → p.known.version < (decided_on c p).version
+is_newer p c shows =
+    let n = shows.0 in
+    let r = shows.1 in
+    let ends = shows.2 in
+    let here : last r ≡ ends.after = ap (λ (q : Run n). last q) ends.is in
+    decisions_rise n r (last r) (last_is_of n r) (decision c p) (subst (λ (w : World). IsSent w.messages (Decides (decision c p))) (sym here) ends.sent)
+
+abbrev proposal_in : Message → Proposal → Proposal
+proposal_in (Proposes p) other = p
+proposal_in (Asks r) other = other
+proposal_in (Answers a) other = other
+proposal_in (Decides d) other = other
+
+abbrev Same : Me ℕ View → Me ℕ View → Type 0
+Same a b = a ≡ b
+
+same_proposal : (p q : Proposal) → of_message (Proposes p) ≡ of_message (Proposes q) → p ≡ q
+same_proposal p q e = ap (λ (v : View). proposal_in (message_view v) p) e
+
+module _ (n : ℕ) (id : ℕ) (m : Me ℕ View) (p : Proposal) (is : m.0 ≡ of_message (Proposes p)) (s : State ℕ View) (d : Ruled n s) (at : get_elem? s.views id ≡ some m.0) where
+  abbrev now : LeaderAndIsr
+  now = (last d.run).controller
+
+  proposed : IsSent (last d.run).messages (Proposes p)
+  proposed = subst (Fits d.run d.owner s.words id) is (d.seats id m.0 at)
+
+  abbrev Picks : Option Refusal → ℕ → Type 0
+  Picks o word = (w : View) × (a : Act ℕ) × Valid s.homes m.1 a × Ruled n (stepped s 0 word id m.1 w a)
+      × ((l : Message) × Same (w, carried_after m.1 a) (of_message l, m.1) × ShowsAfter o now p l)
+
+  -- the view after the step, by the cause that refuses the decision
+  picks : (o : Option Refusal) (word : ℕ) → decide_cause now p ≡ o → word ≡ packed (unless_refused o (decided_on now p) now) → Picks o word
+  picks None word free to =
+      let sent = proposed in
+      let l : Message = Decides (decision now p) in
+      let q : Run n = decided_run d.run sent.0 p sent.1 free in
+      let words' : List ℕ = set s.words 0 word in
+      let there : 0 < length s.words = (let a = d.wide in omega arith) in
+      let others = λ (j : ℕ). get_or-set_other s.words 0 (mark_word j) word 0 (λ e. omega arith) in
+      let later = record_on d.run q d.owner s.words words' id (λ w a. inr a) (λ w a. a) (λ j. refl) (λ x t. sent_before (last d.run).messages (l ∷ []) x t) others in (
+        of_message l,
+        keeps,
+        tt,
+        keeps_rule s d q words' id (of_message l) later (length-set s.words 0 word) (get_or-set_same s.words 0 word 0 there ∙ to)
+            (λ j i. subst (WasWatermark q j) (sym (others j)) (let w = d.marks j i in (w.0, inr w.1, w.2)))
+            (sent_after n (last d.run).messages (l ∷ []) l (0, refl)),
+        (l, refl, (refl, (n, q, ends_deciding d.run sent.0 p sent.1 free))),
+      )
+  picks (Some refusal) word full to = (
+    of_message (Proposes p),
+    keeps,
+    tt,
+    subst (λ (x : ℕ). Ruled n (stepped s 0 x id m.1 (of_message (Proposes p)) keeps)) (sym (to ∙ sym d.record_is)) (looks_on s d 0 id (of_message (Proposes p)) proposed),
+    (Proposes p, refl, (refl, (n, d.run, proposed, refl))),
+  )
+
+  pub decides : (old new : ℕ) → IsInRange most_nodes p.known → old ≡ packed p.known → new ≡ packed (record_after p.known p)
+      → (w : View) × (a : Act ℕ) × Valid s.homes m.1 a × Ruled n (stepped s 0 (either (eqb (get_or s.words 0 0) old) new (get_or s.words 0 0)) id m.1 w a)
+      × Decided (step 0 0 old new none) m (get_or s.words 0 0) (w, carried_after m.1 a)
+  decides old new range old_is new_is =
+      let found : ℕ = get_or s.words 0 0 in
+      let here = record_word n s d in
+      let x = picks (decide_cause now p) (either (eqb found old) new found) refl
+      ((λ i. either (eqb (d.record_is i) (old_is i)) (new_is i) (d.record_is i)) ∙ word_is now p here.range range) in (
+        x.0,
+        x.1,
+        x.2,
+        x.3,
+        λ q e. let same = same_proposal p q (sym is ∙ e) in
+            subst (λ (z : Proposal). (c : LeaderAndIsr) × IsRecordOfWord c found × ((l : Message) × Same (x.0, carried_after m.1 x.1) (of_message l, m.1) × ShowsAfter (decide_cause c z) c z l)) same (now, here, x.4),
+      )
+
+-- the exchange on word 0 by the pass of a proposal
+pub decides_at : (n slots id : ℕ) (m : Me ℕ View) (p : Proposal) (old new : ℕ) → m.0 ≡ of_message (Proposes p) → IsInRange most_nodes p.known → old ≡ packed p.known → new ≡ packed (record_after p.known p)
+    → Allows (Ruled n) slots id m 0 (λ x. either (eqb x old) new x) (Decided (step slots 0 old new none) m)
+decides_at n slots id m p old new is range old_is new_is s d _ at _ = decides n id m p is s d at old new range old_is new_is

@@ -1,0 +1,21 @@
+use Rattle.std.proofs.Common.{arith, ◌≡◌, ℕ, sym, ap, ◌∙◌}
+use Rattle.atomic_table.specs.Table.{Me}
+use Rattle.kp_model.specs.World.{Message}
+use Rattle.kp_model.specs.Letter.{proposal_of}
+use Rattle.kp_board.specs.Views.{View, of_message}
+use Rattle.kp_board.proofs.Deciding.{decides_at}
+use Rattle.kp_board.proofs.board.Board.exchange_decided.Goals as goal
+
+pub compare_exchange-requires : goal.compare_exchange-requires
+compare_exchange-requires g c =
+    let i = c.self.invariant in
+    let p = c.pass.invariant in
+    let now = c.args.pass.now in
+    let at : c.pass.inside.seat.me.0 ≡ of_message now = ap (λ (m : Me ℕ View). m.0) p.1 ∙ ap (λ (x : Message). let v : View = of_message x in v) c.pass.view_is in
+    let same = ap (λ z. z.words) i.0 in
+    let w = i.2 in (
+      p.0 ∙ sym i.0,
+      omega arith,
+      decides_at c.self.inside.table.shared.key c.self.inside.table.shared.table_id.slots c.pass.inside.seat.id c.pass.inside.seat.me (proposal_of c.args.proposal.now) c.pack-old.result c.word_after-new.result
+          (at ∙ ap (λ (x : Message). let v : View = of_message x in v) c.requires) c.is_in_range.ensures c.pack-old.ensures c.word_after-new.ensures,
+    )
