@@ -9,6 +9,7 @@ use crate::shown::unrefused;
 use kp_board::{Board, BoardName, Opened, Pass};
 use kp_cluster::{Cluster, Gate, Open, start};
 use kp_node::Node;
+use kp_replica::IsrChange;
 use kp_race::{Outcome, Plan, nodes_of, run_race, stop_all};
 use kp_transport::{Carry, Channels, Choice, Parcel, Rough, Waiting, Watched};
 use kp_types::{Limits, MAX_BATCH, NodeId, Refusal};
@@ -122,7 +123,7 @@ fn started<
     whole_or_none(rt, start(rt, alloc, shares, carrier, gate))
 }
 
-// Workers of three nodes over plain channels.
+// Workers of three nodes and the controller over plain channels.
 fn over_channels<
     B: BoardName + Send + Sync + 'static,
     R: Threads + Wait + Copy + Drop + Send + Sync + 'static,
@@ -133,7 +134,7 @@ fn over_channels<
     nodes: &Vec<Shared<B>>,
     gate: Arc<G, Global>,
 ) -> Result<Cluster<B, Channels<Parcel<B>, R>>, Refusal> {
-    let carrier = Arc::new(alloc, Channels::new(*rt, alloc, 3)?)?;
+    let carrier = Arc::new(alloc, Channels::new(*rt, alloc, 4)?)?;
     started(rt, alloc, nodes, carrier, gate)
 }
 
@@ -259,7 +260,7 @@ fn turn_until<B: BoardName, R: Wait, C: Carry<Parcel<B>>>(
     Ok(false)
 }
 
-// Channels between three places, that count into `waiting`.
+// Channels between the places of three nodes and the controller, that count into `waiting`.
 type Counting<B, R> = Watched<Channels<Parcel<B>, R>>;
 
 fn counting_channels<B: BoardName, R: Wait + Copy + Drop>(
@@ -267,7 +268,7 @@ fn counting_channels<B: BoardName, R: Wait + Copy + Drop>(
     alloc: Global,
     waiting: &Arc<Waiting, Global>,
 ) -> Result<Counting<B, R>, Refusal> {
-    let channels = Channels::new(*rt, alloc, 3)?;
+    let channels = Channels::new(*rt, alloc, 4)?;
     let shared = Arc::try_clone(waiting)?;
     Ok(Watched::new(channels, shared))
 }
@@ -361,6 +362,59 @@ fn a_batch_comes_to_all_nodes(rt: HostRuntime) {
         let found = read_back::<Brand, HostRuntime>(&rt, alloc, board_of(&rt, alloc, 3), choices);
         assert_eq!(rt; found, Ok(true));
     }
+}
+
+// Has node 0 ask the controller, at place 3, that node 2 leaves, until it has learned that. Says whether that came.
+fn ask_until_gone<B: BoardName, R: Wait, C: Carry<Parcel<B>>>(
+    rt: &R,
+    leader: &Mutex<Node<B>>,
+    carrier: &C,
+    waiting: &Waiting,
+) -> Result<bool, Refusal> {
+    for _ in 0..ROUNDS {
+        let asked = leader.lock(rt).alter(IsrChange::Leave(2));
+        match asked {
+            Ok(proposal) => carrier.send(3, Parcel::Message(proposal))?,
+            Err(refusal) => return Ok(refusal == Refusal::NotInSync),
+        }
+        waiting.settle(0, 10_000);
+    }
+    Ok(false)
+}
+
+// Whether workers let node 2 leave.
+fn leaves<
+    B: BoardName + Send + Sync + 'static,
+    R: Threads + Wait + Copy + Drop + Send + Sync + 'static,
+>(rt: &R, alloc: Global, nodes: &Vec<Shared<B>>) -> Result<bool, Refusal> {
+    let gate = Arc::new(alloc, Open)?;
+    let waiting = Arc::new(alloc, Waiting::new())?;
+    let carrier = Arc::new(alloc, counting_channels(rt, alloc, &waiting)?)?;
+    let leader = nodes.first().ok_or(Refusal::BadCount)?;
+    let cluster = started(rt, alloc, nodes, Arc::try_clone(&carrier)?, gate)?;
+    let is_gone = ask_until_gone(rt, &**leader, &*carrier, &*waiting);
+    stop_all(rt, cluster);
+    is_gone
+}
+
+// Whether node 2 leaves and the record says so, by one change.
+fn is_recorded<
+    B: BoardName + Send + Sync + 'static,
+    R: Threads + Wait + Copy + Drop + Send + Sync + 'static,
+>(rt: &R, alloc: Global, opened: Opened) -> Result<bool, Refusal>
+    requires { opened ≡ B.table }
+{
+    let (board, nodes) = led::<B, R>(rt, alloc, opened)?;
+    let is_gone = leaves(rt, alloc, &nodes)?;
+    let record = board.record(&mut board.pass());
+    Ok(is_gone && record.version == 2 && !record.isr.contains(2))
+}
+
+#[test]
+fn the_controller_is_a_worker(rt: HostRuntime) {
+    let alloc = rt.alloc();
+    let found = is_recorded::<Brand, HostRuntime>(&rt, alloc, board_of(&rt, alloc, 3));
+    assert_eq!(rt; found, Ok(true));
 }
 
 // Two producers of ten batches each, and five elections.

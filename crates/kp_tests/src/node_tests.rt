@@ -9,8 +9,9 @@ use crate::logs::batch_of;
 use crate::shown::is;
 use bytes::Bytes;
 use kp_batch::Handed;
-use kp_control::LeaderAndIsr;
+use kp_control::{decided, elected, pack, unpack};
 use kp_marker::{HandedMarker, Kind, Marker};
+use kp_model::{LeaderAndIsr, Proposal};
 use kp_replica::{Act, Answer, PlainAct, Receipt};
 use kp_script::{Call, Line, push_trace};
 use kp_types::{Limits, MAX_BATCH, NodeId, Refusal};
@@ -50,13 +51,13 @@ fn trace_of(alloc: Global, outcomes: &[Result<EventAnswer, Refusal>]) -> Result<
 // The word of three nodes' record, at the start and after an election.
 fn words() -> Result<[u64; 2], Refusal> {
     let initial = LeaderAndIsr::initial(3);
-    Ok([initial.pack(), initial.elected(0)?.pack()])
+    Ok([pack(&initial), pack(&elected(&initial, 0)?)])
 }
 
 // The version after one more election of the record that has this word.
 fn version_after(word: u64) -> Option<Result<u32, Refusal>> {
-    let record = LeaderAndIsr::unpack(word)?;
-    Some(record.elected(0).map(|changed| changed.version))
+    let record = unpack(word)?;
+    Some(elected(&record, 0).map(|changed| changed.version))
 }
 
 #[test]
@@ -67,6 +68,28 @@ fn a_record_is_one_word(rt: HostRuntime) {
         version_after(0xf070_0000_0fff_ffff),
         Some(Err(Refusal::RecordFull))
     );
+}
+
+// The word of the record that stands after a proposal that node 1 leaves, by a leader that knows the record of the first word.
+fn word_decided(known: u64, current: u64) -> Option<Result<u64, Refusal>> {
+    let known = unpack(known)?;
+    let isr = known.isr.without(1);
+    let proposal = Proposal {
+        from: 0,
+        known,
+        isr,
+    };
+    let decision = decided(&unpack(current)?, &proposal);
+    Some(decision.map(|made| pack(&made.decided)))
+}
+
+// By the greatest version but one, and by the greatest.
+#[test]
+fn a_proposal_is_followed_by_the_record_that_it_names(rt: HostRuntime) {
+    let (last, full) = (0xf070_0000_0fff_fffe, 0xf070_0000_0fff_ffff);
+    assert_eq!(rt; word_decided(last, last), Some(Ok(0xf050_0000_0fff_ffff)));
+    assert_eq!(rt; word_decided(last, full), Some(Ok(full)));
+    assert_eq!(rt; word_decided(full, full), Some(Err(Refusal::RecordFull)));
 }
 
 // Of which a segment has room for one batch of 69 bytes.

@@ -3,9 +3,12 @@
 use crate::logs::{LIMITS, batch_of};
 use crate::node_tests::bytes_of;
 use kp_batch::Batch;
-use kp_control::LeaderAndIsr;
+use kp_control::{decided, elected};
 use kp_log::PartitionLog;
-use kp_model::{Answered, EpochEnd, FetchAnswer, FetchRequest, Fetched, MessageBody};
+use kp_model::{
+    Answered, EpochEnd, FetchAnswer, FetchRequest, Fetched, LeaderAndIsr, MessageBody, NodeSet,
+    Proposal,
+};
 use kp_replica::{Act, Answer, Broker, Effect, IsrChange, PlainAct, Role};
 use kp_types::{Epoch, NodeId, Offset, Refusal};
 use std::alloc::{AllocError, Global};
@@ -20,7 +23,7 @@ type Asked = (Epoch, Offset, Option<Epoch>);
 #[derive(Clone, Copy)]
 pub(crate) enum Call {
     Elect(NodeId),
-    /// The record and that before the last election change places.
+    /// The record and that before its last change change places.
     SwapRecords,
     Adopt(NodeId),
     /// A client hands the node the batch of a word.
@@ -29,6 +32,8 @@ pub(crate) enum Call {
     Ask(NodeId),
     /// The message of this number gets to where it goes. It stays, and may come again.
     Deliver(usize),
+    /// The message of this number gets to this node, whoever it is for.
+    Hand(NodeId, usize),
     /// Node 0 gets such a request of node 1.
     Fetch(Epoch, Offset, Option<Epoch>),
     /// Node 1 gets an answer that no leader made: to such a request, with these batches and this watermark.
@@ -36,7 +41,7 @@ pub(crate) enum Call {
     /// Node 1 gets an answer that no leader made: to such a request of this life, that the logs diverge, with this end.
     Part(Asked, u64, Option<(Epoch, Offset)>),
     Raise(NodeId),
-    /// The node, a leader, changes the in-sync replicas.
+    /// The node, a leader, asks for a change of the in-sync replicas.
     Alter(NodeId, IsrChange),
     Checkpoint(NodeId),
     Stop(NodeId),
@@ -44,7 +49,7 @@ pub(crate) enum Call {
     Show(NodeId),
 }
 
-/// The controller's record, that before the last election, the nodes, each in its place, and all messages that were sent.
+/// The controller's record, that before its last change, the nodes, each in its place, and all messages that were sent.
 #[derive(Drop)]
 struct Play {
     record: LeaderAndIsr,
@@ -79,22 +84,48 @@ pub(crate) fn push_role(text: &mut String, role: Role) -> Result<(), AllocError>
     }
 }
 
+/// Appends the in-sync replicas of this version.
+fn push_isr(text: &mut String, isr: &NodeSet, version: u32) -> Result<(), AllocError> {
+    text.push_str("isr")?;
+    for node in 0..7 {
+        if isr.contains(node) {
+            write!(text, " {node}")?;
+        }
+    }
+    write!(text, " version {version}")
+}
+
+fn push_request(text: &mut String, request: &FetchRequest) -> Result<(), AllocError> {
+    match request.last_epoch {
+        Some(epoch) => write!(text, "asks from {} epoch {epoch}", request.offset),
+        None => write!(text, "asks from {} no epoch", request.offset),
+    }
+}
+
+fn push_answered(text: &mut String, answered: &Answered) -> Result<(), AllocError> {
+    match answered {
+        Answered::Batches(fetched) => {
+            let (count, watermark) = (fetched.batches.len(), fetched.watermark);
+            write!(text, "batches {count} mark {watermark}")
+        }
+        Answered::Diverging(Some(found)) => {
+            write!(text, "diverges epoch {} end {}", found.epoch, found.end)
+        }
+        Answered::Diverging(None) => text.push_str("diverges no epoch"),
+    }
+}
+
+fn push_proposal(text: &mut String, proposal: &Proposal) -> Result<(), AllocError> {
+    text.push_str("proposes ")?;
+    push_isr(text, &proposal.isr, proposal.known.version)
+}
+
 pub(crate) fn push_body(text: &mut String, body: &MessageBody) -> Result<(), AllocError> {
     match body {
-        MessageBody::FetchRequest(request) => match request.last_epoch {
-            Some(epoch) => write!(text, "asks from {} epoch {epoch}", request.offset),
-            None => write!(text, "asks from {} no epoch", request.offset),
-        },
-        MessageBody::FetchAnswer(answer) => match &answer.answered {
-            Answered::Batches(fetched) => {
-                let (count, watermark) = (fetched.batches.len(), fetched.watermark);
-                write!(text, "batches {count} mark {watermark}")
-            }
-            Answered::Diverging(Some(found)) => {
-                write!(text, "diverges epoch {} end {}", found.epoch, found.end)
-            }
-            Answered::Diverging(None) => text.push_str("diverges no epoch"),
-        },
+        MessageBody::FetchRequest(request) => push_request(text, request),
+        MessageBody::FetchAnswer(answer) => push_answered(text, &answer.answered),
+        MessageBody::Proposal(proposal) => push_proposal(text, proposal),
+        MessageBody::Decision(decision) => push_record(text, &decision.decided),
     }
 }
 
@@ -139,6 +170,7 @@ fn push_answer(text: &mut String, node: &Broker, answer: &Answer) -> Result<(), 
         Answer::Appended(receipt) => write!(text, "at {}", receipt.base),
         Answer::Took(taken) => write!(text, "end {} mark {}", taken.end, taken.watermark),
         Answer::Cut(cut) => write!(text, "cut {}", cut.end),
+        Answer::Learned(learned) => push_isr(text, &learned.isr, learned.version),
         Answer::Watermark(watermark) => write!(text, "mark {watermark}"),
         Answer::Checkpoint(checkpoint) => write!(text, "checkpoint {checkpoint}"),
         Answer::Stopped => text.push_str("stopped"),
@@ -218,7 +250,6 @@ impl Play {
         match effect {
             Effect::Answers(answer) => self.tell_answer(text, node, &answer),
             Effect::Sends(body) => self.send(text, body),
-            Effect::Changes(record) => self.change(text, record),
         }
     }
 
@@ -237,18 +268,46 @@ impl Play {
         &mut self,
         alloc: Global,
         text: &mut String,
+        node: NodeId,
         body: &MessageBody,
     ) -> Result<(), Refusal> {
-        let node = body.addressee();
         let effect = broker(&mut self.nodes, node)?.receive(alloc, &self.record, body)?;
         self.tell(text, node, effect)
+    }
+
+    // The proposal comes to the controller.
+    fn decide(&mut self, text: &mut String, proposal: &Proposal) -> Result<(), Refusal> {
+        let decision = decided(&self.record, proposal)?;
+        if decision.decided != self.record {
+            self.before = self.record;
+            self.record = decision.decided;
+        }
+        self.send(text, MessageBody::Decision(decision))
     }
 
     fn deliver(&mut self, alloc: Global, text: &mut String, number: usize) -> Result<(), Refusal> {
         let Some(body) = self.mail.get(number) else {
             return Err(Refusal::BadCount);
         };
-        let node = body.addressee();
+        if let MessageBody::Proposal(proposal) = body {
+            let proposal = *proposal;
+            return self.decide(text, &proposal);
+        }
+        let node = body.addressee().ok_or(Refusal::BadCount)?;
+        self.hand(alloc, text, node, number)
+    }
+
+    // The message comes to this node, whoever it is for.
+    fn hand(
+        &mut self,
+        alloc: Global,
+        text: &mut String,
+        node: NodeId,
+        number: usize,
+    ) -> Result<(), Refusal> {
+        let Some(body) = self.mail.get(number) else {
+            return Err(Refusal::BadCount);
+        };
         let effect = broker(&mut self.nodes, node)?.receive(alloc, &self.record, body)?;
         self.tell(text, node, effect)
     }
@@ -262,30 +321,7 @@ impl Play {
         answered: Answered,
     ) -> Result<(), Refusal> {
         let answer = FetchAnswer { request, answered };
-        self.receive(alloc, text, &MessageBody::FetchAnswer(answer))
-    }
-
-    // What the leader makes of the record that it knows is what it said before that it would make.
-    fn alter(
-        &mut self,
-        alloc: Global,
-        text: &mut String,
-        node: NodeId,
-        change: IsrChange,
-    ) -> Result<(), Refusal> {
-        let foreseen = self.foreseen(node, change);
-        self.plain(alloc, text, node, PlainAct::Alter { change })?;
-        if foreseen? != self.record {
-            return Err(Refusal::BadCount);
-        }
-        Ok(())
-    }
-
-    fn foreseen(&mut self, node: NodeId, change: IsrChange) -> Result<LeaderAndIsr, Refusal> {
-        match broker(&mut self.nodes, node)? {
-            Broker::Up(replica) => replica.would_alter(change),
-            Broker::Down(kept) => Err(kept.refusal()),
-        }
+        self.receive(alloc, text, 1, &MessageBody::FetchAnswer(answer))
     }
 
     fn plain(
@@ -299,7 +335,7 @@ impl Play {
     }
 
     fn elect(&mut self, text: &mut String, node: NodeId) -> Result<(), Refusal> {
-        let elected = self.record.elected(node)?;
+        let elected = elected(&self.record, node)?;
         self.change(text, elected)
     }
 
@@ -337,7 +373,7 @@ impl Play {
         match call {
             Call::Fetch(epoch, offset, last) => {
                 let request = fetch_request((*epoch, *offset, *last), 0);
-                self.receive(alloc, text, &MessageBody::FetchRequest(request))
+                self.receive(alloc, text, 0, &MessageBody::FetchRequest(request))
             }
             Call::Take(asked, batches, watermark) => {
                 self.take(alloc, text, *asked, batches, *watermark)
@@ -360,9 +396,13 @@ impl Play {
             Call::Append(node, word) => self.append(alloc, text, *node, word),
             Call::Ask(node) => self.plain(alloc, text, *node, PlainAct::Ask),
             Call::Deliver(number) => self.deliver(alloc, text, *number),
+            Call::Hand(node, number) => self.hand(alloc, text, *node, *number),
             Call::Fetch(..) | Call::Take(..) | Call::Part(..) => self.forged(alloc, text, call),
             Call::Raise(node) => self.plain(alloc, text, *node, PlainAct::Raise),
-            Call::Alter(node, change) => self.alter(alloc, text, *node, *change),
+            Call::Alter(node, change) => {
+                let change = *change;
+                self.plain(alloc, text, *node, PlainAct::Alter { change })
+            }
             Call::Checkpoint(node) => self.plain(alloc, text, *node, PlainAct::Checkpoint),
             Call::Stop(node) => self.plain(alloc, text, *node, PlainAct::Stop),
             Call::Restart(node) => self.plain(alloc, text, *node, PlainAct::Restart),

@@ -1,4 +1,4 @@
-//! Nodes that stop, start again, and change the in-sync replicas, over the calls of a node alone.
+//! Nodes that stop, start again, and ask for other in-sync replicas, over the calls of a node alone.
 
 use crate::exchange_tests::is_one_of;
 use crate::played::{Call, played};
@@ -9,7 +9,7 @@ use kp_types::{Limits, MAX_BATCH, Refusal};
 use std::alloc::{AllocError, Global};
 
 // A leader whose high watermark is 7, and which began to lead at 10.
-static CAUGHT_UP: [Call; 12] = [
+static CAUGHT_UP: [Call; 14] = [
     Call::Elect(0),
     Call::Adopt(0),
     Call::Append(0, "d9.0.0.3"),
@@ -22,29 +22,80 @@ static CAUGHT_UP: [Call; 12] = [
     Call::Elect(0),
     Call::Adopt(0),
     Call::Alter(0, IsrChange::Leave(1)),
+    Call::Deliver(1),
+    Call::Deliver(2),
 ];
 
-// A node that has told nothing, then an end below the start, then one at the start; under another record, and again.
-static JOINS: [Call; 9] = [
+// A node that has told nothing, then an end below the start, then one at the start; a proposal under another record, another
+// change while it is pending, and the same again; the decision once more, one of a moved record, and calls of who doesn't lead.
+static JOINS: [Call; 20] = [
     Call::Alter(0, IsrChange::Join(1)),
     Call::Fetch(1, 8, Some(0)),
     Call::Alter(0, IsrChange::Join(1)),
     Call::Fetch(1, 10, Some(0)),
-    Call::SwapRecords,
     Call::Alter(0, IsrChange::Join(1)),
     Call::SwapRecords,
+    Call::Deliver(5),
+    Call::Deliver(6),
+    Call::Alter(0, IsrChange::Leave(1)),
+    Call::SwapRecords,
     Call::Alter(0, IsrChange::Join(1)),
+    Call::Deliver(7),
+    Call::Deliver(8),
+    Call::Deliver(8),
+    Call::Alter(0, IsrChange::Leave(1)),
+    Call::Elect(0),
+    Call::Deliver(9),
+    Call::Deliver(10),
+    Call::Hand(0, 9),
     Call::Alter(1, IsrChange::Leave(0)),
 ];
 
 static JOINS_TOLD: &str =
-    "F23 NotCaughtUp\nsent 1 batches 1 mark 7\nF23 NotCaughtUp\nsent 2 batches 0 mark 7\n\
-     record leader 0 epoch 1 version 2\nF22 StaleRecord\nrecord leader 0 epoch 1 version 3\n\
-     record leader 0 epoch 1 version 4\nF15 NotLeader\n";
+    "F23 NotCaughtUp\nsent 3 batches 1 mark 7\nF23 NotCaughtUp\nsent 4 batches 0 mark 7\n\
+     sent 5 proposes isr 0 1 version 3\nrecord leader 0 epoch 1 version 2\nsent 6 record leader 0 epoch 1 version 2\n\
+     F29 StaleAnswer\nF34 ChangePending\nrecord leader 0 epoch 1 version 3\nsent 7 proposes isr 0 1 version 3\n\
+     sent 8 record leader 0 epoch 1 version 4\nisr 0 1 version 4\nF29 StaleAnswer\nsent 9 proposes isr 0 version 4\n\
+     record leader 0 epoch 2 version 5\nsent 10 record leader 0 epoch 2 version 5\nF22 StaleRecord\nF29 StaleAnswer\n\
+     F15 NotLeader\n";
 
 #[test]
 fn a_node_joins_where_it_has_caught_up(rt: HostRuntime) {
     is(&rt, played(rt.alloc(), 2, &CAUGHT_UP, &JOINS), JOINS_TOLD);
+}
+
+// Node 0 leads with node 1, and both stop and start again, before the decision comes to node 0, which leads no more; then it is
+// elected anew, and the decision comes again.
+static BOTH_RESTART: [Call; 18] = [
+    Call::Elect(0),
+    Call::Adopt(0),
+    Call::Adopt(1),
+    Call::Alter(0, IsrChange::Leave(1)),
+    Call::Stop(0),
+    Call::Hand(0, 0),
+    Call::Restart(0),
+    Call::Adopt(0),
+    Call::Stop(1),
+    Call::Restart(1),
+    Call::Adopt(1),
+    Call::Deliver(0),
+    Call::Deliver(1),
+    Call::Elect(0),
+    Call::Adopt(0),
+    Call::Deliver(1),
+    Call::Raise(0),
+    Call::Adopt(0),
+];
+
+static BOTH_TOLD: &str = "record leader 0 epoch 0 version 1\nleads epoch 0 from 0\nfollows 0 epoch 0\n\
+     sent 0 proposes isr 0 version 1\nstopped\nF28 Down\nend 0 mark 0 life 1\nF22 StaleRecord\nstopped\n\
+     end 0 mark 0 life 1\nfollows 0 epoch 0\nsent 1 record leader 0 epoch 0 version 2\n\
+     F15 NotLeader\nrecord leader 0 epoch 1 version 3\nleads epoch 1 from 0\nF22 StaleRecord\nmark 0\nF22 StaleRecord\n";
+
+#[test]
+fn a_restarted_leader_is_elected_anew(rt: HostRuntime) {
+    let alloc = rt.alloc();
+    is(&rt, played(alloc, 2, &[], &BOTH_RESTART), BOTH_TOLD);
 }
 
 // Node 1 has a batch, and notes the watermark 1.
@@ -97,7 +148,7 @@ const LIMITS: Limits = Limits {
 // A node with an empty log that is down, in this life.
 fn kept_in(alloc: Global, life: u64) -> KeptNode {
     let log = PartitionLog::new(alloc, &LIMITS);
-    KeptNode::of(0, log.close(Vec::new(alloc), 0), 0, life)
+    KeptNode::of(0, log.close(Vec::new(alloc), 0), 0, life, None)
 }
 
 fn push_restart(text: &mut String, refused: Option<Refusal>, life: u64) -> Result<(), AllocError> {

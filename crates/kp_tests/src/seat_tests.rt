@@ -28,13 +28,18 @@ fn a_batch_is_read_back(rt: HostRuntime) {
     is(&rt, seated(rt.alloc(), 1, &[], &READ), READ_TOLD);
 }
 
-static CHANGED: [Turn; 18] = [
+static CHANGED: [Turn; 23] = [
     Turn::Alter(0, IsrChange::Leave(1)),
     Turn::Elect(0),
     Turn::Adopt(0),
     Turn::Alter(0, IsrChange::Join(1)),
     Turn::Alter(0, IsrChange::Leave(1)),
     Turn::Record,
+    Turn::Deliver(0),
+    Turn::Record,
+    Turn::Alter(0, IsrChange::Join(1)),
+    Turn::Hand(1, 0),
+    Turn::Deliver(1),
     Turn::Elect(0),
     Turn::Alter(0, IsrChange::Leave(1)),
     Turn::Elect(1),
@@ -50,8 +55,9 @@ static CHANGED: [Turn; 18] = [
 ];
 
 static CHANGED_TOLD: &str =
-    "F15 NotLeader\nrecord leader 0 epoch 0 version 1\nleads epoch 0 from 0\nF23 NotCaughtUp\nrecord leader 0 epoch 0 version 2\n\
-     record leader 0 epoch 0 version 2\nrecord leader 0 epoch 1 version 3\nF21 NotInSync\nF21 NotInSync\nat 0\nmark 1\n\
+    "F15 NotLeader\nrecord leader 0 epoch 0 version 1\nleads epoch 0 from 0\nF23 NotCaughtUp\nsent 0 proposes isr 0 version 1\n\
+     record leader 0 epoch 0 version 1\nsent 1 record leader 0 epoch 0 version 2\nrecord leader 0 epoch 0 version 2\n\
+     F34 ChangePending\nF29 StaleAnswer\ntaken\nrecord leader 0 epoch 1 version 3\nF21 NotInSync\nF21 NotInSync\nat 0\nmark 1\n\
      checkpoint 1\nstopped\nF28 Down\nF28 Down\nlife 1 end 1 mark 1\nF28 Down\nmark 1\n";
 
 #[test]
@@ -60,7 +66,7 @@ fn a_change_is_shown(rt: HostRuntime) {
 }
 
 // Node 0 leads and has two batches, of which node 1 has the first; node 1 is elected and commits another second one.
-static DIVERGED: [Turn; 16] = [
+static DIVERGED: [Turn; 18] = [
     Turn::Elect(0),
     Turn::Adopt(0),
     Turn::Adopt(1),
@@ -72,37 +78,48 @@ static DIVERGED: [Turn; 16] = [
     Turn::Elect(1),
     Turn::Adopt(1),
     Turn::Alter(1, IsrChange::Leave(0)),
+    Turn::Deliver(2),
+    Turn::Deliver(3),
     Turn::Append(1, "p30"),
     Turn::Raise(1),
     Turn::Adopt(0),
     Turn::Ask(0),
-    Turn::Deliver(2),
+    Turn::Deliver(4),
 ];
 
 static DIVERGED_TOLD: &str =
     "record leader 0 epoch 0 version 1\nleads epoch 0 from 0\nfollows 0 epoch 0\nat 0\nsent 0 asks from 0 no epoch\n\
      sent 1 batches 1 mark 0\ntaken\nat 1\nrecord leader 1 epoch 1 version 2\nleads epoch 1 from 1\n\
-     record leader 1 epoch 1 version 3\nat 1\nmark 2\nfollows 1 epoch 1\nsent 2 asks from 2 epoch 0\n\
-     sent 3 diverges epoch 0 end 1\n";
+     sent 2 proposes isr 1 version 2\nsent 3 record leader 1 epoch 1 version 3\ntaken\nat 1\nmark 2\nfollows 1 epoch 1\n\
+     sent 4 asks from 2 epoch 0\nsent 5 diverges epoch 0 end 1\n";
 
-static CUT: [Turn; 12] = [
-    Turn::Deliver(3),
-    Turn::Alter(1, IsrChange::Join(0)),
-    Turn::Ask(0),
-    Turn::Deliver(4),
-    Turn::Alter(1, IsrChange::Join(0)),
+// Node 0 cuts, and joins once it has caught up; the proposal and its decision come twice.
+static CUT: [Turn; 18] = [
     Turn::Deliver(5),
-    Turn::Deliver(5),
+    Turn::Alter(1, IsrChange::Join(0)),
     Turn::Ask(0),
     Turn::Deliver(6),
     Turn::Alter(1, IsrChange::Join(0)),
+    Turn::Deliver(7),
+    Turn::Deliver(7),
+    Turn::Ask(0),
+    Turn::Decide(8),
+    Turn::Deliver(8),
+    Turn::Alter(1, IsrChange::Join(0)),
+    Turn::Deliver(10),
+    Turn::Deliver(11),
+    Turn::Deliver(10),
+    Turn::Deliver(12),
+    Turn::Record,
     Turn::Read(0, 1),
     Turn::Acked(0),
 ];
 
 static CUT_TOLD: &str =
-    "taken\nF23 NotCaughtUp\nsent 4 asks from 1 epoch 0\nsent 5 batches 1 mark 2\nF23 NotCaughtUp\ntaken\nF29 StaleAnswer\n\
-     sent 6 asks from 2 epoch 1\nsent 7 batches 0 mark 2\nrecord leader 1 epoch 1 version 4\nbatches 1, 1 time 30\nyes\n";
+    "taken\nF23 NotCaughtUp\nsent 6 asks from 1 epoch 0\nsent 7 batches 1 mark 2\nF23 NotCaughtUp\ntaken\nF29 StaleAnswer\n\
+     sent 8 asks from 2 epoch 1\nF29 StaleAnswer\nsent 9 batches 0 mark 2\nsent 10 proposes isr 0 1 version 3\n\
+     sent 11 record leader 1 epoch 1 version 4\ntaken\nsent 12 record leader 1 epoch 1 version 4\nF29 StaleAnswer\n\
+     record leader 1 epoch 1 version 4\nbatches 1, 1 time 30\nyes\n";
 
 #[test]
 fn a_cut_is_shown(rt: HostRuntime) {
@@ -110,7 +127,7 @@ fn a_cut_is_shown(rt: HostRuntime) {
     is(&rt, seated(rt.alloc(), 2, &DIVERGED, &CUT), CUT_TOLD);
 }
 
-static CUT_LATE: [Turn; 3] = [Turn::Elect(1), Turn::Deliver(3), Turn::Ask(0)];
+static CUT_LATE: [Turn; 3] = [Turn::Elect(1), Turn::Deliver(5), Turn::Ask(0)];
 
 // The record has left the epoch in which node 0 asked.
 #[test]
@@ -118,7 +135,7 @@ fn a_cut_of_an_older_record_is_refused(rt: HostRuntime) {
     is(
         &rt,
         seated(rt.alloc(), 2, &DIVERGED, &CUT_LATE),
-        "record leader 1 epoch 2 version 4\nF22 StaleRecord\nsent 4 asks from 2 epoch 0\n",
+        "record leader 1 epoch 2 version 4\nF22 StaleRecord\nsent 6 asks from 2 epoch 0\n",
     );
 }
 
@@ -137,7 +154,7 @@ static RESTARTED: [Turn; 4] = [
     Turn::Stop(0),
     Turn::Restart(0),
     Turn::Adopt(0),
-    Turn::Deliver(3),
+    Turn::Deliver(5),
 ];
 
 static FOLLOWER_RESTARTED: [Turn; 6] = [

@@ -7,8 +7,8 @@ use crate::node_tests::{MARKER, bytes_of};
 use crate::played::{push_record, push_role, push_sent};
 use kp_batch::Batch;
 use kp_board::{Board, BoardName, FreshPass, Message, Opened, Pass};
-use kp_control::LeaderAndIsr;
 use kp_marker::HandedMarker;
+use kp_model::LeaderAndIsr;
 use kp_node::{Ack, Node};
 use kp_replica::{Answer, IsrChange, Receipt};
 use kp_types::{NodeId, Offset, Refusal};
@@ -37,6 +37,10 @@ pub(crate) enum Turn {
     Ask(NodeId),
     /// The message of this number gets to where it goes. It stays, and may come again.
     Deliver(usize),
+    /// The message of this number gets to this node, whoever it is for.
+    Hand(NodeId, usize),
+    /// The message of this number gets to the controller, whoever it is for.
+    Decide(usize),
     Raise(NodeId),
     Alter(NodeId, IsrChange),
     Checkpoint(NodeId),
@@ -85,7 +89,7 @@ fn node_of<B: BoardName>(
 }
 
 // A node for each pass.
-fn nodes_of<B: BoardName>(
+pub(crate) fn nodes_of<B: BoardName>(
     alloc: Global,
     board: &Arc<Board<B>, Global>,
     passes: Vec<FreshPass<B>>,
@@ -147,7 +151,6 @@ fn tell_call<B: BoardName>(
     match turn {
         Turn::Adopt(_) => tell_role(text, node),
         Turn::Raise(_) => tell_mark(text, node.raise()),
-        Turn::Alter(_, change) => tell_record(text, node.alter(*change)),
         Turn::Checkpoint(_) => tell_checkpoint(text, node),
         Turn::Stop(_) => tell_stop(text, node),
         Turn::Restart(_) => tell_restart(text, node),
@@ -191,16 +194,52 @@ impl<B: BoardName> Seats<B> {
 
     fn deliver(&mut self, text: &mut String, number: usize) -> Result<(), Refusal> {
         let message = self.repeated(number)?;
-        let addressee = message.body.addressee();
-        match self.node(addressee)?.step(message)? {
+        match message.body.addressee() {
+            Some(node) => self.step(text, node, message),
+            None => self.send_decision(text, message),
+        }
+    }
+
+    fn step(
+        &mut self,
+        text: &mut String,
+        node: NodeId,
+        message: Message<B>,
+    ) -> Result<(), Refusal> {
+        match self.node(node)?.step(message)? {
             Some(answer) => self.send(text, answer),
             None => Ok(text.push_str("taken")?),
         }
     }
 
+    fn decide(&mut self, text: &mut String, number: usize) -> Result<(), Refusal> {
+        let message = self.repeated(number)?;
+        self.send_decision(text, message)
+    }
+
+    fn send_decision(&mut self, text: &mut String, message: Message<B>) -> Result<(), Refusal> {
+        let decision = self.board.decide(message)?;
+        self.send(text, decision)
+    }
+
+    fn hand(&mut self, text: &mut String, node: NodeId, number: usize) -> Result<(), Refusal> {
+        let message = self.repeated(number)?;
+        self.step(text, node, message)
+    }
+
     fn ask(&mut self, text: &mut String, node: NodeId) -> Result<(), Refusal> {
         let request = self.node(node)?.ask()?;
         self.send(text, request)
+    }
+
+    fn alter(
+        &mut self,
+        text: &mut String,
+        node: NodeId,
+        change: IsrChange,
+    ) -> Result<(), Refusal> {
+        let proposal = self.node(node)?.alter(change)?;
+        self.send(text, proposal)
     }
 
     fn append(
@@ -286,9 +325,11 @@ impl<B: BoardName> Seats<B> {
             Turn::Meet(node) => self.meet(text, pass, *node),
             Turn::Ask(node) => self.ask(text, *node),
             Turn::Deliver(number) => self.deliver(text, *number),
+            Turn::Hand(node, number) => self.hand(text, *node, *number),
+            Turn::Decide(number) => self.decide(text, *number),
+            Turn::Alter(node, change) => self.alter(text, *node, *change),
             Turn::Adopt(node)
             | Turn::Raise(node)
-            | Turn::Alter(node, _)
             | Turn::Checkpoint(node)
             | Turn::Stop(node)
             | Turn::Restart(node) => self.call(text, *node, turn),

@@ -288,7 +288,7 @@ fn carrier_of<B: BoardName, R: Wait + Copy + Drop>(
     refused: Refused,
 ) -> Result<Arc<Carrier<B, R>, Global>, Refusal> {
     let carrier = Refusing {
-        inner: Channels::new(*rt, alloc, 3)?,
+        inner: Channels::new(*rt, alloc, 4)?,
         sends: AtomicU64::new(0),
         from: refused.from,
         to: refused.to,
@@ -319,7 +319,7 @@ fn start_and_stop<
     })
 }
 
-// Starts three workers, gives node 0 a turn, and stops them.
+// Starts the workers of three nodes and the controller, gives node 0 a turn, and stops them.
 fn stopped_after<
     B: BoardName + Send + Sync + 'static,
     R: Threads + Wait + Copy + Drop + Send + Sync + 'static,
@@ -332,16 +332,17 @@ fn stopped_after<
 }
 
 // A turn is one send, each worker that started is told by one more, and each refused send is one more; a refused one ends a `stop`.
-// In each row: the place whose thread is refused, the numbers of the refused sends, whether start and turn are answered by Ok, how many
+// Place 3 is the controller's. In each row: the place whose thread is refused, the numbers of the refused sends, whether start and turn are answered by Ok, how many
 // stops, and how many sends.
-static REFUSALS: [(NodeId, (u64, u64), (bool, bool), u32, u64); 8] = [
+static REFUSALS: [(NodeId, (u64, u64), (bool, bool), u32, u64); 9] = [
     (0, (0, 0), (false, true), 1, 1),
     (1, (0, 0), (false, true), 1, 2),
     (2, (0, 0), (false, true), 1, 3),
-    (3, (0, 0), (true, true), 1, 4),
-    (3, (0, 1), (true, false), 1, 4),
-    (3, (2, 3), (true, true), 2, 5),
-    (3, (2, 4), (true, true), 3, 6),
+    (3, (0, 0), (false, true), 1, 4),
+    (4, (0, 0), (true, true), 1, 5),
+    (4, (0, 1), (true, false), 1, 5),
+    (4, (2, 3), (true, true), 2, 6),
+    (4, (2, 4), (true, true), 3, 7),
     (2, (1, 2), (false, true), 2, 4),
 ];
 
