@@ -75,9 +75,11 @@ impl<B: BoardName> Cluster<B> {
         place.mail.lock(rt).pop_front()
     }
 
-    /// Puts a message to the mail of the node to which it goes.
+    /// Puts a message to the mail of the node to which it goes. No leader here sends the controller any.
     pub(crate) fn post<R: Wait>(&self, rt: &R, message: Message<B>) {
-        if let Some(place) = self.places.get(usize::from(message.body.addressee())) {
+        if let Some(node) = message.body.addressee()
+            && let Some(place) = self.places.get(usize::from(node))
+        {
             let mut mail = place.mail.lock(rt);
             if mail.len() < ROOM {
                 let _posted = mail.push_back(message);
