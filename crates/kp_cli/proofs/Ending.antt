@@ -1,5 +1,5 @@
 -- What a run and an inspection have written.
-use Rattle.std.proofs.Common.{◌≡◌, ◌⊎◌, ◌≤◌, IsSomeAnd, ℕ, List, [], ◌++◌, Option, None, Some, IfSome, Result, Ok, Err, inl, inr, ◌+◌, zero, suc, arith, nat_lt, sym, refl, ap, subst}
+use Rattle.std.proofs.Common.{◌≡◌, ◌⊎◌, ◌≤◌, IsSomeAnd, ℕ, List, Option, None, Some, IfSome, Result, Ok, Err, inl, inr, zero, suc, arith, nat_lt, sym, refl, ap, subst}
 use Rattle.std.proofs.lemmas.Bool.{lt-ltb}
 use mir.Val.{bool_byte}
 use Rattle.std.proofs.KnownBytes.{Keeps-refl}
@@ -12,7 +12,7 @@ use Rattle.kp_script.specs.Transcript.{WritesFront as WritesTraceFront}
 use Rattle.kp_types.specs.declared.refusal.Refusal.{Refusal}
 use Rattle.kp_types.specs.declared.refusal.Refusal.TheVariants as refusals
 use Rattle.kp_types.specs.declared.limits.Limits.{Limits}
-use Rattle.kp_types.specs.Devices.{CountsFault, CountsOne, IsDeviceFault, device_of, faults_of}
+use Rattle.kp_types.specs.Devices.{CountsFault, IsDeviceFault, device_of}
 use Rattle.kp_inspect.specs.Inspected.{WritesFront}
 use Rattle.clap.specs.Words.{IsUnsignedIn, Row, Text}
 use Rattle.std.specs.Str.Parse.{digits_value, without_leading_plus}

@@ -1,6 +1,6 @@
 -- Where nothing refuses the words, they name a call.
 use Rattle.std.proofs.Common.{◌≡◌, ◌∙◌, ◌||◌, ℕ, Bool, cond, true, false, not, refl, sym, List, [], ◌∷◌, length, Option, Some, None, IsSomeAnd, codes, inl, inr, true≢false}
-use Rattle.std.specs.List.{find, fold, list_any, slice_index_or}
+use Rattle.std.specs.List.{find, fold, slice_index_or}
 use Rattle.std.specs.Option.{is_some, option_map, option_map_or}
 use Rattle.std.specs.Prelude.{option_and_then, slice_get}
 use Rattle.std.specs.Str.{bytes_eq}

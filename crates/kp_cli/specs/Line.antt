@@ -6,7 +6,6 @@ use Rattle.clap.specs.Words.{App, IsUnsignedIn, Row, Rule, Text, first_of, new_a
 use Rattle.clap.specs.declared.builder.value_parser.ValueParser.TheVariants.{Unsigned}
 use Rattle.kp_cli.specs.declared.call.Call.{Call}
 use Rattle.kp_cli.specs.declared.call.Call.TheVariants.{Inspect, Race, Run}
-use Rattle.kp_race.specs.declared.outcome.Plan.{Plan}
 
 -- the path of a file, a required word
 abbrev pub file_rule : Rule

@@ -1,14 +1,13 @@
 -- A batch that a line asks for is lawful.
-use Rattle.std.proofs.Common.{◌≡◌, ℕ, ◌+◌, ◌<◌, ◌≤◌, ◌^◌, Bool, true, false, not, ◌&&◌, eqb, leb, ltb, List, [], ◌∷◌, length, map, Option, Some, None, Result, Ok, Err, refl, sym, subst, arith, inl, inr}
+use Rattle.std.proofs.Common.{◌≡◌, ℕ, ◌+◌, ◌<◌, ◌≤◌, ◌^◌, Bool, true, false, not, ◌&&◌, eqb, leb, ltb, List, [], ◌∷◌, length, map, Option, Some, None, Result, Ok, Err, refl, subst, arith, inl, inr}
 use Rattle.std.specs.List.{list_all, AllByRecursion}
 use Rattle.std.proofs.lemmas.List.{length-map}
 use Rattle.std.specs.Option.{ok_or, option_map}
-use Rattle.std.specs.Prelude.{if◌then◌else◌}
 use Rattle.std.proofs.lemmas.Bool.{and_parts, cases_Bool, leb-true, ltb-false}
 use Rattle.kp_types.specs.declared.refusal.Refusal.{Refusal}
 use Rattle.kp_types.specs.declared.refusal.Refusal.TheVariants.{BadProducerFields, TooLarge}
 use Rattle.kp_record.specs.Record.{AreBytes, IsRecord, records_spelling}
-use Rattle.kp_batch.specs.Batch.{Body, Content, IsBody, IsContent, Plain, Produced, contents}
+use Rattle.kp_batch.specs.Batch.{Body, IsBody, Plain, Produced}
 use Rattle.kp_batch.proofs.Cells.{size_is}
 use Rattle.kp_model.specs.Event.{Produce}
 use Rattle.kp_replica.specs.Acts.{plain_act}

@@ -1,5 +1,5 @@
 -- No log of a script's run has a batch above the greatest size.
-use Rattle.std.proofs.Common.{◌≡◌, ℕ, ◌+◌, ◌≤◌, Bool, true, false, ltb, List, [], ◌∷◌, ◌++◌, length, map, Option, Some, None, Result, Ok, Err, refl, sym, subst, arith, inl, inr}
+use Rattle.std.proofs.Common.{◌≡◌, ℕ, ◌+◌, ◌≤◌, Bool, true, false, ltb, List, [], ◌∷◌, length, map, Option, Some, None, Result, Ok, Err, refl, sym, subst, arith, inl, inr}
 use Rattle.std.specs.Prelude.{reverse}
 use Rattle.std.specs.List.{AllByRecursion, range_with_len}
 use Rattle.std.specs.Option.{ok_or, option_map}
@@ -9,17 +9,14 @@ use Rattle.kp_types.specs.declared.refusal.Refusal.{Refusal}
 use Rattle.kp_types.specs.declared.refusal.Refusal.TheVariants.{BadProducerFields, TooLarge}
 use Rattle.kp_types.proofs.Elements.{all_behind, all_front}
 use Rattle.kp_record.specs.Record.{Record, records_spelling}
-use Rattle.kp_batch.specs.Batch.{Body, Content, Plain, Produced, size_of}
+use Rattle.kp_batch.specs.Batch.{Body, Plain, Produced, size_of}
 use Rattle.kp_batch.proofs.Cells.{size_is}
 use Rattle.kp_marker.specs.Marker.{commits}
 use Rattle.kp_marker.proofs.Built.{marker_size}
-use Rattle.kp_log.specs.Partition.{Partition}
-use Rattle.kp_model.specs.Event as model
 use Rattle.kp_model.specs.Event.{Event, Produce}
 use Rattle.kp_model.specs.Handed.{BatchesKeepTheirSize, Hands, IsAtMost}
 use Rattle.kp_model.specs.Local.{marker_body}
 use Rattle.kp_model.specs.Run.{Moment, last}
-use Rattle.kp_model.specs.World.{World}
 use Rattle.kp_model.proofs.RunLaws.{last_is_of}
 use Rattle.kp_replica.specs.Acts.{plain_act}
 use Rattle.kp_replica.specs.Replies.{IsOffer}
@@ -28,7 +25,7 @@ use Rattle.kp_replica.specs.declared.act.PlainAct.TheVariants.{Mark, Alter}
 use Rattle.kp_replica.specs.declared.altering.IsrChange.TheVariants.{Join, Leave}
 use Rattle.kp_world.specs.Shown.{Stage, log_of}
 use Rattle.kp_script.specs.Call.{Call, Header, Sender, Elect, Append, Raw, Acts, Deliver}
-use Rattle.kp_script.specs.Ended.{AreLimited, KeepsLimit, limits_in, logs_in, node_log}
+use Rattle.kp_script.specs.Ended.{AreLimited, KeepsLimit, limits_in, node_log}
 use Rattle.kp_script.specs.Told.{AreTold, IsTold, body_at, offer_of, plain_record, said_of}
 use Rattle.kp_script.specs.Transcript.{largest_batch}
 use Rattle.kp_script.proofs.Lawful.{same_body}

@@ -5,7 +5,7 @@ use Rattle.std.specs.Prelude.{codes, is_ok, OnOk, Result, Ok, Err}
 use Rattle.std.specs.List.{join_with_byte, flat_map, zip}
 use Rattle.std.specs.Fmt.{decimal}
 use Rattle.std.proofs.lemmas.Bool.{false≢true}
-use Rattle.kp_control.specs.Set.{numbers_of}
+use Rattle.kp_model.specs.Set.{numbers_of}
 use Rattle.kp_model.specs.Event.{Line as ModelLine}
 use Rattle.kp_script.specs.Call.{spaced}
 use Rattle.kp_script.specs.Trace.{line_text, lines_text, nodes_text, trace_line, trace_text}
@@ -182,11 +182,10 @@ asks_pushed text a b c now number offset last p q r s =
     s ∙ ap (λ (t : List ℕ). t ++ last) (r ∙ ap (λ (t : List ℕ). t ++ 32 ∷ []) (q ∙ ap (λ (t : List ℕ). t ++ (codes " asks from " ++ decimal offset)) p))
     ∙ simp append_assoc
 
--- what a leader says whose log has parted from the follower's
-pub diverges_pushed : (text a b now : List ℕ) (number : ℕ) (end : List ℕ) → a ≡ text ++ (codes "sent " ++ decimal number) → b ≡ a ++ codes " diverges " → now ≡ b ++ end
-    → now ≡ text ++ spaced (codes "sent" ∷ decimal number ∷ codes "diverges" ∷ end ∷ [])
-diverges_pushed text a b now number end p q r =
-    r ∙ ap (λ (t : List ℕ). t ++ end) (q ∙ ap (λ (t : List ℕ). t ++ codes " diverges ") p) ∙ simp append_assoc
+-- a message's number, what stands behind it, and what the message says
+pub told_pushed : (text a b now : List ℕ) (number : ℕ) (between said : List ℕ) → a ≡ text ++ (codes "sent " ++ decimal number) → b ≡ a ++ between → now ≡ b ++ said
+    → now ≡ text ++ (codes "sent " ++ (decimal number ++ (between ++ said)))
+told_pushed text a b now number between said p q r = r ∙ ap (λ (t : List ℕ). t ++ said) (q ∙ ap (λ (t : List ℕ). t ++ between) p) ∙ simp append_assoc
 
 pub ends_pushed : (text mid now : List ℕ) (epoch end e : ℕ) → e ≡ epoch → mid ≡ text ++ (codes "epoch " ++ decimal e) → now ≡ mid ++ (codes " end " ++ decimal end)
     → now ≡ text ++ spaced (codes "epoch" ∷ decimal epoch ∷ codes "end" ∷ decimal end ∷ [])

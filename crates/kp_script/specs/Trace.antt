@@ -4,7 +4,7 @@ use Rattle.std.specs.List.{join_with_byte, flat_map, zip}
 use Rattle.std.specs.Fmt.{decimal}
 use Rattle.kp_types.specs.Texts.{refusal_text}
 use Rattle.kp_model.specs.World.{Leader, LeaderAndIsr}
-use Rattle.kp_model.specs.Event.{Line, Reply, Refused, Changed, NowLeads, NowFollows, At, DuplicateOf, AsksFrom, SentBatches, SentDiverging, Took, Cut, MarkAt, CheckpointAt, Stopped, Restarted, Shown, Lines, Outcome}
+use Rattle.kp_model.specs.Event.{Line, Reply, Refused, Changed, NowLeads, NowFollows, At, DuplicateOf, AsksFrom, SentBatches, SentDiverging, SentProposal, SentDecision, Learned, Took, Cut, MarkAt, CheckpointAt, Stopped, Restarted, Shown, Lines, Outcome}
 use Rattle.kp_script.specs.Call.{spaced}
 use Rattle.kp_script.specs.Hex.{hex_text}
 
@@ -30,10 +30,13 @@ abbrev pub leader_text : Option Leader → List ℕ
 leader_text (Some leader) = spaced (codes "leader" ∷ decimal leader.node ∷ codes "epoch" ∷ decimal leader.epoch ∷ [])
 leader_text None = codes "leader none epoch -1"
 
+-- an in-sync set, and a version of the controller's record
+abbrev pub isr_text : (isr : List ℕ) (version : ℕ) → List ℕ
+isr_text isr version = spaced (codes "isr" ∷ nodes_text isr ∷ codes "version" ∷ decimal version ∷ [])
+
 -- the controller's record
 abbrev pub record_text : LeaderAndIsr → List ℕ
-record_text controller =
-    spaced (codes "record" ∷ leader_text controller.leader ∷ codes "isr" ∷ nodes_text controller.isr ∷ codes "version" ∷ decimal controller.version ∷ [])
+record_text controller = spaced (codes "record" ∷ leader_text controller.leader ∷ isr_text controller.isr controller.version ∷ [])
 
 -- a log's last epoch, of which an empty log has none
 abbrev pub epoch_text : Option ℕ → List ℕ
@@ -70,6 +73,9 @@ reply_text node number (AsksFrom offset last) = sent_text number (codes "asks fr
 reply_text node number (SentBatches count watermark) =
     sent_text number (codes "batches" ∷ decimal count ∷ codes "mark" ∷ decimal watermark ∷ [])
 reply_text node number (SentDiverging end) = sent_text number (codes "diverges" ∷ end_text end ∷ [])
+reply_text node number (SentProposal isr version) = sent_text number (codes "proposes" ∷ isr_text isr version ∷ [])
+reply_text node number (SentDecision decided) = sent_text number (record_text decided ∷ [])
+reply_text node number (Learned isr version) = isr_text isr version
 reply_text node number (Took end watermark) = spaced (codes "end" ∷ decimal end ∷ codes "mark" ∷ decimal watermark ∷ [])
 reply_text node number (Cut end) = spaced (codes "cut" ∷ decimal end ∷ [])
 reply_text node number (MarkAt watermark) = spaced (codes "mark" ∷ decimal watermark ∷ [])

@@ -71,7 +71,8 @@ pub enum Call<'a> {
         node: NodeId,
         act: PlainAct,
     },
-    /// The message of this number, below 2^31, comes to the node to which it goes. Messages have the numbers from 0 on.
+    /// The message of this number, below 2^31, comes to the node to which it goes, or to the controller. Messages have the
+    /// numbers from 0 on.
     Deliver {
         number: u64,
     },

@@ -3,20 +3,19 @@
 ghost use Rattle.std.specs.Prelude.{◌≡◌, [], ◌∷◌, ◌++◌, length, map, OnOk};
 ghost use Rattle.std.specs.Option.{option_map};
 ghost use Rattle.kp_types.specs.Texts.{refusal_text};
-ghost use Rattle.kp_control.specs.Set.{leader_of, members_of, record_of};
 ghost use Rattle.kp_model.specs.Calls.{said_reply};
+ghost use Rattle.kp_model.specs.Set.{leader_of, members_of, record_of};
 ghost use Rattle.kp_replica.specs.Acts.{answer_reply};
 ghost use Rattle.kp_replica.specs.Replies.{role_reply, receipt_reply, shown_reply};
 ghost use Rattle.kp_visible.specs.Lines.{line_of};
 ghost use Rattle.kp_world.specs.Answers.{number_in, outcome_of, told_reply};
 ghost use Rattle.kp_script.specs.Call.{node_of};
 ghost use Rattle.kp_script.specs.Seen.{seen_call};
-ghost use Rattle.kp_script.specs.Trace.{end_text, epoch_text, leader_text, life_text, line_text, lines_text, nodes_text, record_text, reply_text, outcome_text, trace_text};
+ghost use Rattle.kp_script.specs.Trace.{end_text, epoch_text, isr_text, leader_text, life_text, line_text, lines_text, nodes_text, record_text, reply_text, outcome_text, trace_text};
 
 use crate::script::Line;
 use crate::text::{push_hex, push_named, push_number};
-use kp_control::{Leader, LeaderAndIsr, NodeSet};
-use kp_model::{EpochEnd, Said};
+use kp_model::{EpochEnd, Leader, LeaderAndIsr, NodeSet, Said};
 use kp_replica::{Answer, Receipt, Role, Shown};
 use kp_types::{Epoch, NodeId, Offset, Refusal};
 use kp_visible::{ReadRecord, ReadRecords};
@@ -81,6 +80,16 @@ fn push_leader(text: &mut Vec<u8>, leader: Option<Leader>) -> Result<(), AllocEr
     }
 }
 
+/// Appends an in-sync set, and a version of the controller's record.
+fn push_isr(text: &mut Vec<u8>, isr: &NodeSet, version: u32) -> Result<(), AllocError>
+    ensures { OnOk result
+        (text.new.items ≡ text.old.items ++ isr_text (members_of isr.now) version) }
+{
+    text.extend_from_slice(b"isr ")?;
+    push_nodes(text, isr)?;
+    push_named(text, b" version ", u64::from(version))
+}
+
 /// Appends the controller's record.
 fn push_record(text: &mut Vec<u8>, controller: &LeaderAndIsr) -> Result<(), AllocError>
     ensures { OnOk result
@@ -88,9 +97,8 @@ fn push_record(text: &mut Vec<u8>, controller: &LeaderAndIsr) -> Result<(), Allo
 {
     text.extend_from_slice(b"record ")?;
     push_leader(text, controller.leader)?;
-    text.extend_from_slice(b" isr ")?;
-    push_nodes(text, &controller.isr)?;
-    push_named(text, b" version ", u64::from(controller.version))
+    text.push(b' ')?;
+    push_isr(text, &controller.isr, controller.version)
 }
 
 /// Appends what an adoption of the controller's record answers.
@@ -166,6 +174,14 @@ fn push_sent(text: &mut Vec<u8>, node: NodeId, number: u64, said: &Said) -> Resu
             text.extend_from_slice(b" diverges ")?;
             push_end(text, *end)
         }
+        Said::Proposes { isr, version } => {
+            text.extend_from_slice(b" proposes ")?;
+            push_isr(text, isr, *version)
+        }
+        Said::Decides(decided) => {
+            text.push(b' ')?;
+            push_record(text, decided)
+        }
     }
 }
 
@@ -208,6 +224,7 @@ fn push_answer(text: &mut Vec<u8>, node: NodeId, answer: &Answer) -> Result<(), 
             push_named(text, b" mark ", taken.watermark)
         }
         Answer::Cut(cut) => push_named(text, b"cut ", cut.end),
+        Answer::Learned(learned) => push_isr(text, &learned.isr, learned.version),
         Answer::Watermark(watermark) => push_named(text, b"mark ", *watermark),
         Answer::Checkpoint(watermark) => push_named(text, b"checkpoint ", *watermark),
         Answer::Stopped => text.extend_from_slice(b"stopped"),

@@ -1,12 +1,12 @@
 //! The program `two_nodes`: two nodes of one partition, driven by a loop of its own, as a program does that uses the crates.
-//! It stands on `kp_replica` for the nodes, `kp_control` for the record and `kp_batch` for the batches.
+//! It stands on `kp_replica` for the nodes, `kp_control` for the controller and `kp_batch` for the batches.
 //! No contract speaks of it: it shows what the host does, and `docs/USING.md` explains it line by line.
 #![tactic(auto)]
 
 use kp_batch::{Fields, Handed, Parts, Speller};
-use kp_control::LeaderAndIsr;
-use kp_model::MessageBody;
-use kp_replica::{Act, Answer, Broker, Effect, PlainAct};
+use kp_control::{decided, elected};
+use kp_model::{LeaderAndIsr, MessageBody, Proposal};
+use kp_replica::{Act, Answer, Broker, Effect, IsrChange, PlainAct};
 use kp_types::{Limits, NodeId, Refusal};
 use std::alloc::Global;
 use std::collections::VecDeque;
@@ -50,7 +50,7 @@ impl Cluster {
 
     /// Elects the node, and has each node take the record up.
     fn elect(&mut self, node: NodeId) -> Result<(), Refusal> {
-        self.record = self.record.elected(node)?;
+        self.record = elected(&self.record, node)?;
         self.act(0, PlainAct::Adopt)?;
         self.act(1, PlainAct::Adopt)?;
         Ok(())
@@ -71,7 +71,7 @@ impl Cluster {
         self.carry_out(effect)
     }
 
-    /// What came of it: an answer for the caller, a message that is under way from then on, or a record that now stands.
+    /// What came of it: an answer for the caller, or a message that is under way from then on.
     fn carry_out(&mut self, effect: Effect) -> Result<Option<Answer>, Refusal> {
         match effect {
             Effect::Answers(answer) => Ok(Some(answer)),
@@ -79,26 +79,47 @@ impl Cluster {
                 self.under_way.push_back(message)?;
                 Ok(None)
             }
-            Effect::Changes(record) => {
-                self.record = record;
-                Ok(None)
-            }
         }
     }
 
-    /// The follower asks, the leader answers, the follower takes the answer: two messages, each to its addressee.
-    fn replicate(&mut self, follower: NodeId) -> Result<(), Refusal> {
-        self.act(follower, PlainAct::Ask)?;
+    /// The controller decides on a proposal that comes, by the record as it is then, and sends its decision.
+    fn decide(&mut self, proposal: &Proposal) -> Result<Effect, Refusal> {
+        let decision = decided(&self.record, proposal)?;
+        self.record = decision.decided;
+        Ok(Effect::Sends(MessageBody::Decision(decision)))
+    }
+
+    /// The message comes to the controller, if it is a proposal, and else to its addressee.
+    fn receive(&mut self, message: &MessageBody) -> Result<Effect, Refusal> {
+        if let MessageBody::Proposal(proposal) = message {
+            return self.decide(proposal);
+        }
+        let addressee = message.addressee().ok_or(Refusal::StaleAnswer)?;
+        let (alloc, record) = (self.alloc, self.record);
+        self.node(addressee)?.receive(alloc, &record, message)
+    }
+
+    /// The node does what sends a message: it comes, and so does the one that answers it.
+    fn exchange(&mut self, node: NodeId, act: PlainAct) -> Result<(), Refusal> {
+        self.act(node, act)?;
         for _ in 0..2 {
             let Some(message) = self.under_way.pop_front() else {
                 return Ok(());
             };
-            let (alloc, record) = (self.alloc, self.record);
-            let node = self.node(message.addressee())?;
-            let effect = node.receive(alloc, &record, &message)?;
+            let effect = self.receive(&message)?;
             self.carry_out(effect)?;
         }
         Ok(())
+    }
+
+    /// The follower asks, the leader answers, and the follower takes the answer.
+    fn replicate(&mut self, follower: NodeId) -> Result<(), Refusal> {
+        self.exchange(follower, PlainAct::Ask)
+    }
+
+    /// The leader proposes the change, the controller decides, and the leader learns the decision.
+    fn alter(&mut self, leader: NodeId, change: IsrChange) -> Result<(), Refusal> {
+        self.exchange(leader, PlainAct::Alter { change })
     }
 }
 
@@ -137,29 +158,47 @@ fn print_committed(rt: &HostRuntime, cluster: &mut Cluster, node: NodeId) -> Res
 }
 
 /// One batch is committed on both nodes, one is on the old leader alone when the other node is elected.
-fn fail_over(rt: &HostRuntime) -> Result<(), Refusal> {
-    let mut cluster = Cluster::new(rt.alloc())?;
-    let mut speller = Speller::new(rt.alloc());
+fn fail_over(cluster: &mut Cluster, speller: &mut Speller) -> Result<(), Refusal> {
     cluster.elect(0)?;
-    cluster.produce(0, batch_of(&mut speller, b"a")?)?;
+    cluster.produce(0, batch_of(speller, b"a")?)?;
     cluster.replicate(1)?; // node 1 takes `a`
     cluster.replicate(1)?; // and tells that it has it
     cluster.act(0, PlainAct::Raise)?; // so `a` is committed
-    cluster.produce(0, batch_of(&mut speller, b"b")?)?; // on node 0 alone
+    cluster.produce(0, batch_of(speller, b"b")?)?; // on node 0 alone
 
     cluster.elect(1)?;
-    cluster.produce(1, batch_of(&mut speller, b"c")?)?;
+    cluster.produce(1, batch_of(speller, b"c")?)?;
     cluster.replicate(0)?; // node 0 takes `b` back
     cluster.replicate(0)?; // takes `c`
     cluster.replicate(0)?; // and tells that it has it
     cluster.act(1, PlainAct::Raise)?; // so `c` is committed
     cluster.replicate(0)?; // node 0 learns it
+    Ok(())
+}
+
+/// The leader, node 1, goes on without the other node, and has it in sync again.
+fn leave_and_join(cluster: &mut Cluster, speller: &mut Speller) -> Result<(), Refusal> {
+    cluster.alter(1, IsrChange::Leave(0))?; // node 1 alone is in sync
+    cluster.produce(1, batch_of(speller, b"d")?)?;
+    cluster.act(1, PlainAct::Raise)?; // so `d` is committed
+    cluster.replicate(0)?; // node 0 takes `d`
+    cluster.replicate(0)?; // and tells that it has it
+    cluster.alter(1, IsrChange::Join(0))?; // so it may join
+    Ok(())
+}
+
+/// Both, and what a consumer reads then.
+fn run(rt: &HostRuntime) -> Result<(), Refusal> {
+    let mut cluster = Cluster::new(rt.alloc())?;
+    let mut speller = Speller::new(rt.alloc());
+    fail_over(&mut cluster, &mut speller)?;
+    leave_and_join(&mut cluster, &mut speller)?;
     print_committed(rt, &mut cluster, 0)?;
     print_committed(rt, &mut cluster, 1)
 }
 
 fn main(rt: HostRuntime) -> io::Result<()> {
-    match fail_over(&rt) {
+    match run(&rt) {
         Ok(()) => Ok(()),
         Err(refusal) => {
             let name = refusal.name();

@@ -2,7 +2,6 @@ use Rattle.std.proofs.Common.{◌≡◌, ◌∙◌, ◌⊎◌, inl, inr, refl, s
 use Rattle.clap.specs.Words.{IsAmong, Text, fault_of, subcommand_of}
 use Rattle.clap.specs.declared.error.kind.ErrorKind.{ErrorKind}
 use Rattle.clap.specs.declared.error.kind.ErrorKind.TheVariants as kinds
-use Rattle.kp_types.specs.Devices.{Tells}
 use Rattle.kp_types.specs.Folders.{Puts}
 use Rattle.kp_race.specs.declared.outcome.Plan.{Plan}
 use Rattle.kp_cli.specs.Line.{IsCallOf, kpart}

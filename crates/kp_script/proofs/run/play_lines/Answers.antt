@@ -1,4 +1,4 @@
-use Rattle.std.proofs.Common.{◌∙◌, List, map, refl, ap, subst, arith}
+use Rattle.std.proofs.Common.{◌∙◌, List, map, ap, subst, arith}
 use Rattle.std.specs.Prelude.{Result}
 use Rattle.std.specs.Io.KnownBytes.{Appends}
 use Rattle.kp_types.specs.Devices.{AppendsFront, device_of}

@@ -1,6 +1,6 @@
 use Rattle.std.proofs.Common.{◌≡◌, ◌∷◌, ◌++◌, ℕ, ◌+◌, List, [], take, refl, sym, ap, ◌∙◌, arith, append-nil}
 use Rattle.std.specs.Global.{Vec}
-use Rattle.kp_control.specs.Set.{numbers_of}
+use Rattle.kp_model.specs.Set.{numbers_of}
 use Rattle.kp_script.specs.Trace.{nodes_text}
 use Rattle.kp_script.proofs.Tracing.{grown, nodes_more, separator_of, separator_none, separator_some, some_after, is_none, numbers_taken, numbers_passed}
 use Rattle.kp_script.proofs.trace.push_nodes.Goals as goal

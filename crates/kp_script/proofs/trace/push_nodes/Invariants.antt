@@ -1,5 +1,5 @@
 use Rattle.std.proofs.Common.{◌≡◌, ◌++◌, take}
-use Rattle.kp_control.specs.Set.{numbers_of}
+use Rattle.kp_model.specs.Set.{numbers_of}
 use Rattle.kp_script.specs.Trace.{nodes_text}
 use Rattle.kp_script.proofs.Tracing.{is_none}
 use Rattle.kp_script.proofs.trace.push_nodes.Given as goal
