@@ -1,9 +1,6 @@
 -- A decision on a proposal, a step on word 0 by the proposal's pass, keeps the rule.
 use Rattle.std.proofs.Common.{◌≡◌, ◌≢◌, ℕ, ◌<◌, Bool, true, false, List, [], ◌∷◌, length, get_or, set, eqb, Option, Some, None, inr, refl, sym, ap, ◌∙◌, subst, arith, length-set, get_or-set_other, get_or-set_same, eq-eqb, ne_eqb}
 use Rattle.std.specs.Prelude.{slice_get, nat_le, ◌&&◌, if◌then◌else◌}
-use Rattle.std.specs.Option.{option_eq}
-use Rattle.std.proofs.lemmas.Bool.{and_parts, eqb-true, false≢true}
-use Rattle.std.proofs.lemmas.Slice.Eq.{bytes_eq-Decides}
 use mathlib.Core.Logic.{dite}
 use mathlib.Core.Option.{none, some}
 use native.Mathlib.Decide.{ℕ_discrete}
@@ -13,13 +10,14 @@ use Rattle.atomic_table.specs.Table.{Me, State, step, Act, keeps, stepped, Valid
 use Rattle.kp_types.specs.Causes.{first_of}
 use Rattle.kp_types.specs.declared.refusal.Refusal.{Refusal}
 use Rattle.kp_types.specs.declared.refusal.Refusal.TheVariants.{RecordFull}
-use Rattle.kp_model.specs.World.{Leader, LeaderAndIsr, Proposal, Message, Asks, Answers, Proposes, Decides, World, with_record, with_message, IsSent, most_nodes}
+use Rattle.kp_model.specs.World.{LeaderAndIsr, Proposal, Message, Asks, Answers, Proposes, Decides, World, with_record, with_message, IsSent, most_nodes}
 use Rattle.kp_model.specs.Event.{Outcome, Deliver, SentDecision}
-use Rattle.kp_model.specs.Local.{same_record, altered, greatest_version}
+use Rattle.kp_model.specs.Controller.{same_record, altered, greatest_version}
 use Rattle.kp_model.specs.Step.{Step, IsInRange, Delivers, DecidesBy, decide_cause, decided_on, decision}
 use Rattle.kp_model.specs.Run.{Run, last, extend}
-use Rattle.kp_model.proofs.KnownRecords.{decisions_rise}
-use Rattle.kp_model.proofs.RunLaws.{last_is_of}
+use Rattle.kp_model.proofs.InRuns.KnownRecords.{decisions_rise}
+use Rattle.kp_model.proofs.InRuns.RunLaws.{last_is_of}
+use Rattle.kp_model.proofs.Plain.SameRecords.{same_record_is}
 use Rattle.kp_control.specs.Word.{packed}
 use Rattle.kp_control.proofs.Words.{one_word}
 use Rattle.kp_board.specs.Views.{View, of_message, message_view}
@@ -28,25 +26,6 @@ use Rattle.kp_board.specs.Plays.{IsRecordOfWord}
 use Rattle.kp_board.specs.Decisions.{EndsDeciding, ShowsDecision, ShowsAfter, Decided, unless_refused, record_after}
 use Rattle.kp_board.proofs.Steps.{sent_before, keeps_rule, looks_on, record_on}
 use Rattle.kp_board.proofs.Fitting.{record_word, sent_after}
-
--- a record that compares as the same is the same
-same_record_is : (c r : LeaderAndIsr) → same_record c r ≡ true → c ≡ r
-same_record_is c r e =
-    let both = and_parts _ _ e in
-    let first = and_parts _ _ both.0 in
-    let leader : c.leader ≡ r.leader = by_leader c.leader r.leader first.0 in
-    let isr : c.isr ≡ r.isr = (bytes_eq-Decides c.isr r.isr).0 first.1 in
-    let version : c.version ≡ r.version = eqb-true c.version r.version both.1 in
-    λ i. record { leader = leader i; isr = isr i; version = version i }
-  where
-    leader_is : (x y : Leader) → x.node ≡ y.node → x.epoch ≡ y.epoch → x ≡ y
-    leader_is x y p q = λ i. record { node = p i; epoch = q i }
-
-    by_leader : (o q : Option Leader) → option_eq (λ x y. eqb x.node y.node && eqb x.epoch y.epoch) o q ≡ true → o ≡ q
-    by_leader None None t = refl
-    by_leader None (Some y) t = absurd (false≢true t)
-    by_leader (Some x) None t = absurd (false≢true t)
-    by_leader (Some x) (Some y) t = let parts = and_parts (eqb x.node y.node) (eqb x.epoch y.epoch) t in ap Some (leader_is x y (eqb-true x.node y.node parts.0) (eqb-true x.epoch y.epoch parts.1))
 
 -- a proposal that names another record leaves this one
 not_named : (c : LeaderAndIsr) (p : Proposal) → same_record c p.known ≡ false → record_after c p ≡ c

@@ -7,11 +7,12 @@ use lib.ListN.{get_elem?}
 use Rattle.atomic_table.specs.Table.{State}
 use Rattle.kp_model.specs.World.{LeaderAndIsr, Node, Message, World, IsSent, most_nodes}
 use Rattle.kp_model.specs.Event.{Act}
-use Rattle.kp_model.specs.Local.{Effect, Local}
+use Rattle.kp_model.specs.Effect.{Effect}
+use Rattle.kp_model.specs.Local.{Local}
 use Rattle.kp_model.specs.Step.{IsGiven, IsInRange}
 use Rattle.kp_model.specs.Run.{Run, IsOf, last}
-use Rattle.kp_model.proofs.RunLaws.{last_is_of, one_record}
-use Rattle.kp_model.proofs.Ranges.{records_are_in_range}
+use Rattle.kp_model.proofs.InRuns.RunLaws.{last_is_of, one_record}
+use Rattle.kp_model.proofs.InRuns.Ranges.{records_are_in_range}
 use Rattle.kp_control.specs.Word.{packed}
 use Rattle.kp_control.proofs.Words.{one_word}
 use Rattle.kp_board.proofs.InRange.{in_seven}
@@ -20,7 +21,7 @@ use Rattle.kp_board.specs.Rule.{end_word, mark_word, WasWatermark, NoWatermarkAb
 use Rattle.kp_board.specs.Premises.{Shows}
 use Rattle.kp_board.specs.Plays.{IsRecordOfWord}
 use Rattle.kp_board.proofs.Steps.{told_later, sent_before, keeps_rule, acted, acts_on}
-use Rattle.kp_model.proofs.Raised.{node_moved}
+use Rattle.kp_model.proofs.Marks.Raised.{node_moved}
 
 module _ (n : ℕ) where
   -- what the rule says of a node's pass

@@ -9,10 +9,10 @@ use Rattle.kp_model.specs.Beginning.{Begins}
 use Rattle.kp_model.specs.Log.{Batch, end_of}
 use Rattle.kp_model.specs.World.{World}
 use Rattle.kp_model.specs.Run.{Run, IsOf, held, WasAppended}
-use Rattle.kp_model.proofs.Beginnings.{Begins-refl, Begins-trans}
-use Rattle.kp_model.proofs.Logs.{end_of-append}
-use Rattle.kp_model.proofs.HeldRuns.{runs_are_safe, marks_are_ends}
-use Rattle.kp_model.proofs.MessageLogs.{offset_and_epoch_fix}
+use Rattle.kp_model.proofs.Plain.Beginnings.{Begins-refl, Begins-trans}
+use Rattle.kp_model.proofs.Plain.Logs.{end_of-append}
+use Rattle.kp_model.proofs.Safety.HeldRuns.{runs_are_safe, marks_are_ends}
+use Rattle.kp_model.proofs.InRuns.MessageLogs.{offset_and_epoch_fix}
 use Rattle.kp_board.specs.Views.{CallerView, KeptReceipt, View, of_caller}
 use Rattle.kp_board.specs.Rule.{mark_word, WasWatermark, BeginsHeld, WasLog, AreAppended, Ruled, IsOfRun}
 use Rattle.kp_board.specs.Plays.{Learned, MarkShown}

@@ -8,7 +8,7 @@ use Rattle.atomic_table.specs.Table.{Me, step, keeps, Allows}
 use Rattle.kp_model.specs.World.{Node, Message}
 use Rattle.kp_model.specs.Event.{Act}
 use Rattle.kp_model.specs.Run.{last}
-use Rattle.kp_model.proofs.RunLaws.{last_is_of}
+use Rattle.kp_model.proofs.InRuns.RunLaws.{last_is_of}
 use Rattle.kp_board.specs.Views.{NodeView, View, of_node}
 use Rattle.kp_board.specs.Rule.{end_word, mark_word, WasWatermark, Ruled}
 use Rattle.kp_board.specs.Premises.{leaves, MayStep, ShowsAWorld}

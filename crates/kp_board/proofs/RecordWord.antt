@@ -11,10 +11,11 @@ use Rattle.atomic_table.specs.Table.{Me, step, keeps, stepped, Allows}
 use Rattle.kp_model.specs.Log.{Batch}
 use Rattle.kp_model.specs.World.{LeaderAndIsr, Node, with_record, most_nodes}
 use Rattle.kp_model.specs.Event.{Act, Elect, Reply, Changed}
-use Rattle.kp_model.specs.Local.{Local, elected}
+use Rattle.kp_model.specs.Controller.{elected}
+use Rattle.kp_model.specs.Local.{Local}
 use Rattle.kp_model.specs.Step.{Step, IsInRange, ElectsBy, elect_cause, told as outcome_told}
 use Rattle.kp_model.specs.Run.{Run, last, extend}
-use Rattle.kp_model.proofs.RunLaws.{last_is_of}
+use Rattle.kp_model.proofs.InRuns.RunLaws.{last_is_of}
 use Rattle.kp_control.specs.Word.{packed}
 use Rattle.kp_board.specs.Views.{NodeView, CallerView, KeptReceipt, View, of_node, of_caller}
 use Rattle.kp_board.specs.Rule.{mark_word, WasWatermark, NoWatermarkAbove, WasRecord, IsOfRun, Ruled, EndsElecting, ShowsLastRecord, ShowsElection}

@@ -7,8 +7,8 @@ use Rattle.atomic_table.proofs.Lists.{at_set, set_again}
 use Rattle.kp_model.specs.Beginning.{Begins}
 use Rattle.kp_model.specs.World.{Node, Message, World, initial, start}
 use Rattle.kp_model.specs.Run.{Run, last, held}
-use Rattle.kp_model.proofs.Beginnings.{Begins-refl}
-use Rattle.kp_model.proofs.RunLaws.{start_is_of, last_is_of}
+use Rattle.kp_model.proofs.Plain.Beginnings.{Begins-refl}
+use Rattle.kp_model.proofs.InRuns.RunLaws.{start_is_of, last_is_of}
 use Rattle.kp_control.specs.Word.{packed}
 use Rattle.kp_board.specs.Views.{NodeView, CallerView, Note, View, node_note, caller_note, founder, of_node, of_caller, of_message, of_note, spent, new_node, new_caller, next_founder, founded_node, noted, first_message, sent_message, told_of}
 use Rattle.kp_board.specs.Rule.{mark_word, WasWatermark, NoWatermarkAbove, BeginsHeld, AreSent, FitsCaller, FitsFounder, Fits, Ruled}

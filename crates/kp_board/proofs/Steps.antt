@@ -11,11 +11,12 @@ use Rattle.atomic_table.proofs.Lists.{at_set}
 use Rattle.kp_model.specs.Log.{Batch}
 use Rattle.kp_model.specs.World.{LeaderAndIsr, Node, Message, World, IsSent}
 use Rattle.kp_model.specs.Event.{Act, Acts}
-use Rattle.kp_model.specs.Local.{Effect, Local}
+use Rattle.kp_model.specs.Effect.{Effect}
+use Rattle.kp_model.specs.Local.{Local}
 use Rattle.kp_model.specs.Step.{IsGiven, moved, answered}
 use Rattle.kp_model.specs.Run.{Run, IsOf, last, extend, WasAppended}
-use Rattle.kp_model.proofs.RunLaws.{last_is_of, count_stays}
-use Rattle.kp_model.proofs.Steps.{get_front}
+use Rattle.kp_model.proofs.InRuns.RunLaws.{last_is_of, count_stays}
+use Rattle.kp_model.proofs.OneStep.Steps.{get_front}
 use Rattle.kp_control.specs.Word.{packed}
 use Rattle.kp_board.specs.Views.{CallerView, Note, KeptReceipt, View, founder, of_node, of_caller, of_message, of_note, spent}
 use Rattle.kp_board.specs.Rule.{mark_word, WasWatermark, NoWatermarkAbove, WasRecord, BeginsHeld, AreAppended, AreSent, WereRecords, IsOfRun, FitsNote, FitsCaller, Fits, Ruled}

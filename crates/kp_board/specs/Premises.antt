@@ -3,7 +3,8 @@
 use Rattle.std.specs.Prelude.{◌≡◌, ◌⊎◌, ℕ, ◌<◌, ◌≤◌, max, List, []}
 use Rattle.kp_model.specs.World.{LeaderAndIsr, Node, Message}
 use Rattle.kp_model.specs.Event.{Act, Reply}
-use Rattle.kp_model.specs.Local.{Effect, Local}
+use Rattle.kp_model.specs.Effect.{Effect}
+use Rattle.kp_model.specs.Local.{Local}
 use Rattle.kp_model.specs.Step.{IsGiven}
 use Rattle.kp_model.specs.Run.{Run, last}
 use Rattle.kp_board.specs.Views.{NodeView}

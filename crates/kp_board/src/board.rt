@@ -2,7 +2,7 @@
 ghost use Rattle.std.specs.Prelude.{◌≡◌, ◌⊎◌, ℕ, ◌+◌, ◌*◌, ◌<◌, ◌≤◌, ◌∷◌, length, slice_get, Some, Ok, Err, IfOk, IfErr, OnErr, MatchBool, None, map, [], Contains};
 ghost use Rattle.kp_types.specs.declared.refusal.Refusal.TheVariants.{Memory, StaleRecord};
 ghost use Rattle.kp_model.specs.World.{LeaderAndIsr as ModelRecord, most_nodes};
-ghost use Rattle.kp_model.specs.Local.{elected};
+ghost use Rattle.kp_model.specs.Controller.{elected};
 ghost use Rattle.kp_model.specs.Step.{elect_cause};
 ghost use Rattle.kp_model.specs.Set.{record_of};
 ghost use Rattle.kp_control.specs.Word.{packed};

@@ -1,10 +1,11 @@
-//! A worker for each node.
+//! A worker for each node, and one for the controller.
 ghost use Rattle.std.specs.Prelude.{◌≡◌, ◌+◌, ◌<◌, ◌≤◌, IfOk, IfErr, OnOk, OnErr, vec_len};
 ghost use Rattle.kp_types.specs.declared.refusal.Refusal.TheVariants.{Memory};
 ghost use Rattle.kp_model.specs.World.{most_nodes};
+ghost use Rattle.kp_cluster.specs.Places.{places};
 
 use crate::gate::Gate;
-use crate::worker::work;
+use crate::job::{Job, work};
 use kp_board::BoardName;
 use kp_node::Node;
 use kp_transport::{Carry, Parcel};
@@ -49,7 +50,7 @@ impl<B: BoardName, C> Model for Cluster<B, C> {
     ghost view = { λ c. vec_len c.workers };
 }
 
-/// Starts the worker of one node.
+// Starts the worker of a place.
 fn start_one<
     B: BoardName + Send + Sync + 'static,
     R: Threads + Wait + Copy + Send + 'static,
@@ -58,21 +59,20 @@ fn start_one<
 >(
     rt: &R,
     place: NodeId,
-    node: &Arc<Mutex<Node<B>>, Global>,
+    job: Job<B>,
     carrier: &Arc<C, Global>,
     gate: &Arc<G, Global>,
     stack: usize,
 ) -> Result<Worker, Refusal>
     ensures { IfErr result (λ r. r ≡ Memory) }
 {
-    let node = Arc::try_clone(node)?;
     let carrier = Arc::try_clone(carrier)?;
     let gate = Arc::try_clone(gate)?;
     let own = *rt;
     let started = Builder::new()
         .stack_size(stack)
         .spawn_with(rt, Nothing, move || {
-            work(&own, place, &*node, &*carrier, &*gate)
+            work(&own, place, &job, &*carrier, &*gate)
         });
     match started {
         Ok(thread) => Ok(Worker {
@@ -84,8 +84,10 @@ fn start_one<
     }
 }
 
-/// Starts a worker for each node: node i stands at place i. Where a growth or a thread is refused, the cluster of the
-/// workers that were started comes back, to be stopped.
+/// Starts a worker for each node, node i at place i, and one for the controller at the place behind them, for which the first node lends
+/// its board, so that its lock is waited for once. Where there is no node there is none at all. The carrier is to have all of these
+/// places: what goes to one that it lacks is lost. Where a growth or a thread is refused, the cluster of the workers that were started
+/// comes back, to be stopped. (Own rule.)
 pub fn start<
     B: BoardName + Send + Sync + 'static,
     R: Threads + Wait + Copy + Send + 'static,
@@ -99,13 +101,13 @@ pub fn start<
     gate: Arc<G, Global>,
 ) -> Result<Cluster<B, C>, (Cluster<B, C>, Refusal)>
     requires { vec_len nodes ≤ most_nodes }
-    ensures ok { IfOk result (λ cluster. cluster ≡ vec_len nodes) }
-    ensures err { IfErr result (λ e. (e.0 < vec_len nodes) × (e.1 ≡ Memory)) }
+    ensures ok { IfOk result (λ cluster. cluster ≡ places (vec_len nodes)) }
+    ensures err { IfErr result (λ e. (e.0 < places (vec_len nodes)) × (e.1 ≡ Memory)) }
 {
     start_on(rt, alloc, nodes, carrier, gate, &|_place: NodeId| STACK)
 }
 
-/// As `start`, with the size of each worker's stack. The system refuses a thread whose stack is too large.
+/// As `start`, with the size of each worker's stack, by its place. The system refuses a thread whose stack is too large.
 pub fn start_on<
     B: BoardName + Send + Sync + 'static,
     R: Threads + Wait + Copy + Send + 'static,
@@ -122,50 +124,81 @@ pub fn start_on<
 ) -> Result<Cluster<B, C>, (Cluster<B, C>, Refusal)>
     requires nodes { vec_len nodes ≤ most_nodes }
     requires stacks { S.IsAlwaysCallable stack_of.now }
-    ensures ok { IfOk result (λ cluster. cluster ≡ vec_len nodes) }
-    ensures err { IfErr result (λ e. (e.0 < vec_len nodes) × (e.1 ≡ Memory)) }
+    ensures ok { IfOk result (λ cluster. cluster ≡ places (vec_len nodes)) }
+    ensures err { IfErr result (λ e. (e.0 < places (vec_len nodes)) × (e.1 ≡ Memory)) }
 {
     let mut cluster = Cluster {
         carrier,
         workers: Vec::new(alloc),
         of: PhantomData,
     };
-    for node in &nodes {
-        let place = cluster.workers.len() as u8;
-        match cluster.add(rt, node, &gate, stack_of(place)) {
-            Ok(()) => {}
-            Err(refusal) => return Err((cluster, refusal)),
-        }
+    match cluster.add_all(rt, &nodes, &gate, stack_of) {
+        Ok(()) => Ok(cluster),
+        Err(refusal) => Err((cluster, refusal)),
     }
-    Ok(cluster)
 }
 
 impl<B: BoardName, C: Carry<Parcel<B>>> Cluster<B, C> {
     fn add<R: Threads + Wait + Copy + Send + 'static, G: Gate + Send + Sync + Drop + 'static>(
         &mut self,
         rt: &R,
-        node: &Arc<Mutex<Node<B>>, Global>,
+        job: Job<B>,
         gate: &Arc<G, Global>,
         stack: usize,
     ) -> Result<(), Refusal>
     where
         B: Send + Sync + 'static,
         C: Send + Sync + Drop + 'static,
-        requires { self.old < most_nodes }
+        requires { self.old ≤ most_nodes }
         ensures ok { OnOk result (self.new ≡ self.old + 1) }
         ensures err { OnErr result (self.new ≡ self.old) }
         ensures refusal { IfErr result (λ r. r ≡ Memory) }
     {
         let place = self.workers.len() as u8;
         self.workers.reserve(1)?;
-        let worker = start_one(rt, place, node, &self.carrier, gate, stack)?;
+        let worker = start_one(rt, place, job, &self.carrier, gate, stack)?;
         let Ok(()) = self.workers.push(worker) else {
             unreachable!()
         };
         Ok(())
     }
 
-    /// It is this place's turn.
+    // A worker for each node, and the controller's.
+    fn add_all<
+        R: Threads + Wait + Copy + Send + 'static,
+        G: Gate + Send + Sync + Drop + 'static,
+        S: Fn(NodeId) -> usize,
+    >(
+        &mut self,
+        rt: &R,
+        nodes: &Vec<Arc<Mutex<Node<B>>, Global>>,
+        gate: &Arc<G, Global>,
+        stack_of: &S,
+    ) -> Result<(), Refusal>
+    where
+        B: Send + Sync + 'static,
+        C: Send + Sync + Drop + 'static,
+        requires none { self.old ≡ 0 }
+        requires nodes { vec_len nodes.now ≤ most_nodes }
+        requires stacks { S.IsAlwaysCallable stack_of.now }
+        ensures ok { OnOk result (self.new ≡ places (vec_len nodes.now)) }
+        ensures err { OnErr result (self.new < places (vec_len nodes.now)) }
+        ensures refusal { IfErr result (λ r. r ≡ Memory) }
+    {
+        let controller = nodes.len() as u8;
+        for node in nodes {
+            let node = Arc::try_clone(node)?;
+            let place = self.workers.len() as u8;
+            self.add(rt, Job::Node { node, controller }, gate, stack_of(place))?;
+        }
+        if let Some(first) = nodes.first() {
+            let board = Arc::try_clone(first.lock(rt).board())?;
+            self.add(rt, Job::Controller { board }, gate, stack_of(controller))?;
+        }
+        Ok(())
+    }
+
+    /// It is this place's turn. At the controller's it does nothing.
     pub fn turn(&self, place: NodeId) -> Result<(), Refusal>
         ensures { IfErr result (λ r. r ≡ Memory) }
     {

@@ -10,7 +10,6 @@ use kp_node::Node;
 use kp_transport::{Carry, Parcel};
 use kp_types::{NodeId, Refusal};
 use std::sync::{Mutex, Wait};
-use std::thread;
 
 /// What became of a worker's step.
 #[derive(Debug, Clone, Copy, PartialEq, Eq)]
@@ -23,13 +22,14 @@ pub enum Done {
     Ended,
 }
 
-// A message goes to the node that it names.
-fn send_on<B: BoardName, C: Carry<Parcel<B>>>(
+// A message goes to the place of the node that it names, or, where it names none, to the controller's.
+pub(crate) fn send_on<B: BoardName, C: Carry<Parcel<B>>>(
     carrier: &C,
+    controller: NodeId,
     message: Option<Message<B>>,
 ) -> Result<Done, Refusal> {
     if let Some(message) = message {
-        let place = message.body.addressee();
+        let place = message.body.addressee().unwrap_or(controller);
         carrier.send(place, Parcel::Message(message))?;
     }
     Ok(Done::Stepped)
@@ -50,10 +50,12 @@ pub fn handle<B: BoardName>(
 }
 
 /// Handles one parcel of the place: receives it, calls the gate, handles it under the node's lock, sends the message that comes of it
-/// once the lock is given up, and calls the gate again. A refusal, of the node or of the carrier, ends this step alone. (Own rule.)
+/// once the lock is given up, and calls the gate again. A message for the controller goes to the place `controller`, which is the number
+/// of nodes. A refusal, of the node or of the carrier, ends this step alone. (Own rule.)
 pub fn worker_step<B: BoardName, R: Wait, C: Carry<Parcel<B>>, G: Gate>(
     rt: &R,
     place: NodeId,
+    controller: NodeId,
     node: &Mutex<Node<B>>,
     carrier: &C,
     gate: &G,
@@ -67,26 +69,9 @@ pub fn worker_step<B: BoardName, R: Wait, C: Carry<Parcel<B>>, G: Gate>(
     gate.before(place);
     let answer = handle(&mut node.lock(rt), message);
     let done = match answer {
-        Ok(answer) => send_on(carrier, answer),
+        Ok(answer) => send_on(carrier, controller, answer),
         Err(refusal) => Err(refusal),
     };
     gate.after(place);
     done
-}
-
-// Steps until it is told to stop.
-pub(crate) fn work<B: BoardName, R: Wait, C: Carry<Parcel<B>>, G: Gate>(
-    rt: &R,
-    place: NodeId,
-    node: &Mutex<Node<B>>,
-    carrier: &C,
-    gate: &G,
-) {
-    for _ in rt.forever() {
-        match worker_step(rt, place, node, carrier, gate) {
-            Ok(Done::Ended) => return,
-            Ok(Done::Idle) => thread::yield_now(),
-            Ok(Done::Stepped) | Err(_) => {}
-        }
-    }
 }

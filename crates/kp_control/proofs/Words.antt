@@ -6,10 +6,10 @@ use Rattle.std.specs.Prelude.{if◌then◌else◌}
 use Rattle.std.proofs.lemmas.Bool.{cases_eq, cond_both, eq-eqb, ne_eqb}
 use Rattle.std.proofs.lemmas.List.Sums.{sum_by-cons}
 use Rattle.kp_model.specs.World.{Leader, LeaderAndIsr}
-use Rattle.kp_model.specs.Local.{greatest_epoch}
+use Rattle.kp_model.specs.Controller.{greatest_epoch}
 use Rattle.kp_model.specs.Step.{Rise, IsInRange}
 use Rattle.kp_model.specs.Set.{numbers_of}
-use Rattle.kp_model.proofs.InRange.{rise_of}
+use Rattle.kp_model.proofs.Plain.InRange.{rise_of}
 use Rattle.kp_control.specs.Word.{leader_field, epoch_field, set_field, packed, WordsAreOne}
 
 -- ---- a set's bits, the first number's the lowest

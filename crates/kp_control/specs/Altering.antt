@@ -4,7 +4,7 @@ use Rattle.kp_types.specs.Causes.{first_of}
 use Rattle.kp_types.specs.declared.refusal.Refusal.{Refusal}
 use Rattle.kp_types.specs.declared.refusal.Refusal.TheVariants as refusals
 use Rattle.kp_model.specs.World.{LeaderAndIsr}
-use Rattle.kp_model.specs.Local.{greatest_version}
+use Rattle.kp_model.specs.Controller.{greatest_version}
 
 -- the version is at its greatest (own rule)
 abbrev pub alter_cause : LeaderAndIsr → Option Refusal

@@ -2,7 +2,7 @@
 
 ghost use Rattle.std.specs.Prelude.{◌≡◌, IfOk};
 ghost use Rattle.kp_types.specs.Causes.{IsRefusedOnlyBy};
-ghost use Rattle.kp_model.specs.Local.{altered, elected};
+ghost use Rattle.kp_model.specs.Controller.{altered, elected};
 ghost use Rattle.kp_model.specs.Letter.{decision_of, proposal_of};
 ghost use Rattle.kp_model.specs.Set.{members_of, record_of};
 ghost use Rattle.kp_model.specs.Step.{decide_cause, decision, elect_cause};

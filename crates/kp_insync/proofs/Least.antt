@@ -6,7 +6,8 @@ use Rattle.std.proofs.lemmas.List.Elements.{filter-append}
 use Rattle.std.specs.Option.{unwrap_or, option_flatten}
 use Rattle.std.proofs.lemmas.Bool.{ne_eqb, cases_lt}
 use Rattle.kp_model.specs.Set.{numbers_of}
-use Rattle.kp_model.specs.Local.{least_end, without_member}
+use Rattle.kp_model.specs.Controller.{without_member}
+use Rattle.kp_model.specs.Raising.{least_end}
 use Rattle.kp_insync.specs.Reports.{ends_over, IsReported}
 
 -- the least of this end and those, where each is known

@@ -2,7 +2,9 @@
 use Rattle.std.specs.Prelude.{◌≡◌, ℕ, List}
 use Rattle.kp_model.specs.Log.{Batch, end_of}
 use Rattle.kp_model.specs.World.{Leading}
-use Rattle.kp_model.specs.Local.{reporting, counted, known_ends, is_caught_up}
+use Rattle.kp_model.specs.Fetching.{reporting}
+use Rattle.kp_model.specs.Raising.{counted, known_ends}
+use Rattle.kp_model.specs.InSync.{is_caught_up}
 use Rattle.kp_insync.specs.Reports.{with_report, ends_over}
 use Rattle.kp_insync.specs.Joining.{has_caught_up}
 

@@ -1,7 +1,7 @@
 -- What nodes reported of their logs' ends, by their numbers (Kafka replication design).
 use Rattle.std.specs.Prelude.{◌≡◌, ℕ, max, List, [], ◌∷◌, ◌++◌, Option, Some, None, map, unwrap_or, slice_index_or, slice_set}
 use Rattle.std.specs.Option.{option_map}
-use Rattle.kp_model.specs.Local.{without_member}
+use Rattle.kp_model.specs.Controller.{without_member}
 use Rattle.kp_model.specs.Set.{members_of}
 use Rattle.kp_model.specs.declared.record.NodeSet.{NodeSet}
 

@@ -30,7 +30,7 @@ impl Positions {
     ghost use Rattle.kp_types.specs.Causes.{IsRefusedOnlyBy};
     ghost use Rattle.kp_model.specs.Set.{members_of};
     ghost use Rattle.kp_model.specs.World.{most_nodes, no_reports};
-    ghost use Rattle.kp_model.specs.Local.{least_end};
+    ghost use Rattle.kp_model.specs.Raising.{least_end};
     ghost use Rattle.kp_insync.specs.Reports.{with_report, ends_over, members_in, IsReported};
     ghost use Rattle.kp_insync.specs.Joining.{behind_cause};
 

@@ -6,7 +6,10 @@ use Rattle.kp_model.specs.Log.{Batch, end_of, below, IsLog, IsKin}
 use Rattle.kp_model.specs.Epochs.{covers, cut_place}
 use Rattle.kp_model.specs.World.{Leader, LeaderAndIsr, Leading, Down, Leads, Node, Request, Answer, Message, Asks, Answers}
 use Rattle.kp_model.specs.Event.{Act, Adopt, Reply, Refused, AsksFrom, SentBatches, SentDiverging, SentProposal, SentDecision, Took, Cut}
-use Rattle.kp_model.specs.Local.{Effect, Local, becomes, sends, under, cause, reporting, piece_from, end_asked, take_cause_for, cut_cause_for}
+use Rattle.kp_model.specs.Effect.{Effect, becomes, sends}
+use Rattle.kp_model.specs.Adopting.{under}
+use Rattle.kp_model.specs.Fetching.{reporting, piece_from, end_asked, take_cause_for, cut_cause_for}
+use Rattle.kp_model.specs.Local.{Local, cause}
 use Rattle.std.specs.Option.{option_map}
 use Rattle.kp_model.specs.declared.message.Said.{Said}
 use Rattle.kp_model.specs.declared.message.Said.TheVariants as says

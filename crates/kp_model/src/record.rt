@@ -24,7 +24,7 @@ impl NodeSet {
     ghost use Rattle.std.specs.Prelude.{◌≡◌, ◌<◌, ◌≤◌, IsTrue};
     ghost use Rattle.std.specs.List.{range_with_len};
     ghost use Rattle.kp_model.specs.World.{most_nodes};
-    ghost use Rattle.kp_model.specs.Local.{is_member, with_member, without_member};
+    ghost use Rattle.kp_model.specs.Controller.{is_member, with_member, without_member};
     ghost use Rattle.kp_model.specs.Set.{members_of};
 
     /// The nodes 0 to `count` - 1.
@@ -102,7 +102,7 @@ pub struct LeaderAndIsr {
 impl LeaderAndIsr {
     ghost use Rattle.std.specs.Prelude.{◌≡◌, ◌≤◌};
     ghost use Rattle.kp_model.specs.World.{initial, most_nodes};
-    ghost use Rattle.kp_model.specs.Local.{has_epoch, same_record};
+    ghost use Rattle.kp_model.specs.Controller.{has_epoch, same_record};
     ghost use Rattle.kp_model.specs.Step.{IsInRange};
     ghost use Rattle.kp_model.specs.Set.{record_of};
 

@@ -3,12 +3,13 @@ use Rattle.std.proofs.Common.{◌≡◌, ℕ, [], Option, Some, None, refl, sym,
 use Rattle.kp_types.specs.declared.refusal.Refusal.{Refusal}
 use Rattle.kp_model.specs.World.{Leader, LeaderAndIsr, Node}
 use Rattle.kp_model.specs.Event.{Adopt, Reply}
-use Rattle.kp_model.specs.Local.{Effect, Local, becomes, cause}
+use Rattle.kp_model.specs.Effect.{Effect, becomes}
+use Rattle.kp_model.specs.Local.{Local, cause}
 use Rattle.kp_model.specs.Calls.{adopted, adopted_by}
 use Rattle.kp_model.specs.Run.{last}
-use Rattle.kp_model.proofs.Adopting.{adopting_is_one}
-use Rattle.kp_model.proofs.LogEpochs.{epochs_are_elected}
-use Rattle.kp_model.proofs.NodeMarks.{marks_stay}
+use Rattle.kp_model.proofs.OneStep.Adopting.{adopting_is_one}
+use Rattle.kp_model.proofs.InRuns.LogEpochs.{epochs_are_elected}
+use Rattle.kp_model.proofs.Marks.NodeMarks.{marks_stay}
 use Rattle.kp_replica.specs.Adopting.{IsWithin}
 use Rattle.kp_replica.proofs.Within.{within}
 use Rattle.kp_replica.specs.NumberedNode.{NumberedNode, DoesUnder}

@@ -6,8 +6,10 @@ use Rattle.kp_types.specs.declared.refusal.Refusal.{Refusal}
 use Rattle.kp_model.specs.Epochs.{cut_place}
 use Rattle.kp_model.specs.World.{LeaderAndIsr, Node, Message, Answer, Answers, IsSent}
 use Rattle.kp_model.specs.Event.{Receive, Reply, Refused, Cut}
-use Rattle.kp_model.specs.Letter.{Letter, letter_of, fetch_request, fetch_answer, answering}
-use Rattle.kp_model.specs.Local.{Effect, Local, LocalBy, Accepts, Cuts, becomes, cut_cause, cut_cause_for, is_covered}
+use Rattle.kp_model.specs.Letter.{FetchLetter, Fetching, answered_letter, letter_of, fetch_request, fetch_answer, answering}
+use Rattle.kp_model.specs.Effect.{Effect, becomes}
+use Rattle.kp_model.specs.Fetching.{Accepts, Cuts, cut_cause, cut_cause_for, is_covered}
+use Rattle.kp_model.specs.Local.{Local, LocalBy}
 use Rattle.kp_model.specs.Calls.{ForAnswer, cut, cut_by, answered_end}
 use Rattle.kp_model.specs.Laws.{place_of}
 use Rattle.kp_model.specs.Run.{Run, last}
@@ -15,9 +17,9 @@ use Rattle.kp_model.specs.declared.message.Answered.{Answered}
 use Rattle.kp_model.specs.declared.message.Answered.TheVariants.{Diverging}
 use Rattle.kp_model.specs.declared.message.EpochEnd.{EpochEnd}
 use Rattle.kp_model.specs.declared.message.FetchAnswer.{FetchAnswer}
-use Rattle.kp_model.proofs.Cutting.{by_answer, cause_is, cut_is_the_step, no_cut_below}
-use Rattle.kp_model.proofs.NodeMarks.{marks_stay}
-use Rattle.kp_model.proofs.RunLaws.{last_is_of}
+use Rattle.kp_model.proofs.Cuts.Cutting.{by_answer, cause_is, cut_is_the_step, no_cut_below}
+use Rattle.kp_model.proofs.Marks.NodeMarks.{marks_stay}
+use Rattle.kp_model.proofs.InRuns.RunLaws.{last_is_of}
 use Rattle.kp_replica.specs.NumberedNode.{NumberedNode, DoesUnder}
 use Rattle.kp_replica.specs.Hearing.{CutsAbove, DoesShown, IsShown, answer_effect}
 use Rattle.kp_replica.specs.Replies.{followed_reply}
@@ -25,7 +27,7 @@ use Rattle.kp_replica.specs.declared.taking.Followed.{Followed}
 use Rattle.kp_board.specs.Views.{NodeView}
 use Rattle.kp_board.specs.Rule.{AreSent}
 use Rattle.kp_board.specs.Premises.{MayStepUnder, leaves}
-use Rattle.kp_node.proofs.Heard.{first_told, answer_in, has_none, AnsweredWell, answered_well, own_log}
+use Rattle.kp_node.proofs.Heard.{fetched, first_told, answer_in, has_none, AnsweredWell, answered_well, own_log}
 use Rattle.kp_node.proofs.Takes.{Done}
 use Rattle.kp_node.proofs.Ties.{Tied}
 
@@ -44,7 +46,7 @@ leaves_by : (o : Option Refusal) (c : LeaderAndIsr) (x : Node) (place : ℕ) →
 leaves_by (Some r) c x place = refl
 leaves_by None c x place = refl
 
-cut_leaves : (c : LeaderAndIsr) (n : ℕ) (x : Node) (l : Letter) → cut c n x l ≡ leaves c (cut c n x l).node [] (cut c n x l).reply
+cut_leaves : (c : LeaderAndIsr) (n : ℕ) (x : Node) (l : FetchLetter) → cut c n x l ≡ leaves c (cut c n x l).node [] (cut c n x l).reply
 cut_leaves c n x l = leaves_by (cut_cause_for c n x l.from l.life l.epoch l.offset l.last) c x (cut_place x.log (answered_end l.answering))
 
 -- ---- at the end of a run
@@ -56,19 +58,19 @@ module _ (n : ℕ) (r : Run n) (k : ℕ) (x : Node) (at : (last r).nodes k ≡ x
     above = subst (λ (y : Node). IsFalse (is_covered a.log a.request) → cut_cause (last r).controller k y a ≡ None → y.watermark ≤ place_of y a) at (no_cut_below n r (last r) (last_is_of n r) k a sent);
   }
 
-  cut_goes : is_covered a.log a.request ≡ false → Local (last r).controller k x (Receive (Answers a)) (leaves (last r).controller (cut (last r).controller k x (letter_of (Answers a))).node [] (cut (last r).controller k x (letter_of (Answers a))).reply)
+  cut_goes : is_covered a.log a.request ≡ false → Local (last r).controller k x (Receive (Answers a)) (leaves (last r).controller (cut (last r).controller k x (answered_letter a)).node [] (cut (last r).controller k x (answered_letter a)).reply)
   cut_goes diverges =
       let c = (last r).controller in
       let well = cuts_well.heard in
-      subst (λ (e : Effect). Local c k x (Receive (Answers a)) e) (cut_leaves c k x (letter_of (Answers a))) (cut_is_the_step c k x a diverges (own_log n r k x at) well.log well.asked well.own well.kin).0
+      subst (λ (e : Effect). Local c k x (Receive (Answers a)) e) (cut_leaves c k x (answered_letter a)) (cut_is_the_step c k x a diverges (own_log n r k x at) well.log well.asked well.own well.kin).0
 
 -- ---- a diverging answer comes to a node whose pass is p, and who was told of it last
 
-pub cut_may : (words : ℕ) (p : NodeView) (m : NumberedNode) (message : Message) (ans : FetchAnswer) (end : Option EpochEnd) → Tied words p m → p.told ≡ message ∷ [] → letter_of message ≡ fetch_answer ans → ans.answered ≡ Diverging end
+pub cut_may : (words : ℕ) (p : NodeView) (m : NumberedNode) (message : Message) (ans : FetchAnswer) (end : Option EpochEnd) → Tied words p m → p.told ≡ message ∷ [] → letter_of message ≡ Fetching (fetch_answer ans) → ans.answered ≡ Diverging end
     → MayStepUnder p (Receive message) (λ c. (cut c p.number p.state (fetch_answer ans)).node) (λ c. FitsCut c p.number p.state (first_told p.told))
 cut_may words p m message ans end t told letter diverges =
     let b = answer_in message ans letter in
-    let same : letter_of (Answers b.answer) ≡ fetch_answer ans = subst (λ (z : Message). letter_of z ≡ fetch_answer ans) b.is letter in
+    let same : answered_letter b.answer ≡ fetch_answer ans = fetched (subst (λ (z : Message). letter_of z ≡ Fetching (fetch_answer ans)) b.is letter) in
     let parted = has_none b.answer ans end same diverges in record {
       given = λ messages known. (subst (AreSent messages) told known).0;
       local = λ n r shows.
@@ -76,7 +78,7 @@ cut_may words p m message ans end t told letter diverges =
           let known : IsSent (last r).messages (Answers b.answer) = subst (IsSent (last r).messages) b.is (subst (AreSent (last r).messages) told shows.told).0 in
           let goes = cut_goes n r p.number p.state shows.state b.answer known parted in
           let by_letter : Local c p.number p.state (Receive (Answers b.answer)) (leaves c (cut c p.number p.state (fetch_answer ans)).node [] (cut c p.number p.state (fetch_answer ans)).reply) =
-          subst (λ (l : Letter). Local c p.number p.state (Receive (Answers b.answer)) (leaves c (cut c p.number p.state l).node [] (cut c p.number p.state l).reply)) same goes in
+          subst (λ (l : FetchLetter). Local c p.number p.state (Receive (Answers b.answer)) (leaves c (cut c p.number p.state l).node [] (cut c p.number p.state l).reply)) same goes in
           inr (
             (cut c p.number p.state (fetch_answer ans)).reply,
             subst (λ (z : Message). Local c p.number p.state (Receive z) (leaves c (cut c p.number p.state (fetch_answer ans)).node [] (cut c p.number p.state (fetch_answer ans)).reply)) (sym b.is) by_letter,
@@ -104,19 +106,19 @@ refused_by None c n x y a f place parted (inl h) =
     absurd (no_cut f _ (ap (λ (e : Effect). e.reply) cuts.effect_is))
 refused_by None c n x y a f place parted (inr h) = absurd (false≢true (sym parted ∙ h.0))
 
-refused_cut : (c : LeaderAndIsr) (n : ℕ) (x y : Node) (a : Answer) (f : Refusal) → is_covered a.log a.request ≡ false → Local c n x (Receive (Answers a)) (becomes c y (Refused f)) → (cut c n x (letter_of (Answers a))).node ≡ y
+refused_cut : (c : LeaderAndIsr) (n : ℕ) (x y : Node) (a : Answer) (f : Refusal) → is_covered a.log a.request ≡ false → Local c n x (Receive (Answers a)) (becomes c y (Refused f)) → (cut c n x (answered_letter a)).node ≡ y
 unfolding Local
 refused_cut c n x y a f parted h =
     ap (λ (e : Effect). e.node) (by_answer c n x a parted)
     ∙ refused_by (cut_cause c n x a) c n x y a f (place_of x a) parted (subst (λ (o : Option Refusal). LocalBy o c n x (Receive (Answers a)) (becomes c y (Refused f))) (cause_is c n x a parted) h)
 
-pub record HasCutBack (words : ℕ) (c : LeaderAndIsr) (p p' : NodeView) (m m' : NumberedNode) (message : Message) (l : Letter) (reply : Reply) : Type 0 where
+pub record HasCutBack (words : ℕ) (c : LeaderAndIsr) (p p' : NodeView) (m m' : NumberedNode) (message : Message) (l : FetchLetter) (reply : Reply) : Type 0 where
   pub tied : Tied words p' m'
   pub event : DoesUnder c m m' (Receive message) reply
   pub state : m'.state ≡ (cut c m.number m.state l).node
 
 pub cut_back : (words : ℕ) (c : LeaderAndIsr) (p p' : NodeView) (m m' : NumberedNode) (message : Message) (ans : FetchAnswer) (end : Option EpochEnd) (result : Result Followed Refusal)
-    → Tied words p m → p.told ≡ message ∷ [] → letter_of message ≡ fetch_answer ans → ans.answered ≡ Diverging end → FitsCut c p.number p.state (first_told p.told)
+    → Tied words p m → p.told ≡ message ∷ [] → letter_of message ≡ Fetching (fetch_answer ans) → ans.answered ≡ Diverging end → FitsCut c p.number p.state (first_told p.told)
     → ForAnswer (fetch_answer ans) m.state.log (λ (z : Message). CutsAbove c m z → DoesShown c ans.answered m m' (Receive z) (followed_reply result))
     → Done m m' ans.request c ans.answered result
     → p' ≡ record p { state = (cut c p.number p.state (fetch_answer ans)).node; shown = c }
@@ -125,7 +127,7 @@ cut_back words c p p' m m' message ans end result t told letter diverges fits ev
     let l = fetch_answer ans in
     let b = answer_in message ans letter in
     let a = b.answer in
-    let same : letter_of (Answers a) ≡ l = subst (λ (z : Message). letter_of z ≡ l) b.is letter in
+    let same : answered_letter a ≡ l = fetched (subst (λ (z : Message). letter_of z ≡ Fetching l) b.is letter) in
     let parted = has_none a ans end same diverges in
     let well : CutsWell c m.number m.state a = subst (λ (z : ℕ × Node). CutsWell c z.0 z.1 a) (λ i. (t.1 i, t.0 i)) (fits a (ap first_told told ∙ b.is)) in
     let under : IsShown c ans.answered c = subst (λ (z : Answered). IsShown c z c) (sym diverges) refl in
@@ -145,7 +147,7 @@ cut_back words c p p' m m' message ans end result t told letter diverges fits ev
         ∙ (λ i. cut c m.number m.state (record (fetch_request ans.request) { answering = Some (answering (sym diverges i)) }))
 
     by_result : (res : Result Followed Refusal) → Done m m' ans.request c ans.answered res → IsShown c ans.answered c → Local c m.number m.state (Receive (Answers (answer_in message ans letter).answer)) (becomes c m'.state (followed_reply res))
-        → is_covered (answer_in message ans letter).answer.log (answer_in message ans letter).answer.request ≡ false → letter_of (Answers (answer_in message ans letter).answer) ≡ fetch_answer ans → (cut c m.number m.state (fetch_answer ans)).node ≡ m'.state
+        → is_covered (answer_in message ans letter).answer.log (answer_in message ans letter).answer.request ≡ false → answered_letter (answer_in message ans letter).answer ≡ fetch_answer ans → (cut c m.number m.state (fetch_answer ans)).node ≡ m'.state
     by_result (Ok followed) done under local parted same = sym (ap (λ (f : Effect). f.node) (done c under ∙ effect_is))
     by_result (Err f) done under local parted same =
-        sym (ap (λ (k : Letter). (cut c m.number m.state k).node) same) ∙ refused_cut c m.number m.state m'.state (answer_in message ans letter).answer f parted local
+        sym (ap (λ (k : FetchLetter). (cut c m.number m.state k).node) same) ∙ refused_cut c m.number m.state m'.state (answer_in message ans letter).answer f parted local

@@ -5,15 +5,15 @@ use Rattle.kp_model.specs.declared.message.EpochEnd.{EpochEnd}
 use Rattle.kp_model.specs.declared.message.FetchAnswer.{FetchAnswer}
 use Rattle.kp_model.specs.declared.message.Fetched.{Fetched}
 use Rattle.kp_model.specs.Log.{Batch, IsLog, IsKin, logged}
-use Rattle.kp_model.specs.World.{Node, Request, Answer, Message, Asks, Answers, IsSent}
+use Rattle.kp_model.specs.World.{Node, Request, Answer, Proposal, Decision, Message, Asks, Answers, Proposes, Decides, IsSent}
 use Rattle.kp_model.specs.Event.{Receive}
-use Rattle.kp_model.specs.Letter.{Letter, answering, answering_of, letter_of, fetch_answer}
-use Rattle.kp_model.specs.Local.{is_covered}
+use Rattle.kp_model.specs.Letter.{FetchLetter, Fetching, Proposing, Deciding, answering, answering_of, answered_letter, letter_of, fetch_answer}
+use Rattle.kp_model.specs.Fetching.{is_covered}
 use Rattle.kp_model.specs.Laws.{KeepsMark, StandsIn}
 use Rattle.kp_model.specs.Run.{Run, last}
-use Rattle.kp_model.proofs.Letters.{hands, tells}
-use Rattle.kp_model.proofs.MessageLogs.{runs_keep_logs, runs_keep_kin}
-use Rattle.kp_model.proofs.RunLaws.{last_is_of}
+use Rattle.kp_model.proofs.OneStep.Letters.{hands, tells}
+use Rattle.kp_model.proofs.InRuns.MessageLogs.{runs_keep_logs, runs_keep_kin}
+use Rattle.kp_model.proofs.InRuns.RunLaws.{last_is_of}
 use Rattle.kp_replica.specs.Cutting.{told_end}
 use Rattle.kp_board.specs.Views.{no_message}
 use Rattle.kp_node.proofs.Judged.{none_some, some_is}
@@ -25,33 +25,52 @@ first_told (m ∷ ms) = m
 
 -- ---- which message has a letter
 
+pub fetched : {l k : FetchLetter} → Fetching l ≡ Fetching k → l ≡ k
+fetched e = cc
+
 pub record IsRequest (m : Message) : Type 0 where
   pub request : Request
   pub is : m ≡ Asks request
 
-pub request_in : (m : Message) (l : Letter) → l.answering ≡ None → letter_of m ≡ l → IsRequest m
+pub request_in : (m : Message) (l : FetchLetter) → l.answering ≡ None → letter_of m ≡ Fetching l → IsRequest m
 request_in (Asks r) l none e = record { request = r; is = refl }
-request_in (Answers a) l none e = absurd (none_some (answering_of a) (sym (ap (λ (k : Letter). k.answering) e ∙ none)))
+request_in (Answers a) l none e = absurd (none_some (answering_of a) (sym (ap (λ (k : FetchLetter). k.answering) (fetched e) ∙ none)))
+request_in (Proposes p) l none e = absurd cc
+request_in (Decides d) l none e = absurd cc
 
 pub record IsAnswer (m : Message) : Type 0 where
   pub answer : Answer
   pub is : m ≡ Answers answer
 
-pub answer_in : (m : Message) (a : FetchAnswer) → letter_of m ≡ fetch_answer a → IsAnswer m
-answer_in (Asks r) a e = absurd (none_some (answering a.answered) (ap (λ (k : Letter). k.answering) e))
+pub answer_in : (m : Message) (a : FetchAnswer) → letter_of m ≡ Fetching (fetch_answer a) → IsAnswer m
+answer_in (Asks r) a e = absurd (none_some (answering a.answered) (ap (λ (k : FetchLetter). k.answering) (fetched e)))
 answer_in (Answers b) a e = record { answer = b; is = refl }
+answer_in (Proposes p) a e = absurd cc
+answer_in (Decides d) a e = absurd cc
 
-answers_so : (b : Answer) (a : FetchAnswer) → letter_of (Answers b) ≡ fetch_answer a → answering_of b ≡ answering a.answered
-answers_so b a e = some_is (answering_of b) (answering a.answered) (ap (λ (k : Letter). k.answering) e)
+pub proposal_in : (m : Message) (p : Proposal) → letter_of m ≡ Proposing p → m ≡ Proposes p
+proposal_in (Asks r) p e = absurd cc
+proposal_in (Answers a) p e = absurd cc
+proposal_in (Proposes q) p e = let same : q ≡ p = cc in ap Proposes same
+proposal_in (Decides d) p e = absurd cc
 
-pub has_batches : (b : Answer) (a : FetchAnswer) (f : Fetched) → letter_of (Answers b) ≡ fetch_answer a → a.answered ≡ answers.Batches f → is_covered b.log b.request ≡ true
+pub decision_in : (m : Message) (d : Decision) → letter_of m ≡ Deciding d → m ≡ Decides d
+decision_in (Asks r) d e = absurd cc
+decision_in (Answers a) d e = absurd cc
+decision_in (Proposes p) d e = absurd cc
+decision_in (Decides q) d e = let same : q ≡ d = cc in ap Decides same
+
+answers_so : (b : Answer) (a : FetchAnswer) → answered_letter b ≡ fetch_answer a → answering_of b ≡ answering a.answered
+answers_so b a e = some_is (answering_of b) (answering a.answered) (ap (λ (k : FetchLetter). k.answering) e)
+
+pub has_batches : (b : Answer) (a : FetchAnswer) (f : Fetched) → answered_letter b ≡ fetch_answer a → a.answered ≡ answers.Batches f → is_covered b.log b.request ≡ true
 has_batches b a f e is = (hands b (map logged f.batches.items) f.watermark (answers_so b a e ∙ ap answering is)).covered
 
-pub has_none : (b : Answer) (a : FetchAnswer) (end : Option EpochEnd) → letter_of (Answers b) ≡ fetch_answer a → a.answered ≡ answers.Diverging end → is_covered b.log b.request ≡ false
+pub has_none : (b : Answer) (a : FetchAnswer) (end : Option EpochEnd) → answered_letter b ≡ fetch_answer a → a.answered ≡ answers.Diverging end → is_covered b.log b.request ≡ false
 has_none b a end e is = (tells b (told_end end) (answers_so b a e ∙ ap answering is)).covered
 
 -- a request keeps the watermark
-pub asks_keep : (m : Message) (l : Letter) → l.answering ≡ None → letter_of m ≡ l → KeepsMark (Receive m)
+pub asks_keep : (m : Message) (l : FetchLetter) → l.answering ≡ None → letter_of m ≡ Fetching l → KeepsMark (Receive m)
 asks_keep m l none e = let q = request_in m l none e in subst (λ (z : Message). KeepsMark (Receive z)) (sym q.is) tt
 
 -- ---- the logs of a request that comes to a node which is x, and of an answer

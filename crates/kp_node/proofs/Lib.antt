@@ -7,3 +7,4 @@ pub mod Takes
 pub mod CutsUnder
 pub mod Callers
 pub mod Changing
+pub mod Deciding

@@ -6,8 +6,10 @@ use Rattle.kp_types.specs.declared.refusal.Refusal.{Refusal}
 use Rattle.kp_model.specs.Log.{Batch, IsKin}
 use Rattle.kp_model.specs.World.{LeaderAndIsr, Node, Message, Answers, IsSent}
 use Rattle.kp_model.specs.Event.{Act, Receive, Reply, Refused, Took, Cut}
-use Rattle.kp_model.specs.Letter.{letter_of, fetch_answer}
-use Rattle.kp_model.specs.Local.{Effect, Local, becomes, take_cause_for, cut_cause_for}
+use Rattle.kp_model.specs.Letter.{Fetching, answered_letter, letter_of, fetch_answer}
+use Rattle.kp_model.specs.Effect.{Effect, becomes}
+use Rattle.kp_model.specs.Fetching.{take_cause_for, cut_cause_for}
+use Rattle.kp_model.specs.Local.{Local}
 use Rattle.kp_model.specs.Epochs.{cut_place}
 use Rattle.kp_model.specs.Calls.{ForAnswer, taken_by, cut_by}
 use Rattle.kp_model.specs.Run.{Run, last}
@@ -27,17 +29,17 @@ use Rattle.kp_board.specs.Views.{NodeView}
 use Rattle.kp_board.specs.Rule.{AreSent}
 use Rattle.kp_board.specs.Premises.{MayStep, Shows, ShowsAWorld}
 use Rattle.kp_node.specs.Calls.{WasFollowed}
-use Rattle.kp_node.proofs.Heard.{answer_in, answered_well, has_batches}
+use Rattle.kp_node.proofs.Heard.{fetched, answer_in, answered_well, has_batches}
 
 -- ---- batches come to a node whose pass is p, and who was told of them last
 
 module _ (p : NodeView) (m m' : NumberedNode) (sent : Message) (a : FetchAnswer) (f : Fetched) (shown : LeaderAndIsr) (reply : Reply) (state : p.state ≡ m.state) (number : p.number ≡ m.number) (told : p.told ≡ sent ∷ [])
-    (by_letter : letter_of sent ≡ fetch_answer a) (batches : a.answered ≡ Batches f)
+    (by_letter : letter_of sent ≡ Fetching (fetch_answer a)) (batches : a.answered ≡ Batches f)
     (event : ForAnswer (fetch_answer a) m.state.log (λ (z : Message). CutsAbove shown m z → DoesShown shown a.answered m m' (Receive z) reply)) where
   takes : (n : ℕ) (r : Run n) → Shows r p → Does m m' (Receive sent) reply
   takes n r shows =
       let b = answer_in sent a by_letter in
-      let same : letter_of (Answers b.answer) ≡ fetch_answer a = subst (λ (z : Message). letter_of z ≡ fetch_answer a) b.is by_letter in
+      let same : answered_letter b.answer ≡ fetch_answer a = fetched (subst (λ (z : Message). letter_of z ≡ Fetching (fetch_answer a)) b.is by_letter) in
       let known : IsSent (last r).messages (Answers b.answer) = subst (IsSent (last r).messages) b.is (subst (AreSent (last r).messages) told shows.told).0 in
       let well = answered_well n r p.number p.state shows.state b.answer known in
       let covered = has_batches b.answer a f same batches in

@@ -4,12 +4,13 @@ use Rattle.kp_types.specs.declared.refusal.Refusal.{Refusal}
 use Rattle.kp_model.specs.World.{LeaderAndIsr, Node, Message, initial}
 use Rattle.kp_model.specs.Event.{Act, Receive, Restart, Reply}
 use Rattle.kp_model.specs.Letter.{Letter}
-use Rattle.kp_model.specs.Local.{Effect, Local, LocalBy, becomes, sends, cause}
+use Rattle.kp_model.specs.Effect.{Effect, becomes, sends}
+use Rattle.kp_model.specs.Local.{Local, LocalBy, cause}
 use Rattle.kp_model.specs.Laws.{KeepsMark}
 use Rattle.kp_model.specs.Calls.{sent_reply}
 use Rattle.kp_model.specs.Run.{last}
 use Rattle.kp_model.specs.Step.{IsGiven}
-use Rattle.kp_model.proofs.NodeMarks.{marks_stay}
+use Rattle.kp_model.proofs.Marks.NodeMarks.{marks_stay}
 use Rattle.kp_replica.specs.NumberedNode.{NumberedNode, Does, IsSameNode}
 use Rattle.kp_replica.specs.Sending.{DoesSending}
 use Rattle.kp_board.specs.Views.{NodeView}
@@ -25,11 +26,6 @@ Tied words p m = (p.state ≡ m.state) × (p.number ≡ m.number) × (m.state.wa
 pub tied_on : (words : ℕ) (p p' : NodeView) (m m' : NumberedNode) → Tied words p m → m'.number ≡ m.number → m'.state.watermark ≤ p.published → p' ≡ record p { state = m'.state } → Tied words p' m'
 tied_on words p p' m m' t number mark e =
     subst (λ (q : NodeView). Tied words q m') (sym e) (refl, t.1 ∙ sym number, mark, t.3)
-
--- the same where messages were told of besides, another record was shown, and the mark word is as high
-pub tied_by : (words : ℕ) (p p' : NodeView) (m m' : NumberedNode) → Tied words p m → m'.number ≡ m.number → m'.state.watermark ≤ p.published → p'.state ≡ m'.state → p'.number ≡ p.number → p.published ≤ p'.published → Tied words p' m'
-tied_by words p p' m m' t number mark state same rise =
-    let inside = t.3 in (state, same ∙ t.1 ∙ sym number, omega arith, omega arith)
 
 pub tied_at : (words mark : ℕ) (p p' : NodeView) (m m' : NumberedNode) → Tied words p m → m'.number ≡ m.number → mark ≡ m'.state.watermark
     → p' ≡ record p { state = m'.state; published = max p.published mark } → Tied words p' m'
@@ -113,13 +109,3 @@ sent_by p m m' act letter state number does =
 pub was_sent : (p : NodeView) (m m' : NumberedNode) (act : Act) (message : Message) (letter : Letter) → p.state ≡ m.state → p.number ≡ m.number → IsSameNode m m'
     → SentBy p.number p.state m'.state act message letter → Sent m m' act message letter
 was_sent p m m' act message letter state number same sent = (subst (λ (z : ℕ × Node). SentBy z.0 z.1 m'.state act message letter) (λ j. (number j, state j)) sent, same)
-
--- what the pass shows after a message came
-pub stepped : (p p' : NodeView) (y : Node) → p'.number ≡ p.number → p'.state ≡ y → p'.published ≡ max p.published y.watermark
-    → p' ≡ record p { state = y; shown = p'.shown; published = max p.published y.watermark; told = p'.told }
-stepped p p' y number state published = λ i. record { number = number i; state = state i; shown = p'.shown; published = published i; told = p'.told }
-
--- where the mark word stays as it was
-pub stayed : (p p' : NodeView) (y : Node) → p'.number ≡ p.number → p'.state ≡ y → p'.published ≡ p.published → y.watermark ≤ p'.published
-    → p' ≡ record p { state = y; shown = p'.shown; published = max p.published y.watermark; told = p'.told }
-stayed p p' y number state published low = stepped p p' y number state (omega (arith, published, low))

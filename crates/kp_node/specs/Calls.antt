@@ -3,15 +3,17 @@ use Rattle.std.specs.Prelude.{◌≡◌, ℕ, Result, Ok, Err}
 use Rattle.kp_types.specs.declared.refusal.Refusal.{Refusal}
 use Rattle.kp_model.specs.World.{LeaderAndIsr, Node, Message}
 use Rattle.kp_model.specs.Event.{Act, Reply, Refused, Stopped}
-use Rattle.kp_model.specs.Letter.{Letter, fetch_answer, letter_of}
-use Rattle.kp_model.specs.Local.{Local, sends}
+use Rattle.kp_model.specs.Letter.{FetchLetter, Letter, fetch_answer, letter_of}
+use Rattle.kp_model.specs.Effect.{sends}
+use Rattle.kp_model.specs.Local.{Local}
 use Rattle.kp_model.specs.Calls.{cut, sent_reply}
 use Rattle.kp_model.specs.declared.message.Answered.{Answered}
 use Rattle.kp_model.specs.declared.message.Answered.TheVariants.{Batches, Diverging}
 use Rattle.kp_model.specs.declared.message.MessageBody.{MessageBody}
-use Rattle.kp_model.specs.declared.message.MessageBody.TheVariants.{FetchRequest, FetchAnswer}
+use Rattle.kp_model.specs.declared.message.MessageBody.TheVariants.{FetchRequest, FetchAnswer, Proposal, Decision}
 use Rattle.kp_replica.specs.NumberedNode.{NumberedNode, DoesUnder, IsSameNode}
-use Rattle.kp_replica.specs.Replies.{cut_reply, taken_reply}
+use Rattle.kp_replica.specs.Replies.{cut_reply, learned_reply, taken_reply}
+use Rattle.kp_replica.specs.declared.altering.Learned.{Learned}
 use Rattle.kp_replica.specs.declared.cutting.CutBack.{CutBack}
 use Rattle.kp_replica.specs.declared.taking.Taken.{Taken}
 
@@ -32,16 +34,18 @@ abbrev pub WasFollowed : Answered → LeaderAndIsr → NumberedNode → Numbered
 WasFollowed (Batches fetched) c old new act = (taken : Taken) × DoesUnder c old new act (taken_reply (Ok taken))
 WasFollowed (Diverging end) c old new act = (back : CutBack) × DoesUnder c old new act (cut_reply (Ok back))
 
--- a request is never taken in
+-- What came was taken in: an answer, or a decision, from which a leader learned. A request and a proposal never are.
 abbrev pub WasTaken : MessageBody → LeaderAndIsr → NumberedNode → NumberedNode → Act → Type 0
 WasTaken (FetchAnswer a) c old new act = WasFollowed a.answered c old new act
+WasTaken (Decision d) c old new act = (learned : Learned) × DoesUnder c old new act (learned_reply (Ok learned))
 WasTaken (FetchRequest r) c old new act = ⊥
+WasTaken (Proposal p) c old new act = ⊥
 
 -- what a diverging answer with this letter leaves under this record, by the place where it cuts (KIP-101, KIP-279)
-abbrev pub CutsBack : Answered → Letter → LeaderAndIsr → NumberedNode → NumberedNode → Type 0
+abbrev pub CutsBack : Answered → FetchLetter → LeaderAndIsr → NumberedNode → NumberedNode → Type 0
 CutsBack (Diverging end) letter c old new = new.state ≡ (cut c old.number old.state letter).node
 CutsBack (Batches fetched) letter c old new = Unit {0}
 
 abbrev pub CutsTo : MessageBody → LeaderAndIsr → NumberedNode → NumberedNode → Type 0
 CutsTo (FetchAnswer a) c old new = CutsBack a.answered (fetch_answer a) c old new
-CutsTo (FetchRequest r) c old new = Unit {0}
+CutsTo _ c old new = Unit {0}

@@ -53,9 +53,10 @@ impl<B: BoardName> Node<B> {
         }
     }
 
-    /// The node's board, at which a caller gets a pass, and looks at the record and at watermarks, without the node's lock. O(1).
-    pub fn board(&self) -> &Board<B>
-        ensures { B.table.words ≡ 2 * result.now + 1 }
+    /// The node's board, at which a caller gets a pass, and looks at the record and at watermarks, without the node's lock. It is
+    /// lent; who keeps it takes a share. O(1).
+    pub fn board(&self) -> &Arc<Board<B>, Global>
+        ensures { B.table.words ≡ 2 * result.now.value + 1 }
     {
         let _nodes = self.board.nodes();
         &self.board

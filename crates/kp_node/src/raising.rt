@@ -15,7 +15,8 @@ use std::marker::Brand;
 impl<B: BoardName> Node<B> {
     /// Takes up the controller's record that a load of word 0 finds, which its pass then shows, of no lower version than the one
     /// before: the node leads from its log's end on, or follows. F28 where it is down, F22 where the record's leader epoch isn't
-    /// above its own; either leaves the node as it was. O(1), and no memory. (Kafka replication design.)
+    /// above its own, or, where the record names it, above the one that it last took up in whatever life; either leaves the node as
+    /// it was. O(1), and no memory. (Kafka replication design, KIP-320; own: the epoch that is kept.)
     pub fn adopt(&mut self) -> Result<Role, Refusal>
         ensures event { DoesUnder self.new.pass.shown self.old.node self.new.node Adopt (role_reply result) }
         ensures later { self.old.pass.shown.version ≤ self.new.pass.shown.version }
@@ -27,8 +28,8 @@ impl<B: BoardName> Node<B> {
         self.broker.adopt(&record)
     }
 
-    /// Raises the high watermark, as `Replica::raise` does, and the node's mark word with it. F28 where it is down, F15 where it
-    /// doesn't lead.
+    /// Raises the high watermark, as `Replica::raise` does, by the in-sync set that the leader knows and the pending one, and the
+    /// node's mark word with it. F28 where it is down, F15 where it doesn't lead. The cost is that of `Replica::raise`. (KIP-497.)
     pub fn raise(&mut self) -> Result<Offset, Refusal>
         ensures event { Does self.old.node self.new.node Raise (watermark_reply result) }
         ensures pass { self.new.pass ≡ record self.old.pass {

@@ -1,23 +1,36 @@
 //! What a node does with a message that comes.
 
-ghost use Rattle.std.specs.Prelude.{◌≡◌, ◌≤◌, max, Option, IfOk, IfErr, IfSome, IfNone};
-ghost use Rattle.kp_model.specs.World.{LeaderAndIsr as ModelRecord};
+ghost use Rattle.std.specs.Prelude.{◌≡◌, ◌≤◌, max, if◌then◌else◌, Option, IfOk, IfErr, IfSome, IfNone};
+ghost use Rattle.kp_types.specs.declared.refusal.Refusal.TheVariants.{Down, StaleAnswer};
+ghost use Rattle.kp_model.specs.World.{LeaderAndIsr as ModelRecord, Proposal as ModelProposal};
 ghost use Rattle.kp_model.specs.Event.{Receive, Refused};
-ghost use Rattle.kp_model.specs.Letter.{letter, letter_of, fetch_request, fetch_answer};
+ghost use Rattle.kp_model.specs.Letter.{Fetching, Proposing, Deciding, letter, letter_of, fetch_request, fetch_answer, decision_of};
+ghost use Rattle.kp_model.specs.Effect.{is_down};
 ghost use Rattle.kp_model.specs.declared.message.Answered.TheVariants.{Batches, Diverging};
 ghost use Rattle.kp_model.specs.declared.message.EpochEnd.{EpochEnd};
 ghost use Rattle.kp_model.specs.declared.message.Fetched.{Fetched};
+ghost use Rattle.kp_replica.specs.Broker.{node_at};
 ghost use Rattle.kp_replica.specs.NumberedNode.{Does, DoesUnder};
+ghost use Rattle.kp_replica.specs.Replies.{learned_reply};
 ghost use Rattle.kp_node.specs.Calls.{CutsBack, CutsTo, Sent, WasFollowed, WasTaken};
 ghost use Rattle.kp_node.specs.Seated.{SeatedNode};
 
 use crate::node::Node;
 use kp_board::{BoardName, Message, MessagePass};
-use kp_control::LeaderAndIsr;
-use kp_model::{Answered, FetchAnswer, FetchRequest, MessageBody};
-use kp_replica::{Broker, Followed};
+use kp_model::{Answered, Decision, FetchAnswer, FetchRequest, LeaderAndIsr, MessageBody};
+use kp_replica::{Broker, Followed, Learned};
 use kp_types::Refusal;
 use std::marker::Brand;
+
+// Why a proposal that is handed to a node is refused: it is for the controller. F28 where the node is down, else F29. O(1).
+fn misplaced(broker: &Broker) -> Refusal
+    ensures { result ≡ if is_down (node_at broker.now).state.mode then Down else StaleAnswer }
+{
+    match broker.up() {
+        Ok(_) => Refusal::StaleAnswer,
+        Err(refusal) => refusal,
+    }
+}
 
 impl<B: BoardName> Node<B> {
     // A request comes: batches answer it, or where the logs diverge.
@@ -26,7 +39,7 @@ impl<B: BoardName> Node<B> {
         request: FetchRequest,
         asked: MessagePass<B>,
     ) -> Result<Message<B>, Refusal>
-        requires { letter_of asked ≡ fetch_request request }
+        requires { letter_of asked ≡ Fetching (fetch_request request) }
         ensures served { IfOk result (λ m. Sent self.old.node self.new.node (Receive asked) m.pass (letter m.body)) }
         ensures refused { IfErr result (λ refusal. Does self.old.node self.new.node (Receive asked) (Refused refusal)) }
         ensures pass { self.new.pass ≡ record self.old.pass { state = self.new.node.state; told = self.new.pass.told } }
@@ -55,7 +68,7 @@ impl<B: BoardName> Node<B> {
 
     // Batches come, which look at no record. Where memory is refused the node is down.
     fn take(&mut self, answer: &FetchAnswer, sent: MessagePass<B>) -> Result<Followed, Refusal>
-        requires letter { letter_of sent ≡ fetch_answer answer.now }
+        requires letter { letter_of sent ≡ Fetching (fetch_answer answer.now) }
         requires batches { (fetched : Fetched) × (answer.now.answered ≡ Batches fetched) }
         ensures taken { IfOk result (λ _. (c : ModelRecord)
             → WasFollowed answer.now.answered c self.old.node self.new.node (Receive sent)) }
@@ -79,7 +92,7 @@ impl<B: BoardName> Node<B> {
 
     // A diverging answer comes: the log is cut under the record that the node finds, and the end word follows.
     fn cut(&mut self, answer: &FetchAnswer, sent: MessagePass<B>) -> Result<Followed, Refusal>
-        requires letter { letter_of sent ≡ fetch_answer answer.now }
+        requires letter { letter_of sent ≡ Fetching (fetch_answer answer.now) }
         requires diverging { (end : Option EpochEnd) × (answer.now.answered ≡ Diverging end) }
         ensures taken { IfOk result (λ _.
             WasFollowed answer.now.answered self.new.pass.shown self.old.node self.new.node (Receive sent)) }
@@ -106,7 +119,7 @@ impl<B: BoardName> Node<B> {
 
     // A leader's answer comes.
     fn follow(&mut self, answer: &FetchAnswer, sent: MessagePass<B>) -> Result<Followed, Refusal>
-        requires { letter_of sent ≡ fetch_answer answer.now }
+        requires { letter_of sent ≡ Fetching (fetch_answer answer.now) }
         ensures taken { IfOk result (λ _.
             WasFollowed answer.now.answered self.new.pass.shown self.old.node self.new.node (Receive sent)) }
         ensures refused { IfErr result (λ refusal.
@@ -126,12 +139,47 @@ impl<B: BoardName> Node<B> {
         }
     }
 
+    // A proposal comes, which is for the controller.
+    fn turn_away(&mut self, sent: MessagePass<B>) -> Refusal
+        requires { (p : ModelProposal) × (letter_of sent ≡ Proposing p) }
+        ensures refused { Does self.old.node self.new.node (Receive sent) (Refused result) }
+        ensures pass { self.new.pass ≡ record self.old.pass { state = self.new.node.state; told = self.new.pass.told } }
+        ensures mark { self.new.node.state.watermark ≤ self.new.pass.published }
+    {
+        self.board.receive(&mut self.pass, sent);
+        let refusal = misplaced(&self.broker);
+        self.board
+            .load_end::<Brand, Broker>(&mut self.pass, &self.broker);
+        refusal
+    }
+
+    // A decision comes, from which a leader learns.
+    fn learn(&mut self, decision: &Decision, sent: MessagePass<B>) -> Result<Learned, Refusal>
+        requires { letter_of sent ≡ Deciding (decision_of decision.now) }
+        ensures event { Does self.old.node self.new.node (Receive sent) (learned_reply result) }
+        ensures later { self.old.pass.shown.version ≤ self.new.pass.shown.version }
+        ensures pass { self.new.pass ≡ record self.old.pass {
+          state = self.new.node.state;
+          shown = self.new.pass.shown;
+          told = self.new.pass.told;
+        } }
+        ensures mark { self.new.node.state.watermark ≤ self.new.pass.published }
+    {
+        self.board.receive(&mut self.pass, sent);
+        let learned = self.broker.learn(decision);
+        let _record = self
+            .board
+            .step_under_record::<Brand, Broker>(&mut self.pass, &self.broker);
+        learned
+    }
+
     /// A message comes to the node. A leader answers a request, with batches or, where its log hasn't all of the asker's, with
     /// where they diverge: the answer's pass shows the very message that was sent. A follower takes in an answer: batches, whose
-    /// watermark its mark word follows, or a cut of its log, under the controller's record that a load of word 0 finds. F28 where
-    /// the node is down; for what else is refused, and for the cost, see `serve_fetch` and `take_fetch` of `Replica`. F33 at
-    /// batches leaves the node down; every other refusal leaves the replica as it was. (Kafka protocol guide, 'Fetch'; KIP-101,
-    /// KIP-279, KIP-320; KIP-595's truncation on fetch is the idea's source, the profile is our own.)
+    /// watermark its mark word follows, or a cut of its log, under the controller's record that a load of word 0 finds. A leader
+    /// learns from a decision, by a load of word 0. F28 where the node is down; F29 for a proposal, which is for the controller; for
+    /// what else is refused, and for the cost, see `serve_fetch`, `take_fetch` and `learn` of `Replica`. F33 at batches leaves the
+    /// node down; every other refusal leaves the replica as it was. (Kafka protocol guide, 'Fetch', 'AlterPartition'; KIP-101,
+    /// KIP-279, KIP-320, KIP-497; KIP-595's truncation on fetch is the idea's source, the profile is our own.)
     pub fn step(&mut self, message: Message<B>) -> Result<Option<Message<B>>, Refusal>
         ensures served { IfOk result (λ o. IfSome o (λ m.
             Sent self.old.node self.new.node (Receive message.pass) m.pass (letter m.body))) }
@@ -156,6 +204,11 @@ impl<B: BoardName> Node<B> {
             },
             MessageBody::FetchAnswer(answer) => match self.follow(&answer, pass) {
                 Ok(_followed) => Ok(None),
+                Err(refusal) => Err(refusal),
+            },
+            MessageBody::Proposal(_) => Err(self.turn_away(pass)),
+            MessageBody::Decision(decision) => match self.learn(&decision, pass) {
+                Ok(_learned) => Ok(None),
                 Err(refusal) => Err(refusal),
             },
         }

@@ -14,8 +14,8 @@ use kp_types::Refusal;
 use std::marker::Brand;
 
 impl<B: BoardName> Node<B> {
-    /// Stops the node, which keeps its log, its high watermark, its checkpoint and its life. F28 where it is down. The cost is that of
-    /// `Replica::stop`. (Own rule.)
+    /// Stops the node, which keeps its log, its high watermark, its checkpoint, its life and the leader epoch that it last took up. F28
+    /// where it is down. The cost is that of `Replica::stop`. (Own rule.)
     pub fn stop(&mut self) -> Result<(), Refusal>
         ensures event { Does self.old.node self.new.node Stop (stop_reply result) }
         ensures pass { self.new.pass ≡ record self.old.pass { state = self.new.node.state } }
@@ -30,7 +30,7 @@ impl<B: BoardName> Node<B> {
     }
 
     /// Starts the node again, in its next life, idle and with its high watermark at its checkpoint: the answer tells life, log end
-    /// offset and watermark. Its mark word stays as high as it was. F28 where the node is up, F24 in the greatest life, F33; each
+    /// offset and watermark. If it led it leads again only after a new election. Its mark word stays as high as it was. F28 where the node is up, F24 in the greatest life, F33; each
     /// leaves it as it was. The cost is that of `Replica::restart`. (Own rule.)
     pub fn restart(&mut self) -> Result<Answer, Refusal>
         ensures event { Does self.old.node self.new.node Restart (answered_reply result) }

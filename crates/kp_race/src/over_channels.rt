@@ -27,18 +27,19 @@ fn race_named<
 >(rt: &R, alloc: Global, opened: Opened, nodes: NodeId, plan: &Plan) -> Result<Outcome, Refusal>
     requires opened { opened ≡ B.table }
     requires nodes { opened.words ≡ 2 * nodes + 1 }
+    requires small { nodes ≤ most_nodes }
     ensures nodes { IfOk result (λ o. o.nodes ≡ nodes) }
     ensures acknowledged { IfOk result (λ o. o.acknowledged ≤ o.receipts) }
 {
     let (board, all) = nodes_of::<B>(alloc, opened, &LIMITS)?;
     let waiting = Arc::new(alloc, Waiting::new())?;
-    let channels = Channels::new(*rt, alloc, nodes)?;
+    let channels = Channels::new(*rt, alloc, nodes + 1)?; // and the controller's
     let carrier = Arc::new(alloc, Watched::new(channels, Arc::try_clone(&waiting)?))?;
     let gate = Arc::new(alloc, Open)?;
     run_race(rt, alloc, &*board, &all, &carrier, &*waiting, gate, plan)
 }
 
-/// Runs a race of so many new nodes, 0 to 7, over channels. F33.
+/// Runs a race of so many new nodes, 0 to 7, over channels: one for each node, and the controller's. F33.
 pub fn race_over_channels<R: Threads + Wait + Copy + Drop + Send + Sync + 'static>(
     rt: &R,
     alloc: Global,

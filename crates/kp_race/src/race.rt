@@ -112,20 +112,17 @@ fn run_all<B: BoardName + Send + Sync, C: Carry<Parcel<B>> + Sync, R: Threads + 
     Ok(thread::map_vec(field.rt, jobs, &|job: Job<B>| field.run(job))?)
 }
 
-// Room for a parcel at each place, while no worker takes one: so that each worker's end can be told even where no more memory is
-// found. F33.
-fn make_room<B: BoardName, C: Carry<Parcel<B>>>(
-    carrier: &C,
-    nodes: &Vec<Shared<B>>,
-) -> Result<(), Refusal> {
-    for (place, _node) in (0..NODE_PLACES as u8).zip(nodes) {
+// Room for a parcel at each node's place and at the controller's behind them, while no worker takes one: so that each worker's end can
+// be told even where no more memory is found. F33.
+fn make_room<B: BoardName, C: Carry<Parcel<B>>>(carrier: &C, nodes: NodeId) -> Result<(), Refusal> {
+    for place in 0..=nodes {
         carrier.send(place, Parcel::Turn)?;
         let _turn = carrier.receive(place);
     }
     Ok(())
 }
 
-// A worker for each node; none is left where that is refused.
+// A worker for each node, and the controller's; none is left where that is refused.
 fn started<
     B: BoardName + Send + Sync + 'static,
     R: Threads + Wait + Copy + Send + 'static,
@@ -145,7 +142,7 @@ fn started<
     if shares.len() > NODE_PLACES {
         return Err(Refusal::BadCount);
     }
-    make_room(&**carrier, nodes)?;
+    make_room(&**carrier, shares.len() as NodeId)?;
     match start(rt, alloc, shares, Arc::try_clone(carrier)?, gate) {
         Ok(cluster) => Ok(cluster),
         Err((cluster, refusal)) => {
@@ -155,7 +152,8 @@ fn started<
     }
 }
 
-/// Runs a race over these nodes, the board's, to its end. They have no worker before and none afterwards. Node 0 is elected and takes
+/// Runs a race over these nodes, the board's, to its end. They have no worker before and none afterwards, nor has the controller, whose
+/// place on the carrier is the one behind theirs. Node 0 is elected and takes
 /// the record up. Then each producer tries the nodes in turn, at most 100 times for a batch and at most 100 times its batches in all;
 /// where a leader lacks the batch before (F12) it hands in again what that leader lacks; it ends where no try finds a leader.
 /// Meanwhile the leadership moves; last each node has 100 turns. The carrier counts into `waiting`, by which turns are paced, so that

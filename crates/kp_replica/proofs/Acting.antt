@@ -12,7 +12,8 @@ use Rattle.kp_model.specs.declared.message.FetchRequest.{FetchRequest}
 use Rattle.kp_model.specs.Calls.{ForLetter, ForRequest, ForAnswer, sent_reply}
 use Rattle.kp_model.specs.Event.{Act, Receive, Reply, Refused}
 use Rattle.kp_model.specs.Letter.{FetchLetter, Fetching, Proposing, Deciding, Letter, answered_letter, answering as answering_in, fetch_answer, fetch_request, letter, letter_of}
-use Rattle.kp_model.specs.Local.{becomes, cause, is_down, sends}
+use Rattle.kp_model.specs.Effect.{becomes, is_down, sends}
+use Rattle.kp_model.specs.Local.{cause}
 use Rattle.kp_replica.proofs.Downs.{refuses_proposal}
 use Rattle.kp_model.specs.declared.message.MessageBody.{MessageBody}
 use Rattle.kp_model.specs.Event as model
@@ -140,8 +141,7 @@ pub request_came : (c : LeaderAndIsr) (old new : NumberedNode) (r : FetchRequest
     → ForRequest (fetch_request r) old.state.log (λ m. DoesSending old new (Receive m) sent) → DoesSending old new (Receive m) sent
 request_came c old new r sent (Asks q) is of event = event q (fetched is) of.0 of.1
 request_came c old new r sent (AnswersOf a) is of event = absurd (false≢true (sym (ap (λ (l : FetchLetter). is_some l.answering) (fetched is))))
-request_came c old new r sent (Proposes p) is of event = absurd cc
-request_came c old new r sent (Decides d) is of event = absurd cc
+request_came c old new r sent _ is of event = absurd cc
 
 -- the record was shown to what looks at it
 shown_by : (c shown : LeaderAndIsr) (r : FetchRequest) (given : Answered) (a : ModelAnswer) → answered_letter a ≡ record (fetch_request r) { answering = Some (answering_in given) }
@@ -156,8 +156,7 @@ pub answer_came : (c shown : LeaderAndIsr) (old new : NumberedNode) (answer : Fe
 answer_came c shown old new answer (Asks q) reply is under of event = absurd (unanswered q answer.request answer.answered is)
 answer_came c shown old new answer (AnswersOf a) reply is under of event =
     event a (fetched is) of.0 of.1 of.2 of.3 (λ diverges. subst (λ (k : LeaderAndIsr). CutsAbove k old (AnswersOf a)) (under diverges) of.4 diverges) c (shown_by c shown answer.request answer.answered a (fetched is) under)
-answer_came c shown old new answer (Proposes p) reply is under of event = absurd cc
-answer_came c shown old new answer (Decides d) reply is under of event = absurd cc
+answer_came c shown old new answer _ reply is under of event = absurd cc
 
 -- and what refuses it, whatever logs the message has
 pub answer_refused : (c shown : LeaderAndIsr) (old new : NumberedNode) (answer : FetchAnswer) (m : Message) (refusal : Refusal) (result : Result Followed Refusal) → letter_of m ≡ Fetching (fetch_answer answer)
@@ -172,8 +171,7 @@ answer_refused c shown old new answer (AnswersOf a) refusal result is under held
     sym (same_cause shown c old answer.request answer.answered known) ∙ sym (cause_is c old answer.request answer.answered a (fetched is)) ∙ held in
     let done = subst (λ (o : Option Refusal). IfSome o (λ refusal. (result ≡ Err refusal) × ForLetter (Fetching (fetch_answer answer)) (λ m. DoesShown shown answer.answered old new (Receive m) (Refused refusal)))) why refused in
     (done.0, done.1 (AnswersOf a) is c known)
-answer_refused c shown old new answer (Proposes p) refusal result is under held refused = absurd cc
-answer_refused c shown old new answer (Decides d) refusal result is under held refused = absurd cc
+answer_refused c shown old new answer _ refusal result is under held refused = absurd cc
 
 -- what the controller is asked, and what it decides
 proposed : {l m : Proposal} → Proposing l ≡ Proposing m → l ≡ m
@@ -183,16 +181,12 @@ decided : {l m : Decision} → Deciding l ≡ Deciding m → l ≡ m
 decided e = cc
 
 decision_came : (d : Decision) (m : Message) → letter_of m ≡ Deciding d → Decides d ≡ m
-decision_came d (Asks q) is = absurd cc
-decision_came d (AnswersOf a) is = absurd cc
-decision_came d (Proposes p) is = absurd cc
 decision_came d (Decides e) is = ap Decides (sym (decided is))
+decision_came d _ is = absurd cc
 
 proposal_is : (p : Proposal) (m : Message) → letter_of m ≡ Proposing p → Proposes p ≡ m
-proposal_is p (Asks q) is = absurd cc
-proposal_is p (AnswersOf a) is = absurd cc
 proposal_is p (Proposes q) is = ap Proposes (sym (proposed is))
-proposal_is p (Decides d) is = absurd cc
+proposal_is p _ is = absurd cc
 
 pub proposal_came : (c : LeaderAndIsr) (x : NumberedNode) (p : Proposal) (m : Message) → letter_of m ≡ Proposing p → is_down x.state.mode ≡ false
     → DoesUnder c x x (Receive m) (Refused refusals.StaleAnswer)

@@ -9,14 +9,17 @@ use Rattle.kp_types.specs.declared.refusal.Refusal.TheVariants as refusals
 use Rattle.kp_model.specs.World.{LeaderAndIsr, Leading, Mode, Leads, Node, Decision, Proposes, Decides}
 use Rattle.kp_model.specs.Event.{Receive, Learned, Refused, SentProposal}
 use Rattle.kp_model.specs.Letter.{Proposing}
-use Rattle.kp_model.specs.Local.{Effect, Local, becomes, cause, has_epoch, is_member, learn_cause, proposal, sends, unless_leads, with_member, without_member, Learns, Proposes-set, WhereLeads}
+use Rattle.kp_model.specs.Controller.{has_epoch, is_member, with_member, without_member}
+use Rattle.kp_model.specs.Effect.{Effect, becomes, sends, unless_leads, WhereLeads}
+use Rattle.kp_model.specs.InSync.{learn_cause, proposal, Learns, Proposes-set}
+use Rattle.kp_model.specs.Local.{Local, cause}
 use Rattle.kp_replica.specs.declared.altering.IsrChange.{IsrChange}
 use Rattle.kp_replica.specs.declared.altering.IsrChange.TheVariants.{Join, Leave}
 use Rattle.kp_replica.specs.Altering.{change_act, changed_isr, isr_cause}
 use Rattle.kp_replica.specs.NumberedNode.{NumberedNode, Does}
 use Rattle.kp_replica.specs.Sending.{DoesSending}
-use Rattle.kp_model.proofs.Members.{in_back}
-use Rattle.kp_model.proofs.Steps.{happened, was_refused}
+use Rattle.kp_model.proofs.Safety.Members.{in_back}
+use Rattle.kp_model.proofs.OneStep.Steps.{happened, was_refused}
 
 -- ---- a set without the joiner isn't the one with it
 

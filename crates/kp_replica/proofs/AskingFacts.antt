@@ -5,9 +5,9 @@ use Rattle.kp_model.specs.Log.{end_of}
 use Rattle.kp_model.specs.World.{Follows, Following}
 use Rattle.kp_model.specs.Event.{Ask, Refused}
 use Rattle.kp_model.specs.Letter.{Fetching}
-use Rattle.kp_model.specs.Local.{ask_cause, last_epoch}
-use Rattle.kp_model.proofs.Sending.{asks}
-use Rattle.kp_model.proofs.Steps.{was_refused}
+use Rattle.kp_model.specs.Fetching.{ask_cause, last_epoch}
+use Rattle.kp_model.proofs.OneStep.Sending.{asks}
+use Rattle.kp_model.proofs.OneStep.Steps.{was_refused}
 use Rattle.kp_replica.specs.declared.replica.Following.{Following as CodeFollowing}
 use Rattle.kp_replica.specs.declared.replica.Mode.{Mode as CodeMode}
 use Rattle.kp_replica.specs.declared.replica.Mode.TheVariants as modes

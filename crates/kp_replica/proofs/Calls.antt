@@ -6,8 +6,11 @@ use Rattle.std.proofs.lemmas.Bool.{eq-eqb, ne_eqb, lt-leb, le-leb}
 use Rattle.kp_model.specs.Log.{end_of}
 use Rattle.kp_model.specs.World.{Leader, LeaderAndIsr, Leading, Mode, Down, Idle, Leads, Follows, Node, no_reports}
 use Rattle.kp_model.specs.Event.{Adopt, Raise, Checkpoint, Stop, Restart, Refused, NowLeads, NowFollows, MarkAt, CheckpointAt, Stopped, Restarted}
-use Rattle.kp_model.specs.Local.{Effect, Local, cause, becomes, is_down, is_news, under, Adopts, WhereLeads, Raises, raised}
-use Rattle.kp_model.proofs.Steps.{happened, lacked_memory, was_refused}
+use Rattle.kp_model.specs.Effect.{Effect, becomes, is_down, WhereLeads}
+use Rattle.kp_model.specs.Adopting.{is_news, under, Adopts}
+use Rattle.kp_model.specs.Raising.{Raises, raised}
+use Rattle.kp_model.specs.Local.{Local, cause}
+use Rattle.kp_model.proofs.OneStep.Steps.{happened, lacked_memory, was_refused}
 
 -- ---- adopt
 

@@ -10,16 +10,18 @@ use Rattle.kp_model.specs.Beginning.{Begins}
 use Rattle.kp_model.specs.Log.{Batch, IsLog, IsBoundary, below, end_of, is_boundary}
 use Rattle.kp_model.specs.World.{LeaderAndIsr, Node}
 use Rattle.kp_model.specs.Event.{Cut}
-use Rattle.kp_model.specs.Local.{becomes, is_down, has_epoch, mode_epoch, reconciles, cut_cause_for}
+use Rattle.kp_model.specs.Controller.{has_epoch}
+use Rattle.kp_model.specs.Effect.{becomes, is_down, mode_epoch}
+use Rattle.kp_model.specs.Fetching.{reconciles, cut_cause_for}
 use Rattle.kp_model.specs.Calls.{cut, cut_by}
 use Rattle.kp_model.specs.declared.message.EpochEnd.{EpochEnd}
 use Rattle.kp_model.specs.declared.message.FetchRequest.{FetchRequest}
 use Rattle.kp_log.specs.Partition.{Partition}
 use Rattle.kp_log.specs.Refusals.{truncate_cause}
 use Rattle.kp_log.specs.declared.stack.Tally.{Tally}
-use Rattle.kp_model.proofs.Beginnings.{Begins-refl, Begins-agree}
-use Rattle.kp_model.proofs.HeldAgree.{below_boundary}
-use Rattle.kp_model.proofs.Logs.{end_of-append}
+use Rattle.kp_model.proofs.Plain.Beginnings.{Begins-refl, Begins-agree}
+use Rattle.kp_model.proofs.Safety.HeldAgree.{below_boundary}
+use Rattle.kp_model.proofs.Plain.Logs.{end_of-append}
 use Rattle.kp_replica.specs.Cutting.{diverging, diverging_cause, place_for}
 use Rattle.kp_replica.specs.NumberedNode.{NumberedNode, HasEpochs, HasReports}
 use Rattle.kp_replica.specs.declared.cutting.CutBack.{CutBack}

@@ -3,11 +3,13 @@ use Rattle.std.proofs.Common.{◌≡◌, ℕ, true, false, Option, Some, refl, s
 use Rattle.std.proofs.lemmas.Bool.{cond_both}
 use Rattle.kp_types.specs.declared.refusal.Refusal.{Refusal}
 use Rattle.kp_types.specs.declared.refusal.Refusal.TheVariants as refusals
-use Rattle.kp_model.specs.World.{LeaderAndIsr, Mode, Down, Idle, Leads, Follows, Node, Proposal, Message, Asks, Answers, Proposes, Decides}
+use Rattle.kp_model.specs.World.{LeaderAndIsr, Mode, Down, Idle, Leads, Follows, Node, Proposal, Message, Asks, Answers, Proposes}
 use Rattle.kp_model.specs.Event.{Act, Receive, Refused}
 use Rattle.kp_model.specs.Event as model
-use Rattle.kp_model.specs.Local.{cause, is_down, receive_cause, is_covered, take_cause, cut_cause}
-use Rattle.kp_model.proofs.Steps.{was_refused}
+use Rattle.kp_model.specs.Effect.{is_down}
+use Rattle.kp_model.specs.Fetching.{is_covered, take_cause, cut_cause}
+use Rattle.kp_model.specs.Local.{cause, receive_cause}
+use Rattle.kp_model.proofs.OneStep.Steps.{was_refused}
 use Rattle.kp_replica.specs.NumberedNode.{NumberedNode, DoesUnder}
 
 -- all that a node refuses while it is down, but messages
@@ -28,11 +30,9 @@ down_cause c n x model.Restart down asked = absurd asked
 down_cause c n x _ down asked = rw down refl
 
 down_receives : (c : LeaderAndIsr) (n : ℕ) (x : Node) (m : Message) → x.mode ≡ Down → receive_cause c n x m ≡ Some refusals.Down
-down_receives c n x (Asks r) down = rw down refl
 down_receives c n x (Answers a) down =
     cond_both (is_covered a.log a.request) (take_cause x a) (cut_cause c n x a) (λ (o : Option Refusal). o ≡ Some refusals.Down) (λ e. rw down refl) (λ e. rw down refl)
-down_receives c n x (Proposes p) down = rw down refl
-down_receives c n x (Decides d) down = rw down refl
+down_receives c n x _ down = rw down refl
 
 pub refuses_down : (c : LeaderAndIsr) (x : NumberedNode) (act : Act) (refusal : Refusal) → is_down x.state.mode ≡ true → refusal ≡ refusals.Down → NeedsUp act
     → DoesUnder c x x act (Refused refusal)

@@ -10,10 +10,13 @@ use Rattle.kp_types.specs.declared.refusal.Refusal.TheVariants as refusals
 use Rattle.kp_types.proofs.Causes.{only_cause, only_none}
 use Rattle.kp_model.specs.Beginning.{Begins, find_map, with_before}
 use Rattle.kp_model.specs.Log.{Batch, IsLog, IsKin, end_of, is_boundary}
-use Rattle.kp_model.specs.World.{LeaderAndIsr, Node, Request, Answer, Message, Asks, Answers, Proposes, Decides}
+use Rattle.kp_model.specs.World.{LeaderAndIsr, Node, Request, Answer, Message, Asks, Answers}
 use Rattle.kp_model.specs.Event.{Receive, Reply, Refused}
 use Rattle.kp_model.specs.Letter.{FetchLetter, Fetching, Batches, answering, answered_letter, letter_of, fetch_request, fetch_answer}
-use Rattle.kp_model.specs.Local.{Effect, Local, awaits, becomes, cannot_follow, cause, follow_cause, has_epoch, is_down, last_epoch, mode_epoch, piece, reconciles, take_cause_for, take_cause, cut_cause, cut_cause_for}
+use Rattle.kp_model.specs.Controller.{has_epoch}
+use Rattle.kp_model.specs.Effect.{Effect, becomes, is_down, mode_epoch}
+use Rattle.kp_model.specs.Fetching.{awaits, cannot_follow, follow_cause, last_epoch, piece, reconciles, take_cause_for, take_cause, cut_cause, cut_cause_for}
+use Rattle.kp_model.specs.Local.{Local, cause}
 use Rattle.kp_model.specs.Laws.{place_of}
 use Rattle.kp_model.specs.Epochs.{cut_place}
 use Rattle.kp_model.specs.Calls.{ForLetter, ForAnswer, taken, cut}
@@ -23,11 +26,11 @@ use Rattle.kp_model.specs.declared.message.EpochEnd.{EpochEnd}
 use Rattle.kp_model.specs.declared.message.FetchAnswer.{FetchAnswer}
 use Rattle.kp_model.specs.declared.message.FetchRequest.{FetchRequest}
 use Rattle.kp_model.specs.declared.message.Fetched.{Fetched}
-use Rattle.kp_model.proofs.ByLetter.{take_is_the_step}
-use Rattle.kp_model.proofs.Cutting.{cut_is_the_step}
-use Rattle.kp_model.proofs.Deliveries.{boundary_test}
-use Rattle.kp_model.proofs.Letters.{Hands, hands, Tells, tells}
-use Rattle.kp_model.proofs.Steps.{was_refused}
+use Rattle.kp_model.proofs.OneStep.ByLetter.{take_is_the_step}
+use Rattle.kp_model.proofs.Cuts.Cutting.{cut_is_the_step}
+use Rattle.kp_model.proofs.Cuts.Deliveries.{boundary_test}
+use Rattle.kp_model.proofs.OneStep.Letters.{Hands, hands, Tells, tells}
+use Rattle.kp_model.proofs.OneStep.Steps.{was_refused}
 use Rattle.kp_replica.specs.Cutting.{told_end, diverging, diverging_cause, place_for}
 use Rattle.kp_replica.specs.Hearing.{IsDiverging, letter_cause, answer_cause, answer_effect, IsShown, DoesShown, CutsAbove, IsFollowed, IsLeftShort}
 use Rattle.kp_replica.specs.NumberedNode.{NumberedNode, DoesUnder, IsSameNode}
@@ -96,8 +99,7 @@ refuses shown m a refusal is = by_message
     by_message (Asks q) same = absurd (unanswered q a.request a.answered same)
     by_message (Answers b) same = λ c under.
         (was_refused c m.number m.state (Receive (Answers b)) refusal (cause_is c m a.request a.answered b (fetched same) ∙ same_cause shown c m a.request a.answered under ∙ is), (refl, refl))
-    by_message (Proposes p) same = absurd cc
-    by_message (Decides d) same = absurd cc
+    by_message _ same = absurd cc
 
 -- and what is done where the letter's effect is left
 does : (shown c : LeaderAndIsr) (old : NumberedNode) (y : Node) (r : FetchRequest) (given : Answered) (reply : Reply) (b : Answer)

@@ -14,7 +14,10 @@ use Rattle.kp_model.specs.Producers.{Producer, producer_in}
 use Rattle.kp_model.specs.World.{LeaderAndIsr, Leading, Mode, Leads, Node}
 use Rattle.kp_model.specs.Event.{Refused, At}
 use Rattle.kp_model.specs.Admission.{Admission, Append, Duplicate, Refused as NotAdmitted, admit_marker, marker_for}
-use Rattle.kp_model.specs.Local.{Local, Effect, becomes, cause, last_epoch, admission_cause, exhausts, stamped, WhereLeads, Marks, Appends}
+use Rattle.kp_model.specs.Effect.{Effect, becomes, WhereLeads}
+use Rattle.kp_model.specs.Appending.{admission_cause, exhausts, stamped, Marks, Appends}
+use Rattle.kp_model.specs.Fetching.{last_epoch}
+use Rattle.kp_model.specs.Local.{Local, cause}
 use Rattle.kp_log.specs.Refusals.{append_cause}
 use Rattle.kp_admit.specs.Admitting.{admission_is}
 use Rattle.kp_admit.specs.declared.admitting.Admission.{Admission as Answer}
@@ -22,7 +25,7 @@ use Rattle.kp_admit.specs.declared.admitting.Admission.TheVariants as answers
 use Rattle.kp_replica.specs.declared.producing.Receipt.{Receipt}
 use Rattle.kp_replica.specs.Replies.{IsNamedBy, IsReceiptOfBody, receipt_reply, mark_of, body_of}
 use Rattle.kp_replica.proofs.ProducingFacts.{same_cause, answered_by_log}
-use Rattle.kp_model.proofs.Steps.{lacked_memory, was_refused}
+use Rattle.kp_model.proofs.OneStep.Steps.{lacked_memory, was_refused}
 
 -- ---- admission
 

@@ -12,17 +12,18 @@ use Rattle.kp_batch.specs.Batch.{Written}
 use Rattle.kp_model.specs.Beginning.{find_map}
 use Rattle.kp_model.specs.Log.{Batch, written, logged, next_offset, end_of, is_boundary, carry_cause, IsBoundary, IsLog}
 use Rattle.kp_model.specs.Epochs.{covers}
-use Rattle.kp_model.specs.World.{Leading, Mode, Leads, Node, Request, Answer, Message, Asks, Answers, Proposes, Decides}
+use Rattle.kp_model.specs.World.{Leading, Mode, Leads, Node, Request, Answer, Message, Asks, Answers}
 use Rattle.kp_model.specs.Event.{Receive, Refused}
 use Rattle.kp_model.specs.Letter.{FetchLetter, Fetching, Batches, Diverging, answering_of, asked_letter, letter_of, fetch_request}
-use Rattle.kp_model.specs.Local.{becomes, piece_from, end_asked, unless_leads, serve_cause, serve_cause_for, reporting}
+use Rattle.kp_model.specs.Effect.{becomes, unless_leads}
+use Rattle.kp_model.specs.Fetching.{piece_from, end_asked, serve_cause, serve_cause_for, reporting}
 use Rattle.kp_model.specs.Calls.{DoesSending as NodeDoesSending, ForLetter, ForRequest, served, answer_letter}
 use Rattle.kp_model.specs.declared.message.FetchRequest.{FetchRequest}
 use Rattle.kp_log.specs.Refusals.{read_cause}
 use Rattle.kp_insync.specs.Reports.{with_report}
-use Rattle.kp_model.proofs.Logs.{boundary_within}
-use Rattle.kp_model.proofs.Sending.{serve_is_the_step}
-use Rattle.kp_model.proofs.Steps.{was_refused, lacked_memory}
+use Rattle.kp_model.proofs.Plain.Logs.{boundary_within}
+use Rattle.kp_model.proofs.OneStep.Sending.{serve_is_the_step}
+use Rattle.kp_model.proofs.OneStep.Steps.{was_refused, lacked_memory}
 use Rattle.kp_replica.proofs.HearingFacts.{fetched}
 use Rattle.kp_replica.specs.NumberedNode.{NumberedNode, Does, HasReports}
 use Rattle.kp_replica.specs.Sending.{DoesSending, IsServed}
@@ -55,16 +56,14 @@ pub refuses : (m : NumberedNode) (letter : FetchLetter) (refusal : Refusal) (mes
     → letter_of message ≡ Fetching letter → Does m m (Receive message) (Refused refusal)
 refuses m letter refusal (Asks q) unanswered cause e = λ c. (was_refused c m.number m.state (Receive (Asks q)) refusal (by_letter m.state q letter (fetched e) ∙ cause), (refl, refl))
 refuses m letter refusal (Answers a) unanswered cause e = absurd (no_request letter a unanswered e)
-refuses m letter refusal (Proposes p) unanswered cause e = absurd cc
-refuses m letter refusal (Decides d) unanswered cause e = absurd cc
+refuses m letter refusal _ unanswered cause e = absurd cc
 
 pub lacks : (m : NumberedNode) (letter : FetchLetter) (message : Message) → letter.answering ≡ None → cause_for m.state letter ≡ None
     → letter_of message ≡ Fetching letter → Does m m (Receive message) (Refused refusals.Memory)
 lacks m letter (Asks q) unanswered cause e =
     λ c. (lacked_memory c m.number m.state (Receive (Asks q)) (becomes c m.state (Refused refusals.Memory)) (by_letter m.state q letter (fetched e) ∙ cause) refl, (refl, refl))
 lacks m letter (Answers a) unanswered cause e = absurd (no_request letter a unanswered e)
-lacks m letter (Proposes p) unanswered cause e = absurd cc
-lacks m letter (Decides d) unanswered cause e = absurd cc
+lacks m letter _ unanswered cause e = absurd cc
 
 -- a leader of the request's epoch tests whether the offset is a boundary, where it covers the request
 in_epoch : (log : List Batch) (r : FetchRequest) (l : Leading) (covered inside : Bool) → l.epoch ≡ r.epoch → covers log r.offset r.last_epoch ≡ covered

@@ -3,7 +3,7 @@ use Rattle.std.proofs.Common.{◌≡◌, Option, Some, false, refl}
 use Rattle.kp_types.specs.declared.refusal.Refusal.{Refusal}
 use Rattle.kp_types.specs.declared.refusal.Refusal.TheVariants as refusals
 use Rattle.kp_model.specs.World.{Leading as ModelLeading}
-use Rattle.kp_model.specs.Local.{is_down, unless_leads}
+use Rattle.kp_model.specs.Effect.{is_down, unless_leads}
 use Rattle.kp_replica.specs.declared.replica.Mode.{Mode}
 use Rattle.kp_replica.specs.declared.replica.Leading.{Leading}
 use Rattle.kp_replica.specs.declared.replica.Mode.TheVariants.{Idle, Leads, Follows}

@@ -3,10 +3,10 @@ use Rattle.std.proofs.Common.{◌≡◌, ℕ, ◌≤◌, Option, Some, None, ref
 use Rattle.std.specs.Prelude.{unwrap_or}
 use Rattle.kp_model.specs.World.{Leader}
 use Rattle.kp_model.specs.Laws.{EpochsAreElected}
-use Rattle.kp_model.specs.Local.{last_epoch}
+use Rattle.kp_model.specs.Fetching.{last_epoch}
 use Rattle.kp_model.specs.Run.{Run, last}
-use Rattle.kp_model.proofs.LogEpochs.{last_occurs}
-use Rattle.kp_model.proofs.RunLaws.{last_is_of}
+use Rattle.kp_model.proofs.InRuns.LogEpochs.{last_occurs}
+use Rattle.kp_model.proofs.InRuns.RunLaws.{last_is_of}
 use Rattle.kp_replica.specs.Adopting.{IsWithin}
 
 -- no node's log has an epoch above the record's

@@ -10,7 +10,9 @@ use Rattle.kp_model.specs.Admission.{admit, Duplicate}
 use Rattle.kp_model.specs.World.{LeaderAndIsr, Node, Asks, Answers as AnswersOf, Proposes, Decides}
 use Rattle.kp_model.specs.Letter.{Letter, letter, letter_of}
 use Rattle.kp_model.specs.Calls.{sent_reply}
-use Rattle.kp_model.specs.Local.{Effect as ModelEffect, Local, cause, is_covered}
+use Rattle.kp_model.specs.Effect.{Effect as ModelEffect}
+use Rattle.kp_model.specs.Fetching.{is_covered}
+use Rattle.kp_model.specs.Local.{Local, cause}
 use Rattle.kp_model.specs.declared.message.MessageBody.{MessageBody}
 use Rattle.kp_replica.specs.Adopting.{IsWithin}
 use Rattle.kp_replica.specs.Altering.{change_act}

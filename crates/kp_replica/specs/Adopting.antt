@@ -6,7 +6,8 @@ use Rattle.kp_types.specs.declared.refusal.Refusal.{Refusal}
 use Rattle.kp_types.specs.declared.refusal.Refusal.TheVariants as refusals
 use Rattle.kp_model.specs.Log.{Batch}
 use Rattle.kp_model.specs.World.{Leader, LeaderAndIsr, Node}
-use Rattle.kp_model.specs.Local.{is_news, last_epoch}
+use Rattle.kp_model.specs.Adopting.{is_news}
+use Rattle.kp_model.specs.Fetching.{last_epoch}
 
 -- The log has no epoch above the record's, as in each world of a run (own).
 abbrev pub IsWithin : LeaderAndIsr → List Batch → Type 0

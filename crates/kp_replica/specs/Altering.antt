@@ -7,7 +7,9 @@ use Rattle.kp_model.specs.World.{Leading}
 use Rattle.kp_model.specs.Event as model
 use Rattle.kp_model.specs.Event.{Act}
 use Rattle.kp_model.specs.Letter.{Letter, Proposing}
-use Rattle.kp_model.specs.Local.{change_cause, is_caught_up, is_member, proposal, with_member, without_member, WhereLeads}
+use Rattle.kp_model.specs.Controller.{is_member, with_member, without_member}
+use Rattle.kp_model.specs.Effect.{WhereLeads}
+use Rattle.kp_model.specs.InSync.{change_cause, is_caught_up, proposal}
 use Rattle.kp_replica.specs.declared.altering.IsrChange.{IsrChange}
 use Rattle.kp_replica.specs.declared.altering.IsrChange.TheVariants.{Join, Leave}
 use Rattle.kp_replica.specs.NumberedNode.{NumberedNode}

@@ -8,7 +8,9 @@ use Rattle.kp_model.specs.Log.{Batch, is_boundary}
 use Rattle.kp_model.specs.Epochs.{cut_place}
 use Rattle.kp_model.specs.World.{LeaderAndIsr}
 use Rattle.kp_model.specs.Letter.{FetchLetter, Diverging, fetch_request}
-use Rattle.kp_model.specs.Local.{has_epoch, mode_epoch, reconciles}
+use Rattle.kp_model.specs.Controller.{has_epoch}
+use Rattle.kp_model.specs.Effect.{mode_epoch}
+use Rattle.kp_model.specs.Fetching.{reconciles}
 use Rattle.kp_model.specs.declared.message.EpochEnd.{EpochEnd}
 use Rattle.kp_model.specs.declared.message.FetchRequest.{FetchRequest}
 use Rattle.kp_replica.specs.NumberedNode.{NumberedNode}

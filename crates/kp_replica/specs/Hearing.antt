@@ -4,7 +4,8 @@ use Rattle.kp_types.specs.Causes.{IsRefusedOnlyBy}
 use Rattle.kp_types.specs.declared.refusal.Refusal.{Refusal}
 use Rattle.kp_model.specs.World.{LeaderAndIsr, Message, Answers}
 use Rattle.kp_model.specs.Event.{Act, Reply}
-use Rattle.kp_model.specs.Local.{Effect, becomes, is_covered, is_down, cut_cause, cut_cause_for}
+use Rattle.kp_model.specs.Effect.{Effect, becomes, is_down}
+use Rattle.kp_model.specs.Fetching.{is_covered, cut_cause, cut_cause_for}
 use Rattle.kp_model.specs.Laws.{place_of}
 use Rattle.kp_model.specs.Calls.{cut}
 use Rattle.kp_model.specs.declared.message.FetchAnswer.{FetchAnswer}

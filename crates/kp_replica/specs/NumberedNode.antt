@@ -4,7 +4,7 @@ use Rattle.kp_types.specs.declared.limits.Limits.{Limits}
 use Rattle.kp_model.specs.Log.{Batch, IsBoundary}
 use Rattle.kp_model.specs.World.{LeaderAndIsr, Mode, Leads, Node, report_of}
 use Rattle.kp_model.specs.Event.{Act, Reply}
-use Rattle.kp_model.specs.Local.{last_epoch}
+use Rattle.kp_model.specs.Fetching.{last_epoch}
 use Rattle.kp_model.specs.Calls.{DoesUnder as NodeDoesUnder}
 
 -- a node's number, the limits of its log, and its state

@@ -8,7 +8,7 @@ use Rattle.kp_model.specs.Log.{Batch, last_offset}
 use Rattle.kp_marker.specs.Marker.{commits}
 use Rattle.kp_marker.specs.declared.parts.Marker.{Marker as HandedMarker}
 use Rattle.kp_model.specs.Event.{Act, Mark, Reply, Refused, NowLeads, NowFollows, At, DuplicateOf, Learned, Took, Cut, MarkAt, CheckpointAt, Shown as StateShown, Lines, Line}
-use Rattle.kp_model.specs.Local.{marker_body}
+use Rattle.kp_model.specs.Appending.{marker_body}
 use Rattle.kp_model.specs.Producers.{sequence_after}
 use Rattle.kp_model.specs.Set.{members_of}
 use Rattle.kp_replica.specs.declared.adopting.Role.{Role}

@@ -3,7 +3,7 @@ use Rattle.std.specs.Prelude.{◌≡◌, None}
 use Rattle.kp_model.specs.World.{Leading, Leads}
 use Rattle.kp_model.specs.Event.{Act}
 use Rattle.kp_model.specs.Letter.{FetchLetter, Letter}
-use Rattle.kp_model.specs.Local.{serve_cause_for}
+use Rattle.kp_model.specs.Fetching.{serve_cause_for}
 use Rattle.kp_model.specs.Calls.{DoesSending as NodeDoesSending, served, answer_letter}
 use Rattle.kp_replica.specs.NumberedNode.{NumberedNode, IsSameNode}
 

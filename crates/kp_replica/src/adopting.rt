@@ -19,7 +19,8 @@ impl Replica {
     ghost use Rattle.kp_types.specs.Causes.{IsRefusedOnlyBy};
     ghost use Rattle.kp_model.specs.Calls.{adopted};
     ghost use Rattle.kp_model.specs.Event.{Adopt};
-    ghost use Rattle.kp_model.specs.Local.{becomes, is_news};
+    ghost use Rattle.kp_model.specs.Effect.{becomes};
+    ghost use Rattle.kp_model.specs.Adopting.{is_news};
     ghost use Rattle.kp_model.specs.Set.{record_of};
     ghost use Rattle.kp_replica.specs.Adopting.{IsWithin, adopt_cause};
     ghost use Rattle.kp_replica.specs.NumberedNode.{DoesUnder, IsSameNode};

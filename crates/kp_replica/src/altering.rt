@@ -1,7 +1,7 @@
 //! What a leader asks of the controller for the in-sync replicas, and what it learns from the controller's decisions.
 
 ghost use Rattle.std.specs.Prelude.{◌≡◌, ◌<◌, ◌^◌, ◌+◌, bytes_eq};
-ghost use Rattle.kp_model.specs.Local.{known_by};
+ghost use Rattle.kp_model.specs.InSync.{known_by};
 ghost use Rattle.kp_model.specs.Set.{members_of, record_of};
 ghost use Rattle.kp_replica.specs.Altering.{changed_isr};
 ghost use Rattle.kp_replica.specs.Modes.{leading_of};
@@ -74,7 +74,9 @@ impl Replica {
     ghost use Rattle.kp_types.specs.declared.refusal.Refusal.TheVariants.{Memory};
     ghost use Rattle.kp_model.specs.Event.{Receive, Refused};
     ghost use Rattle.kp_model.specs.Letter.{letter, decision_of};
-    ghost use Rattle.kp_model.specs.Local.{cause, learn_cause, unless_leads};
+    ghost use Rattle.kp_model.specs.Effect.{unless_leads};
+    ghost use Rattle.kp_model.specs.InSync.{learn_cause};
+    ghost use Rattle.kp_model.specs.Local.{cause};
     ghost use Rattle.kp_model.specs.Set.{members_of};
     ghost use Rattle.kp_model.specs.World.{LeaderAndIsr as ModelRecord, Decides};
     ghost use Rattle.kp_replica.specs.NumberedNode.{Does, IsSameNode};

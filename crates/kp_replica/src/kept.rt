@@ -30,7 +30,7 @@ impl Model for KeptNode {
 impl KeptNode {
     ghost use Rattle.std.specs.Prelude.{◌≡◌, ◌≤◌, true};
     ghost use Rattle.kp_model.specs.Log.{IsBoundary};
-    ghost use Rattle.kp_model.specs.Local.{is_down};
+    ghost use Rattle.kp_model.specs.Effect.{is_down};
     ghost use Rattle.kp_model.specs.World.{Down as ModelDown};
     ghost use Rattle.kp_types.specs.declared.refusal.Refusal.TheVariants.{Down as IsDown};
 

@@ -15,9 +15,9 @@ use Rattle.kp_marker.specs.Marker.{commits}
 use Rattle.kp_marker.proofs.Built.{marker_size}
 use Rattle.kp_model.specs.Event.{Event, Produce}
 use Rattle.kp_model.specs.Handed.{BatchesKeepTheirSize, Hands, IsAtMost}
-use Rattle.kp_model.specs.Local.{marker_body}
+use Rattle.kp_model.specs.Appending.{marker_body}
 use Rattle.kp_model.specs.Run.{Moment, last}
-use Rattle.kp_model.proofs.RunLaws.{last_is_of}
+use Rattle.kp_model.proofs.InRuns.RunLaws.{last_is_of}
 use Rattle.kp_replica.specs.Acts.{plain_act}
 use Rattle.kp_replica.specs.Replies.{IsOffer}
 use Rattle.kp_replica.specs.declared.act.PlainAct.{PlainAct}

@@ -177,4 +177,3 @@ fn a_board_shows_the_known_word(rt: HostRuntime) {
     let found = word_after_an_election::<Brand>(alloc, board_of(&rt, alloc, 2));
     assert_eq!(rt; found, Ok(0x0030_0000_1000_0001));
 }
-

@@ -87,7 +87,8 @@ static BOTH_RESTART: [Call; 18] = [
     Call::Adopt(0),
 ];
 
-static BOTH_TOLD: &str = "record leader 0 epoch 0 version 1\nleads epoch 0 from 0\nfollows 0 epoch 0\n\
+static BOTH_TOLD: &str =
+    "record leader 0 epoch 0 version 1\nleads epoch 0 from 0\nfollows 0 epoch 0\n\
      sent 0 proposes isr 0 version 1\nstopped\nF28 Down\nend 0 mark 0 life 1\nF22 StaleRecord\nstopped\n\
      end 0 mark 0 life 1\nfollows 0 epoch 0\nsent 1 record leader 0 epoch 0 version 2\n\
      F15 NotLeader\nrecord leader 0 epoch 1 version 3\nleads epoch 1 from 0\nF22 StaleRecord\nmark 0\nF22 StaleRecord\n";

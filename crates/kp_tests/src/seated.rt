@@ -232,12 +232,7 @@ impl<B: BoardName> Seats<B> {
         self.send(text, request)
     }
 
-    fn alter(
-        &mut self,
-        text: &mut String,
-        node: NodeId,
-        change: IsrChange,
-    ) -> Result<(), Refusal> {
+    fn alter(&mut self, text: &mut String, node: NodeId, change: IsrChange) -> Result<(), Refusal> {
         let proposal = self.node(node)?.alter(change)?;
         self.send(text, proposal)
     }

@@ -13,10 +13,10 @@ use Rattle.kp_model.specs.World.{LeaderAndIsr, Node, Proposal, Message, Asks, An
 use Rattle.kp_model.specs.Event.{Receive, Refused, Deliver, Outcome, SentDecision}
 use Rattle.kp_model.specs.Laws.{MessagesGoToNodes, RunsKeepCount, RunsKeepLogs, RunsKeepKin, NoCutBelowTheWatermark, AreTwoParties, IsParty, StandsIn, place_of}
 use Rattle.kp_model.specs.Letter.{Letter, Proposing, Deciding, goes_to, letter_of}
-use Rattle.kp_model.specs.Local.{cut_cause}
+use Rattle.kp_model.specs.Fetching.{cut_cause}
 use Rattle.kp_model.specs.Run.{Run, last}
 use Rattle.kp_model.specs.Step.{Delivers, DecidesBy, NodeStep, decide_cause, decided_on, decision, told}
-use Rattle.kp_model.proofs.RunLaws.{last_is_of}
+use Rattle.kp_model.proofs.InRuns.RunLaws.{last_is_of}
 use Rattle.kp_replica.specs.NumberedNode.{NumberedNode}
 use Rattle.kp_world.specs.declared.event.EventAnswer.{EventAnswer}
 use Rattle.kp_replica.specs.Acts.{Acts, IsOfRun, TakesNoMemory}

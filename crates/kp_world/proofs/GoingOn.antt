@@ -18,11 +18,18 @@ use Rattle.kp_model.specs.Event as model
 use Rattle.kp_model.specs.Calls.{DoesSending, answer_letter, answering_at, cut, cut_by, sent_reply, served, taken_some}
 use Rattle.kp_model.specs.Letter.{Answering as LetterAnswering, Batches, Diverging, FetchLetter, Fetching, asked_letter, answered_letter}
 use Rattle.kp_model.specs.Laws.{CutIsTheStep, ServeIsTheStep, TakeIsTheStep, StandsIn, MessagesGoToNodes, IsParty, NoDeliveryIsRefusedOddly, RunsAreSafe, RunsKeepCount, RunsKeepKin, RunsKeepLogs}
-use Rattle.kp_model.specs.Local.{Adopts, Appends, Effect, Learns, Local, LocalBy, Produces, Proposes-set, Raises, WhereFollows, WhereLeads, admission_cause, ask_cause, change_cause, join_cause, learn_cause, leave_cause, proposal, ask_reply, asked, becomes, cause, cut_cause, elected, is_covered, is_down, piece, raised, sends, serve_cause, take_cause, unless_leads, under, with_member, without_member}
+use Rattle.kp_model.specs.Controller.{elected, with_member, without_member}
+use Rattle.kp_model.specs.Effect.{Effect, WhereFollows, WhereLeads, becomes, is_down, sends, unless_leads}
+use Rattle.kp_model.specs.Adopting.{Adopts, under}
+use Rattle.kp_model.specs.Appending.{Appends, Produces, admission_cause}
+use Rattle.kp_model.specs.Fetching.{ask_cause, ask_reply, asked, cut_cause, is_covered, piece, serve_cause, take_cause}
+use Rattle.kp_model.specs.Raising.{Raises, raised}
+use Rattle.kp_model.specs.InSync.{Learns, Proposes-set, change_cause, join_cause, learn_cause, leave_cause, proposal}
+use Rattle.kp_model.specs.Local.{Local, LocalBy, cause}
 use Rattle.kp_model.specs.Run.{Moment, Run, extend, last}
-use Rattle.kp_model.proofs.Beginnings.{Begins-nil}
-use Rattle.kp_model.proofs.RunLaws.{last_is_of}
-use Rattle.kp_model.proofs.Steps.{happened, was_refused}
+use Rattle.kp_model.proofs.Plain.Beginnings.{Begins-nil}
+use Rattle.kp_model.proofs.InRuns.RunLaws.{last_is_of}
+use Rattle.kp_model.proofs.OneStep.Steps.{happened, was_refused}
 use Rattle.kp_model.specs.Step.{DecidesBy, Delivers, ElectsBy, NodeStep, Step, answered, decide_cause, decided_on, decision, elect_cause, moved, told}
 use Rattle.kp_replica.specs.Acts.{IsAsked, TakesNoMemory}
 use Rattle.kp_world.specs.Laws.{IsLawful, MayCome, PlaysGoOn}

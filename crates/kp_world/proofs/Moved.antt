@@ -16,7 +16,9 @@ use Rattle.kp_model.specs.World.{LeaderAndIsr, Message, Node, World, with_record
 use Rattle.kp_model.specs.Event as model
 use Rattle.kp_model.specs.Event.{Act, Elect, Acts, Changed, Outcome, Refused, Reply}
 use Rattle.kp_model.specs.Laws.{EpochsAreElected}
-use Rattle.kp_model.specs.Local.{Effect as ModelEffect, Local, elected}
+use Rattle.kp_model.specs.Controller.{elected}
+use Rattle.kp_model.specs.Effect.{Effect as ModelEffect}
+use Rattle.kp_model.specs.Local.{Local}
 use Rattle.kp_model.specs.Run.{last}
 use Rattle.kp_model.specs.Letter.{Letter, letter_of}
 use Rattle.kp_model.specs.Step.{ElectsBy, NodeStep, answered, moved, number_after, told, IsGiven, elect_cause}

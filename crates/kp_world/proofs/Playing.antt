@@ -7,13 +7,13 @@ use Rattle.kp_types.specs.declared.limits.Limits.{Limits}
 use Rattle.kp_types.specs.declared.refusal.Refusal.{Refusal}
 use Rattle.kp_types.specs.declared.refusal.Refusal.TheVariants as refusals
 use Rattle.kp_model.specs.World.{LeaderAndIsr, World, Proposal, Message, Asks, Answers, Proposes, Decides, start}
-use Rattle.kp_model.specs.Local.{greatest_version, same_record}
+use Rattle.kp_model.specs.Controller.{greatest_version, same_record}
 use Rattle.kp_types.specs.Causes.{first_of}
 use Rattle.kp_model.specs.Event.{Event, Elect, Acts, Deliver, Outcome, Refused, SentDecision}
 use Rattle.kp_model.specs.Laws.{NoDeliveryIsRefusedOddly}
 use Rattle.kp_model.specs.Run.{Moment, Run, IsRun, last, extend, IsSafe}
 use Rattle.kp_model.specs.Step.{Step, Delivers, DecidesBy, decide_cause, decided_on}
-use Rattle.kp_model.proofs.RunLaws.{last_is_of}
+use Rattle.kp_model.proofs.InRuns.RunLaws.{last_is_of}
 use Rattle.kp_world.specs.Answers.{outcome_of}
 use Rattle.kp_world.specs.Events.{IsEvent, AreEvents}
 use Rattle.kp_world.specs.declared.event.EventAnswer.{EventAnswer}

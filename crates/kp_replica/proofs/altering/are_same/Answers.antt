@@ -1,5 +1,5 @@
 use Rattle.std.proofs.Common.{◌∙◌, arith}
-use Rattle.kp_model.proofs.Compared.{compared}
+use Rattle.kp_model.proofs.Plain.Compared.{compared}
 use Rattle.kp_replica.proofs.altering.are_same.Goals as goal
 
 pub returns : goal.returns

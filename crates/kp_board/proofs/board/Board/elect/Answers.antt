@@ -1,7 +1,7 @@
 use Rattle.std.proofs.Common.{◌≡◌, ◌≤◌, Some, None, inl, inr, refl, sym, ap, subst, ◌∙◌}
 use Rattle.kp_types.proofs.Causes.{only_cause, only_none}
 use Rattle.kp_model.specs.World.{LeaderAndIsr}
-use Rattle.kp_model.specs.Local.{elected}
+use Rattle.kp_model.specs.Controller.{elected}
 use Rattle.kp_model.specs.Step.{elect_cause}
 use Rattle.kp_model.specs.Set.{record_of}
 use Rattle.kp_board.specs.Views.{CallerView}

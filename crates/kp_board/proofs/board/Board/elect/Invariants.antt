@@ -1,4 +1,4 @@
-use Rattle.kp_model.specs.Local.{elected}
+use Rattle.kp_model.specs.Controller.{elected}
 use Rattle.kp_board.proofs.board.Board.elect.Given as goal
 
 abbrev pub ghosts-exchange : goal.ghosts-exchange

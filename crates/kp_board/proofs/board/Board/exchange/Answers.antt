@@ -1,7 +1,7 @@
 use Rattle.std.proofs.Common.{arith, ◌≡◌, ℕ, ◌<◌, subst, sym, ap, ◌∙◌}
 use Rattle.std.specs.Prelude.{MatchBool, nat_eq}
 use Rattle.kp_model.specs.World.{LeaderAndIsr}
-use Rattle.kp_model.specs.Local.{elected}
+use Rattle.kp_model.specs.Controller.{elected}
 use Rattle.kp_model.specs.Step.{elect_cause}
 use Rattle.kp_control.specs.Word.{packed}
 use Rattle.kp_board.specs.Views.{CallerView, caller_view}

@@ -1,6 +1,6 @@
 use Rattle.std.proofs.Common.{Option, Bor, sym, ap, ◌∙◌}
 use Rattle.std.specs.Option.{option_copied}
-use Rattle.kp_model.specs.Local.{least_end}
+use Rattle.kp_model.specs.Raising.{least_end}
 use Rattle.kp_model.specs.Set.{members_of}
 use Rattle.kp_model.specs.declared.record.NodeSet.{NodeSet}
 use Rattle.kp_insync.specs.Reports.{ends_over, members_in}

@@ -3,7 +3,7 @@ use Rattle.std.specs.Option.{unwrap_or}
 use Rattle.kp_insync.specs.Reports.{IsReported}
 use Rattle.kp_insync.proofs.Least.{as_places, unknown_at, none_left, least_known_of, flat}
 use Rattle.kp_model.specs.Set.{numbers_of}
-use Rattle.kp_model.specs.Local.{without_member}
+use Rattle.kp_model.specs.Controller.{without_member}
 use Rattle.kp_insync.proofs.positions.Positions.least_with.Goals as goal
 
 pub returns-in_err-reported-clause-least : goal.returns-in_err-reported-clause-least

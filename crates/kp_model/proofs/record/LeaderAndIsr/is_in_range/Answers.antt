@@ -1,4 +1,4 @@
-use Rattle.kp_model.proofs.InRange.{code_in_range}
+use Rattle.kp_model.proofs.Plain.InRange.{code_in_range}
 use Rattle.kp_model.proofs.record.LeaderAndIsr.is_in_range.Goals as goal
 
 pub returns : goal.returns

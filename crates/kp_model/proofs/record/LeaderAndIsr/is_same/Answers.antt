@@ -5,7 +5,7 @@ use Rattle.std.proofs.Math.Bool.{and_assoc}
 use Rattle.kp_model.specs.declared.record.Leader.{Leader}
 use Rattle.kp_model.specs.Set.{leader_of, numbers_of}
 use Rattle.kp_model.specs.World.{Leader as ModelLeader}
-use Rattle.kp_model.proofs.Compared.{compared}
+use Rattle.kp_model.proofs.Plain.Compared.{compared}
 use Rattle.kp_model.proofs.record.LeaderAndIsr.is_same.Goals as goal
 
 -- leaders are compared as the definitions compare theirs

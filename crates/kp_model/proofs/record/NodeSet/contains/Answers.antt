@@ -1,8 +1,8 @@
 use Rattle.std.proofs.Common.{ℕ, Bool, Option, false, get_or, sym, ap, ◌∙◌, arith, zero-add}
 use Rattle.std.specs.Option.{unwrap_or}
-use Rattle.kp_model.specs.Local.{is_member}
+use Rattle.kp_model.specs.Controller.{is_member}
 use Rattle.kp_model.specs.Set.{members_of}
-use Rattle.kp_model.proofs.Numbers.{has_at}
+use Rattle.kp_model.proofs.Plain.Numbers.{has_at}
 use Rattle.kp_model.proofs.record.NodeSet.contains.Goals as goal
 
 pub returns-clause-value : goal.returns-clause-value

@@ -1,5 +1,5 @@
 use Rattle.std.proofs.Common.{◌<◌, length, arith}
-use Rattle.kp_model.proofs.Changed.{with_place}
+use Rattle.kp_model.proofs.Plain.Changed.{with_place}
 use Rattle.kp_model.proofs.record.NodeSet.with.Goals as goal
 
 pub returns : goal.returns

@@ -1,5 +1,5 @@
 use Rattle.std.proofs.Common.{◌<◌, ◌≤◌, ◌+◌, length, sym, arith}
-use Rattle.kp_model.proofs.Changed.{without_place, without_none}
+use Rattle.kp_model.proofs.Plain.Changed.{without_place, without_none}
 use Rattle.kp_model.proofs.record.NodeSet.without.Goals as goal
 
 pub returns-then-place-lt7 : goal.returns-then-place-lt7

@@ -5,7 +5,7 @@ use Rattle.kp_replica.specs.Broker.{node_at}
 use Rattle.kp_node.specs.Seated.{SeatedNode}
 use Rattle.kp_node.proofs.node.Node.adopt.Goals as goal
 use Rattle.kp_model.specs.World.{LeaderAndIsr}
-use Rattle.kp_control.specs.Set.{record_of}
+use Rattle.kp_model.specs.Set.{record_of}
 use Rattle.kp_replica.specs.Replies.{role_reply}
 use Rattle.kp_board.specs.Views.{NodeView}
 use Rattle.kp_node.proofs.Adopts.{adopt_may, adopt_tied, adopt_event, pass_is}

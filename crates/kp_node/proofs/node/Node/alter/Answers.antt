@@ -1,69 +1,81 @@
-use Rattle.std.proofs.Common.{◌≡◌, ◌⊎◌, ◌≤◌, Ok, Some, ap, subst, ◌∙◌}
-use Rattle.std.specs.Prelude.{IfOk}
-use Rattle.kp_types.specs.declared.refusal.Refusal.TheVariants.{StaleRecord}
+use Rattle.std.proofs.Common.{◌≡◌, ap, sym, subst, ◌∙◌, None, Err}
+use Rattle.kp_types.specs.Causes.{IsRefusedOnlyBy}
+use Rattle.kp_types.specs.declared.refusal.Refusal.TheVariants.{Memory}
+use Rattle.kp_model.specs.Event.{Refused}
+use Rattle.kp_model.specs.Letter.{letter}
+use Rattle.kp_model.specs.Local.{cause}
 use Rattle.kp_model.specs.World.{LeaderAndIsr}
-use Rattle.kp_control.specs.Set.{record_of}
-use Rattle.kp_replica.specs.Altering.{change_act, IsKnown, Alters, would_cause}
-use Rattle.kp_board.specs.Views.{NodeView}
+use Rattle.kp_replica.specs.Altering.{change_act}
 use Rattle.kp_replica.specs.Broker.{node_at}
+use Rattle.kp_replica.specs.NumberedNode.{NumberedNode, Does}
+use Rattle.kp_node.specs.Calls.{Sent}
 use Rattle.kp_node.specs.Seated.{SeatedNode}
-use Rattle.kp_node.proofs.Ties.{shows_as}
-use Rattle.kp_node.proofs.Changing.{may_alter, has_altered, HasAltered, ok_clause, err_clause}
+use Rattle.kp_node.proofs.Changing.{free_is, keeps, no_message, only_free, refused_only, stays_same, was_asked}
+use Rattle.kp_node.proofs.Ties.{Tied, may_send, sent_low, tied_sent}
 use Rattle.kp_node.proofs.node.Node.alter.Goals as goal
 
-pub exchange_record-requires-clause-may : goal.exchange_record-requires-clause-may
-exchange_record-requires-clause-may g c =
-    let e = c.in_ok-known.ensures in
-    (change_act c.args.change, may_alter g.B.BoardName.table.words c.self.inside.pass (node_at c.self.inside.broker) e.foreseen.0 c.args.change (record_of c.in_ok-known.known) c.in_ok-known.made c.self.invariant c.is_in_range.ensures e.known e.foreseen.1)
-
-pub invariant_of-self-2 : goal.invariant_of-self-2
-invariant_of-self-2 g c =
-    let e = c.in_ok-known.ensures in
-    let m = node_at c.self.inside.broker in
+pub load_end_sending-pass-requires-clause-may : goal.load_end_sending-pass-requires-clause-may
+load_end_sending-pass-requires-clause-may g c =
+    let i = c.self.invariant in
+    let does = c.in-Ok.ensures.sent in
+    let old = node_at c.self.inside.broker in
     let new = node_at c.alter.new.self in
-    (has_altered g.B.BoardName.table.words c.self.inside.pass c.exchange_record.new.pass m e.foreseen.0 new c.args.change (record_of c.in_ok-known.known) c.in_ok-known.made c.alter.result c.self.invariant e.known e.foreseen.1 c.alter.ensures c.if-not-exchange_record.ensures.0).tied
+    let act = change_act c.args.change in
+    (act, does.0.message, does.0.letter_is, may_send c.self.inside.pass old new act _ i.0 i.1 (λ messages told. no_message messages c.args.change) does)
 
-pub returns-clause-altered : goal.returns-clause-altered
-returns-clause-altered g c =
-    let e = c.in_ok-known.ensures in
-    let m = node_at c.self.inside.broker in
+pub returns-in-Ok-clause-sent : goal.returns-in-Ok-clause-sent
+returns-in-Ok-clause-sent g c =
+    let old = node_at c.self.inside.broker in
     let new = node_at c.alter.new.self in
-    let r = record_of c.in_ok-known.made in
-    let known = record_of c.in_ok-known.known in
-    let has : HasAltered g.B.BoardName.table.words c.exchange_record.new.pass m new known r c.args.change c.alter.result =
-    has_altered g.B.BoardName.table.words c.self.inside.pass c.exchange_record.new.pass m e.foreseen.0 new c.args.change known c.in_ok-known.made c.alter.result c.self.invariant e.known e.foreseen.1 c.alter.ensures c.if-not-exchange_record.ensures.0 in
-    let shown : c.exchange_record.new.pass.shown ≡ r = ap (λ (z : NodeView). z.shown) c.if-not-exchange_record.ensures.0 in
-    subst (λ (s : SeatedNode). IfOk c.alter.result (λ made. (k : LeaderAndIsr) × IsKnown s.node.number s.node.state.mode k × Alters k s.node new (change_act c.args.change) (Ok made) × (s.pass.shown.version ≤ k.version) × (c.exchange_record.new.pass.shown ≡ record_of made))) c.self.view_is
-    (ok_clause m new known r c.exchange_record.new.pass.shown c.self.inside.pass.shown.version c.args.change c.alter.result e.known has.event has.made shown c.if-not-exchange_record.ensures.1)
+    let body = c.in-Ok.body in
+    let step = c.load_end_sending-pass in
+    let sent = was_asked old new c.args.change (letter body) step.result c.in-Ok.ensures.proposed c.in-Ok.ensures.sent step.ensures.fits in
+    subst (λ (s : SeatedNode). Sent s.node new (change_act c.args.change) step.result (letter body)) c.self.view_is sent
 
-pub returns-clause-refused : goal.returns-clause-refused
-returns-clause-refused g c =
-    let e = c.in_ok-known.ensures in
-    let m = node_at c.self.inside.broker in
+pub returns-in-Ok-clause-causes : goal.returns-in-Ok-clause-causes
+returns-in-Ok-clause-causes g c = λ k.
+    let old = node_at c.self.inside.broker in
     let new = node_at c.alter.new.self in
-    let has = has_altered g.B.BoardName.table.words c.self.inside.pass c.exchange_record.new.pass m e.foreseen.0 new c.args.change (record_of c.in_ok-known.known) c.in_ok-known.made c.alter.result c.self.invariant e.known e.foreseen.1 c.alter.ensures c.if-not-exchange_record.ensures.0 in
-    let was = c.args.self.now in
-    err_clause (λ f. (would_cause was.node.number was.node.state c.args.change ≡ Some f) ⊎ ((f ≡ StaleRecord) × (IsKnown was.node.number was.node.state.mode c.exchange_record.new.pass.shown → ⊥) × (was.pass.shown.version ≤ c.exchange_record.new.pass.shown.version))) c.alter.result has.none
+    let act = change_act c.args.change in
+    let free = free_is old new c.args.change (letter c.in-Ok.body) c.in-Ok.ensures.sent k in
+    only_free _ _ (subst (λ (s : SeatedNode). cause k s.node.number s.node.state act ≡ None) c.self.view_is free)
 
-pub returns-clause-same : goal.returns-clause-same
-returns-clause-same g c =
-    let e = c.in_ok-known.ensures in
-    let m = node_at c.self.inside.broker in
+pub invariant_of-self : goal.invariant_of-self
+invariant_of-self g c =
+    let i = c.self.invariant in
+    let old = node_at c.self.inside.broker in
     let new = node_at c.alter.new.self in
-    let has = has_altered g.B.BoardName.table.words c.self.inside.pass c.exchange_record.new.pass m e.foreseen.0 new c.args.change (record_of c.in_ok-known.known) c.in_ok-known.made c.alter.result c.self.invariant e.known e.foreseen.1 c.alter.ensures c.if-not-exchange_record.ensures.0 in
-    err_clause (λ f. new ≡ c.args.self.now.node) c.alter.result has.none
+    let body = c.in-Ok.body in
+    let step = c.load_end_sending-pass in
+    let sent = was_asked old new c.args.change (letter body) step.result c.in-Ok.ensures.proposed c.in-Ok.ensures.sent step.ensures.fits in
+    tied_sent g.B.BoardName.table.words c.self.inside.pass step.new.pass old new _ i sent.1.0
+    (sent_low old new (change_act c.args.change) step.result (letter body) c.self.inside.pass.published (keeps c.args.change) sent i.2) step.ensures.pass
 
-pub returns-clause-pass : goal.returns-clause-pass
-returns-clause-pass g c =
-    let e = c.in_ok-known.ensures in
-    let m = node_at c.self.inside.broker in
+pub returns-in-Err-clause-refused : goal.returns-in-Err-clause-refused
+returns-in-Err-clause-refused g c =
+    subst (λ (s : SeatedNode). Does s.node (node_at c.alter.new.self) (change_act c.args.change) (Refused c.in-Err.refusal)) c.self.view_is c.in-Err.ensures.event
+
+pub returns-in-Err-clause-causes : goal.returns-in-Err-clause-causes
+returns-in-Err-clause-causes g c =
+    let old = node_at c.self.inside.broker in
     let new = node_at c.alter.new.self in
-    let has = has_altered g.B.BoardName.table.words c.self.inside.pass c.exchange_record.new.pass m e.foreseen.0 new c.args.change (record_of c.in_ok-known.known) c.in_ok-known.made c.alter.result c.self.invariant e.known e.foreseen.1 c.alter.ensures c.if-not-exchange_record.ensures.0 in
-    let whole = c.if-not-exchange_record.ensures.0 in
-    let old = c.args.self.now.pass in
-    let was : c.self.inside.pass ≡ old = ap (λ (s : SeatedNode). s.pass) c.self.view_is in
-    let q = c.exchange_record.new.pass in
-    let number : q.number ≡ old.number = ap (λ (z : NodeView). z.number) whole ∙ ap (λ (z : NodeView). z.number) was in
-    let published : q.published ≡ old.published = ap (λ (z : NodeView). z.published) whole ∙ ap (λ (z : NodeView). z.published) was in
-    let told : q.told ≡ old.told = ap (λ (z : NodeView). z.told) whole ∙ ap (λ (z : NodeView). z.told) was in
-    shows_as q old new.state number published has.tied.0 ∙ (λ i. record old { state = new.state; shown = q.shown; told = told i })
+    let spared = λ (e : c.in-Err.refusal ≡ Memory). c.in-Err.ensures.spared (ap Err e) in
+    let only = refused_only _ old new c.args.change c.in-Err.refusal spared c.in-Err.ensures.event in
+    subst (λ (s : SeatedNode). (k : LeaderAndIsr) → IsRefusedOnlyBy (cause k s.node.number s.node.state (change_act c.args.change)) (Err c.in-Err.refusal)) c.self.view_is only
+
+pub invariant_of-self-in-Err : goal.invariant_of-self-in-Err
+invariant_of-self-in-Err g c =
+    let old = node_at c.self.inside.broker in
+    let new = node_at c.alter.new.self in
+    let spared = λ (e : c.in-Err.refusal ≡ Memory). c.in-Err.ensures.spared (ap Err e) in
+    let same = stays_same old new c.args.change c.in-Err.refusal spared c.in-Err.ensures.event in
+    subst (λ (m : NumberedNode). Tied g.B.BoardName.table.words c.self.inside.pass m) (sym same) c.self.invariant
+
+pub returns-in-Err-clause-same : goal.returns-in-Err-clause-same
+returns-in-Err-clause-same g c =
+    let old = node_at c.self.inside.broker in
+    let new = node_at c.alter.new.self in
+    let spared = λ (e : c.in-Err.refusal ≡ Memory). c.in-Err.ensures.spared (ap Err e) in
+    let same = stays_same old new c.args.change c.in-Err.refusal spared c.in-Err.ensures.event in
+    let seated : NumberedNode → SeatedNode = λ m. record { node = m; pass = c.self.inside.pass } in
+    ap seated same ∙ c.self.view_is

@@ -1,6 +1,7 @@
-use Rattle.kp_control.specs.Set.{record_of}
-use Rattle.kp_node.proofs.Changing.{changed_node}
+use Rattle.std.proofs.Common.{◌≡◌}
+use Rattle.kp_model.specs.Letter.{letter, letter_of}
+use Rattle.kp_replica.specs.Broker.{node_at}
 use Rattle.kp_node.proofs.node.Node.alter.Given as goal
 
-abbrev pub ghosts-exchange_record : goal.ghosts-exchange_record
-ghosts-exchange_record g a = record { known = record_of a.known.now; record_after = record_of a.next.now; next = changed_node a._said.now a.pass.now.state }
+abbrev pub ghosts-load_end_sending : goal.ghosts-load_end_sending
+ghosts-load_end_sending g a = record { next = (node_at a._said.now).state; fits = λ m. letter_of m ≡ letter a._message.now }

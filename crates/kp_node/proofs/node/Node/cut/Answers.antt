@@ -1,6 +1,6 @@
 use Rattle.std.proofs.Common.{◌≡◌, ◌≤◌, sym, ap, subst, ◌∙◌, refl}
 use Rattle.std.specs.Prelude.{IfOk, IfErr}
-use Rattle.kp_control.specs.Set.{record_of}
+use Rattle.kp_model.specs.Set.{record_of}
 use Rattle.kp_model.specs.Calls.{cut}
 use Rattle.kp_model.specs.Event.{Receive, Refused}
 use Rattle.kp_model.specs.Letter.{fetch_answer}

@@ -1,7 +1,7 @@
 -- What a leader answers to a request, and the step that it makes.
 use Rattle.std.proofs.Common.{refl, subst}
 use Rattle.kp_model.specs.Event.{Receive, Refused}
-use Rattle.kp_model.specs.Letter.{fetch_answer, fetch_request}
+use Rattle.kp_model.specs.Letter.{Fetching, fetch_answer, fetch_request}
 use Rattle.kp_model.specs.World.{initial}
 use Rattle.kp_replica.specs.Broker.{node_at}
 use Rattle.kp_replica.specs.NumberedNode.{Does}
@@ -21,7 +21,7 @@ load_end_sending-pass-requires-clause-may g c =
     let tied : Tied g.B.BoardName.table.words q m = received g.B.BoardName.table.words p q m asked c.self.invariant c.receive.ensures in
     let told = was_told p q asked c.receive.ensures in
     let new = node_at c.serve_fetch.new.self in
-    let letter = fetch_answer c.in-Ok.answer in (
+    let letter = Fetching (fetch_answer c.in-Ok.answer) in (
       Receive asked,
       answer_to q.state asked,
       answers_it q m new asked c.args.request letter tied.0 tied.1 told c.requires c.in-Ok.ensures.served,
@@ -37,7 +37,7 @@ returns-in-Ok-clause-served g c =
     let tied : Tied g.B.BoardName.table.words q m = received g.B.BoardName.table.words p q m asked c.self.invariant c.receive.ensures in
     let told = was_told p q asked c.receive.ensures in
     let new = node_at c.serve_fetch.new.self in
-    let letter = fetch_answer c.in-Ok.answer in
+    let letter = Fetching (fetch_answer c.in-Ok.answer) in
     let step = c.load_end_sending-pass in
     let sent : Sent m new (Receive asked) step.result letter =
     was_served q m new asked c.args.request letter tied.0 tied.1 told c.requires c.in-Ok.ensures.served step.ensures.run step.result step.ensures.fits in
@@ -52,7 +52,7 @@ invariant_of-result g c =
     let tied : Tied g.B.BoardName.table.words q m = received g.B.BoardName.table.words p q m asked c.self.invariant c.receive.ensures in
     let told = was_told p q asked c.receive.ensures in
     let new = node_at c.serve_fetch.new.self in
-    let letter = fetch_answer c.in-Ok.answer in
+    let letter = Fetching (fetch_answer c.in-Ok.answer) in
     let step = c.load_end_sending-pass in
     let sent : Sent m new (Receive asked) step.result letter =
     was_served q m new asked c.args.request letter tied.0 tied.1 told c.requires c.in-Ok.ensures.served step.ensures.run step.result step.ensures.fits in
@@ -67,7 +67,7 @@ invariant_of-self g c =
     let tied : Tied g.B.BoardName.table.words q m = received g.B.BoardName.table.words p q m asked c.self.invariant c.receive.ensures in
     let told = was_told p q asked c.receive.ensures in
     let new = node_at c.serve_fetch.new.self in
-    let letter = fetch_answer c.in-Ok.answer in
+    let letter = Fetching (fetch_answer c.in-Ok.answer) in
     let step = c.load_end_sending-pass in
     let sent : Sent m new (Receive asked) step.result letter =
     was_served q m new asked c.args.request letter tied.0 tied.1 told c.requires c.in-Ok.ensures.served step.ensures.run step.result step.ensures.fits in
@@ -84,7 +84,7 @@ returns-in-Ok-clause-mark g c =
     let tied : Tied g.B.BoardName.table.words q m = received g.B.BoardName.table.words p q m asked c.self.invariant c.receive.ensures in
     let told = was_told p q asked c.receive.ensures in
     let new = node_at c.serve_fetch.new.self in
-    let letter = fetch_answer c.in-Ok.answer in
+    let letter = Fetching (fetch_answer c.in-Ok.answer) in
     let step = c.load_end_sending-pass in
     let sent : Sent m new (Receive asked) step.result letter =
     was_served q m new asked c.args.request letter tied.0 tied.1 told c.requires c.in-Ok.ensures.served step.ensures.run step.result step.ensures.fits in

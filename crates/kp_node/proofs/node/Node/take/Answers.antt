@@ -1,6 +1,6 @@
 use Rattle.std.proofs.Common.{sym, subst}
 use Rattle.std.specs.Prelude.{IfOk, IfErr}
-use Rattle.kp_control.specs.Set.{record_of}
+use Rattle.kp_model.specs.Set.{record_of}
 use Rattle.kp_model.specs.Event.{Receive, Refused}
 use Rattle.kp_model.specs.World.{LeaderAndIsr, initial}
 use Rattle.kp_model.specs.declared.message.Answered.{Answered}

@@ -3,7 +3,8 @@ use Rattle.std.specs.Option.{option_map}
 use Rattle.kp_model.specs.Log.{end_of}
 use Rattle.kp_model.specs.World.{Leads, Follows}
 use Rattle.kp_model.specs.Event.{Adopt, NowLeads, NowFollows}
-use Rattle.kp_model.specs.Local.{is_down, is_news}
+use Rattle.kp_model.specs.Effect.{is_down}
+use Rattle.kp_model.specs.Adopting.{is_news}
 use Rattle.kp_model.specs.Set.{record_of, leader_of}
 use Rattle.kp_replica.specs.NumberedNode.{NumberedNode, DoesUnder}
 use Rattle.kp_replica.specs.Kept.{node_of}

@@ -4,7 +4,8 @@ use Rattle.kp_types.proofs.Causes.{only_none, only_cause}
 use Rattle.kp_log.proofs.Refusing.{refused_as}
 use Rattle.kp_model.specs.Event.{Refused}
 use Rattle.kp_model.specs.Letter.{Proposing}
-use Rattle.kp_model.specs.Local.{cause, unless_leads}
+use Rattle.kp_model.specs.Effect.{unless_leads}
+use Rattle.kp_model.specs.Local.{cause}
 use Rattle.kp_model.specs.Set.{members_of, record_of}
 use Rattle.kp_model.specs.World.{LeaderAndIsr, Mode, Leads}
 use Rattle.kp_model.specs.declared.record.NodeSet.{NodeSet}

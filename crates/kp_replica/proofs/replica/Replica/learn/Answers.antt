@@ -3,7 +3,9 @@ use Rattle.std.proofs.lemmas.Bool.{le-ltb, lt-ltb}
 use Rattle.kp_types.specs.declared.refusal.Refusal.TheVariants as refusals
 use Rattle.kp_model.specs.Event.{Receive, Learned}
 use Rattle.kp_model.specs.Letter.{decision_of}
-use Rattle.kp_model.specs.Local.{has_epoch, learn_cause, unless_leads}
+use Rattle.kp_model.specs.Controller.{has_epoch}
+use Rattle.kp_model.specs.Effect.{unless_leads}
+use Rattle.kp_model.specs.InSync.{learn_cause}
 use Rattle.kp_model.specs.World.{Decision, Mode, Leads, Decides}
 use Rattle.kp_replica.specs.Kept.{node_of}
 use Rattle.kp_replica.specs.Modes.{mode_of, leading_of}

@@ -2,7 +2,7 @@ use Rattle.std.proofs.Common.{◌≡◌, arith, ℕ, List, Option, refl, ap, sub
 use Rattle.kp_types.specs.declared.refusal.Refusal.TheVariants as refusals
 use Rattle.kp_model.specs.Log.{Batch, IsBoundary, end_of}
 use Rattle.kp_model.specs.World.{Mode, Leads}
-use Rattle.kp_model.specs.Local.{counted, raised, least_end}
+use Rattle.kp_model.specs.Raising.{counted, raised, least_end}
 use Rattle.kp_model.specs.declared.record.NodeSet.{NodeSet}
 use Rattle.kp_insync.specs.Reports.{ends_over, members_in}
 use Rattle.std.specs.Prelude.{max, unwrap_or}
@@ -15,7 +15,7 @@ use Rattle.kp_replica.proofs.Calls.{raises}
 use Rattle.kp_replica.proofs.Reports.{raised_boundary}
 use Rattle.kp_replica.proofs.Ups.{leads_not}
 use Rattle.kp_replica.proofs.replica.Replica.raise.Goals as goal
-use Rattle.kp_model.proofs.Steps.{was_refused}
+use Rattle.kp_model.proofs.OneStep.Steps.{was_refused}
 
 pub returns-in_default : goal.returns-in_default
 returns-in_default c =

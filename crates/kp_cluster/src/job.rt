@@ -1,0 +1,60 @@
+//! What a worker does until its end.
+
+use crate::controller::controller_step;
+use crate::gate::Gate;
+use crate::worker::{Done, worker_step};
+use kp_board::{Board, BoardName};
+use kp_node::Node;
+use kp_transport::{Carry, Parcel};
+use kp_types::{NodeId, Refusal};
+use std::alloc::Global;
+use std::sync::{Arc, Mutex, Wait};
+use std::thread;
+
+/// Whose parcels a worker handles.
+#[derive(Drop)]
+pub(crate) enum Job<B: BoardName> {
+    /// This node's; a message for the controller goes to that place.
+    Node {
+        node: Arc<Mutex<Node<B>>, Global>,
+        controller: NodeId,
+    },
+    /// The controller's, which decides at this board.
+    Controller {
+        board: Arc<Board<B>, Global>,
+    },
+}
+
+impl<B: BoardName> Job<B> {
+    fn step<R: Wait, C: Carry<Parcel<B>>, G: Gate>(
+        &self,
+        rt: &R,
+        place: NodeId,
+        carrier: &C,
+        gate: &G,
+    ) -> Result<Done, Refusal> {
+        match self {
+            Job::Node { node, controller } => {
+                worker_step(rt, place, *controller, &**node, carrier, gate)
+            }
+            Job::Controller { board } => controller_step(place, &**board, carrier, gate),
+        }
+    }
+}
+
+/// Steps until it is told to stop.
+pub(crate) fn work<B: BoardName, R: Wait, C: Carry<Parcel<B>>, G: Gate>(
+    rt: &R,
+    place: NodeId,
+    job: &Job<B>,
+    carrier: &C,
+    gate: &G,
+) {
+    for _ in rt.forever() {
+        match job.step(rt, place, carrier, gate) {
+            Ok(Done::Ended) => return,
+            Ok(Done::Idle) => thread::yield_now(),
+            Ok(Done::Stepped) | Err(_) => {}
+        }
+    }
+}
