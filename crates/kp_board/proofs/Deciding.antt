@@ -10,7 +10,7 @@ use Rattle.atomic_table.specs.Table.{Me, State, step, Act, keeps, stepped, Valid
 use Rattle.kp_types.specs.Causes.{first_of}
 use Rattle.kp_types.specs.declared.refusal.Refusal.{Refusal}
 use Rattle.kp_types.specs.declared.refusal.Refusal.TheVariants.{RecordFull}
-use Rattle.kp_model.specs.World.{LeaderAndIsr, Proposal, Message, Asks, Answers, Proposes, Decides, World, with_record, with_message, IsSent, most_nodes}
+use Rattle.kp_model.specs.World.{LeaderAndIsr, Proposal, Message, Proposes, Decides, World, with_record, with_message, IsSent, most_nodes}
 use Rattle.kp_model.specs.Event.{Outcome, Deliver, SentDecision}
 use Rattle.kp_model.specs.Controller.{same_record, altered, greatest_version}
 use Rattle.kp_model.specs.Step.{Step, IsInRange, Delivers, DecidesBy, decide_cause, decided_on, decision}
@@ -87,9 +87,7 @@ is_newer p c shows =
 
 abbrev proposal_in : Message → Proposal → Proposal
 proposal_in (Proposes p) other = p
-proposal_in (Asks r) other = other
-proposal_in (Answers a) other = other
-proposal_in (Decides d) other = other
+proposal_in _ other = other
 
 abbrev Same : Me ℕ View → Me ℕ View → Type 0
 Same a b = a ≡ b

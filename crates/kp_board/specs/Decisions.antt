@@ -5,7 +5,7 @@ use Rattle.kp_types.specs.declared.refusal.Refusal.{Refusal}
 use Rattle.kp_types.specs.declared.refusal.Refusal.TheVariants.{StaleAnswer}
 use Rattle.kp_model.specs.World.{LeaderAndIsr, Proposal, Message, Proposes, Decides, World, IsSent}
 use Rattle.kp_model.specs.Event.{Outcome, Deliver}
-use Rattle.kp_model.specs.Letter.{Letter, Fetching, Proposing, Deciding}
+use Rattle.kp_model.specs.Letter.{Letter, Proposing}
 use Rattle.kp_model.specs.Step.{Step, decide_cause, decided_on, decision}
 use Rattle.kp_model.specs.Run.{Run, last, extend}
 use Rattle.kp_board.specs.Views.{View, of_message}
@@ -60,5 +60,4 @@ Decided st m found m' = (p : Proposal) → m.0 ≡ of_message (Proposes p)
 -- Why a message isn't decided on: it is no proposal; or the record would change, but is full.
 abbrev pub IsUndecided : Letter → Refusal → Type 0
 IsUndecided (Proposing p) refusal = (c : LeaderAndIsr) × (decide_cause c p ≡ Some refusal) × ShowsProposal p c
-IsUndecided (Fetching l) refusal = refusal ≡ StaleAnswer
-IsUndecided (Deciding d) refusal = refusal ≡ StaleAnswer
+IsUndecided _ refusal = refusal ≡ StaleAnswer

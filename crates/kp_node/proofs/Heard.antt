@@ -35,8 +35,7 @@ pub record IsRequest (m : Message) : Type 0 where
 pub request_in : (m : Message) (l : FetchLetter) → l.answering ≡ None → letter_of m ≡ Fetching l → IsRequest m
 request_in (Asks r) l none e = record { request = r; is = refl }
 request_in (Answers a) l none e = absurd (none_some (answering_of a) (sym (ap (λ (k : FetchLetter). k.answering) (fetched e) ∙ none)))
-request_in (Proposes p) l none e = absurd cc
-request_in (Decides d) l none e = absurd cc
+request_in _ l none e = absurd cc
 
 pub record IsAnswer (m : Message) : Type 0 where
   pub answer : Answer
@@ -45,20 +44,15 @@ pub record IsAnswer (m : Message) : Type 0 where
 pub answer_in : (m : Message) (a : FetchAnswer) → letter_of m ≡ Fetching (fetch_answer a) → IsAnswer m
 answer_in (Asks r) a e = absurd (none_some (answering a.answered) (ap (λ (k : FetchLetter). k.answering) (fetched e)))
 answer_in (Answers b) a e = record { answer = b; is = refl }
-answer_in (Proposes p) a e = absurd cc
-answer_in (Decides d) a e = absurd cc
+answer_in _ a e = absurd cc
 
 pub proposal_in : (m : Message) (p : Proposal) → letter_of m ≡ Proposing p → m ≡ Proposes p
-proposal_in (Asks r) p e = absurd cc
-proposal_in (Answers a) p e = absurd cc
 proposal_in (Proposes q) p e = let same : q ≡ p = cc in ap Proposes same
-proposal_in (Decides d) p e = absurd cc
+proposal_in _ p e = absurd cc
 
 pub decision_in : (m : Message) (d : Decision) → letter_of m ≡ Deciding d → m ≡ Decides d
-decision_in (Asks r) d e = absurd cc
-decision_in (Answers a) d e = absurd cc
-decision_in (Proposes p) d e = absurd cc
 decision_in (Decides q) d e = let same : q ≡ d = cc in ap Decides same
+decision_in _ d e = absurd cc
 
 answers_so : (b : Answer) (a : FetchAnswer) → answered_letter b ≡ fetch_answer a → answering_of b ≡ answering a.answered
 answers_so b a e = some_is (answering_of b) (answering a.answered) (ap (λ (k : FetchLetter). k.answering) e)

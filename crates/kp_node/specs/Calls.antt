@@ -10,7 +10,7 @@ use Rattle.kp_model.specs.Calls.{cut, sent_reply}
 use Rattle.kp_model.specs.declared.message.Answered.{Answered}
 use Rattle.kp_model.specs.declared.message.Answered.TheVariants.{Batches, Diverging}
 use Rattle.kp_model.specs.declared.message.MessageBody.{MessageBody}
-use Rattle.kp_model.specs.declared.message.MessageBody.TheVariants.{FetchRequest, FetchAnswer, Proposal, Decision}
+use Rattle.kp_model.specs.declared.message.MessageBody.TheVariants.{FetchAnswer, Decision}
 use Rattle.kp_replica.specs.NumberedNode.{NumberedNode, DoesUnder, IsSameNode}
 use Rattle.kp_replica.specs.Replies.{cut_reply, learned_reply, taken_reply}
 use Rattle.kp_replica.specs.declared.altering.Learned.{Learned}
@@ -38,8 +38,7 @@ WasFollowed (Diverging end) c old new act = (back : CutBack) × DoesUnder c old 
 abbrev pub WasTaken : MessageBody → LeaderAndIsr → NumberedNode → NumberedNode → Act → Type 0
 WasTaken (FetchAnswer a) c old new act = WasFollowed a.answered c old new act
 WasTaken (Decision d) c old new act = (learned : Learned) × DoesUnder c old new act (learned_reply (Ok learned))
-WasTaken (FetchRequest r) c old new act = ⊥
-WasTaken (Proposal p) c old new act = ⊥
+WasTaken _ c old new act = ⊥
 
 -- what a diverging answer with this letter leaves under this record, by the place where it cuts (KIP-101, KIP-279)
 abbrev pub CutsBack : Answered → FetchLetter → LeaderAndIsr → NumberedNode → NumberedNode → Type 0

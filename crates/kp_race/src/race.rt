@@ -153,12 +153,12 @@ fn started<
 }
 
 /// Runs a race over these nodes, the board's, to its end. They have no worker before and none afterwards, nor has the controller, whose
-/// place on the carrier is the one behind theirs. Node 0 is elected and takes
-/// the record up. Then each producer tries the nodes in turn, at most 100 times for a batch and at most 100 times its batches in all;
-/// where a leader lacks the batch before (F12) it hands in again what that leader lacks; it ends where no try finds a leader.
-/// Meanwhile the leadership moves; last each node has 100 turns. The carrier counts into `waiting`, by which turns are paced, so that
-/// memory grows with the logs and not with the turns. A node that is down at the end is started again, to be asked. F33; what the
-/// board and node 0 refuse at the election; F7 where there are more than seven nodes, which no board has. (Own rule.)
+/// place on the carrier is the one behind theirs. Node 0 is elected and takes the record up. Then each producer tries the nodes in turn,
+/// at most 100 times for a batch and at most 100 times its batches in all; where a leader lacks the batch before (F12) it hands in again
+/// what that leader lacks; it ends where no try finds a leader. Meanwhile the leadership moves; last each node has 100 turns. Nobody asks
+/// for a change of the in-sync replicas. The carrier counts into `waiting`, by which turns are paced, so that memory grows with the logs
+/// and not with the turns. A node that is down at the end is started again, to be asked. F33; what the board and node 0 refuse at the
+/// election; F7 where there are more than seven nodes, which no board has. (Own rule.)
 pub fn run_race<
     B: BoardName + Send + Sync + 'static,
     R: Threads + Wait + Copy + Send + Sync + 'static,

@@ -7,7 +7,7 @@ use Rattle.kp_model.specs.Event as model
 use Rattle.kp_model.specs.Event.{Act as ModelAct, Line, Receive, Reply, Refused}
 use Rattle.kp_model.specs.Log.{Batch, IsLog, IsKin}
 use Rattle.kp_model.specs.Admission.{admit, Duplicate}
-use Rattle.kp_model.specs.World.{LeaderAndIsr, Node, Asks, Answers as AnswersOf, Proposes, Decides}
+use Rattle.kp_model.specs.World.{LeaderAndIsr, Node, Asks, Answers as AnswersOf}
 use Rattle.kp_model.specs.Letter.{Letter, letter, letter_of}
 use Rattle.kp_model.specs.Calls.{sent_reply}
 use Rattle.kp_model.specs.Effect.{Effect as ModelEffect}
@@ -73,8 +73,7 @@ TakesNoMemory x (model.Leave m) = Unit {0}
 TakesNoMemory x (model.Produce (Ok body)) = IsBody body × (base : ℕ) × (admit x.log body.content ≡ Duplicate base)
 TakesNoMemory x (Receive (Asks request)) = IsFalse (is_covered x.log request)
 TakesNoMemory x (Receive (AnswersOf a)) = IsFalse (is_covered a.log a.request)
-TakesNoMemory x (Receive (Proposes p)) = Unit {0}
-TakesNoMemory x (Receive (Decides d)) = Unit {0}
+TakesNoMemory x (Receive _) = Unit {0}
 TakesNoMemory x _ = ⊥
 
 -- ---- what comes of them

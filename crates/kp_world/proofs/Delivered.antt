@@ -15,7 +15,8 @@ use Rattle.kp_model.specs.Laws.{MessagesGoToNodes, RunsKeepCount, RunsKeepLogs, 
 use Rattle.kp_model.specs.Letter.{Letter, Proposing, Deciding, goes_to, letter_of}
 use Rattle.kp_model.specs.Fetching.{cut_cause}
 use Rattle.kp_model.specs.Run.{Run, last}
-use Rattle.kp_model.specs.Step.{Delivers, DecidesBy, NodeStep, decide_cause, decided_on, decision, told}
+use Rattle.kp_model.specs.Step.{Delivers, DecidesBy, decide_cause, decided_on, decision, told}
+use Rattle.kp_model.proofs.OneStep.Classes.{comes_to, goes}
 use Rattle.kp_model.proofs.InRuns.RunLaws.{last_is_of}
 use Rattle.kp_replica.specs.NumberedNode.{NumberedNode}
 use Rattle.kp_world.specs.declared.event.EventAnswer.{EventAnswer}
@@ -49,24 +50,9 @@ none_there messages letters number are is =
     by None there same = there
     by (Some m) there same = absurd cc
 
-goes : (m : Message) → goes_to (letter_of m) ≡ addressee m
-goes (Asks r) = refl
-goes (Answers a) = refl
-goes (Proposes p) = refl
-goes (Decides d) = refl
-
--- a message that goes to a node comes to it
-pub comes_to : (w : World) (m : Message) (n : ℕ) (outcome : Outcome) (new : World) → addressee m ≡ Some n → NodeStep w n (Receive m) outcome new → Delivers w (Some m) outcome new
-comes_to w (Asks r) n outcome new e step = let same : n ≡ r.to = cc in subst (λ (k : ℕ). NodeStep w k (Receive (Asks r)) outcome new) same step
-comes_to w (Answers a) n outcome new e step = let same : n ≡ a.request.from = cc in subst (λ (k : ℕ). NodeStep w k (Receive (Answers a)) outcome new) same step
-comes_to w (Proposes p) n outcome new e step = absurd cc
-comes_to w (Decides d) n outcome new e step = let same : n ≡ d.proposal.from = cc in subst (λ (k : ℕ). NodeStep w k (Receive (Decides d)) outcome new) same step
-
 is_proposal : (p : Proposal) (m : Message) → letter_of m ≡ Proposing p → m ≡ Proposes p
-is_proposal p (Asks q) e = absurd cc
-is_proposal p (Answers a) e = absurd cc
 is_proposal p (Proposes q) e = let same : q ≡ p = cc in ap Proposes same
-is_proposal p (Decides d) e = absurd cc
+is_proposal p _ e = absurd cc
 
 -- what the laws of runs say of a message
 of_run : RunsKeepLogs → RunsKeepKin → NoCutBelowTheWatermark → (count : ℕ) (r : Run count) (number : ℕ) (m : Message) (c : LeaderAndIsr) (x : NumberedNode) → slice_get (last r).messages number ≡ Some m
@@ -93,8 +79,7 @@ of_run keep_logs keep_kin no_cut count r number (Answers a) c x there record_is 
           (subst (λ (k : LeaderAndIsr). cut_cause k x.number (w.nodes x.number) a ≡ None) (sym record_is)
           (subst (λ (y : Node). cut_cause c x.number y a ≡ None) (sym state) free))),
     )
-of_run keep_logs keep_kin no_cut count r number (Proposes p) c x there record_is state = tt
-of_run keep_logs keep_kin no_cut count r number (Decides d) c x there record_is state = tt
+of_run keep_logs keep_kin no_cut count r number _ c x there record_is state = tt
 
 same_message : (m n : Message) → Some m ≡ Some n → m ≡ n
 same_message m n e = cc

@@ -5,9 +5,7 @@ use Rattle.std.proofs.lemmas.Bool.{eq-eqb, ne_eqb, cases_eq}
 use Rattle.kp_types.specs.declared.limits.Limits.{Limits}
 use Rattle.kp_types.specs.declared.refusal.Refusal.{Refusal}
 use Rattle.kp_types.specs.declared.refusal.Refusal.TheVariants as refusals
-use Rattle.kp_model.specs.Calls.{said_reply}
-use Rattle.kp_model.specs.declared.message.Said.{Said}
-use Rattle.kp_model.specs.declared.message.Said.TheVariants as says
+use Rattle.kp_model.proofs.OneStep.Classes.{said_never}
 use Rattle.kp_replica.specs.declared.act.Answer.{Answer}
 use Rattle.kp_replica.specs.declared.act.Answer.TheVariants as replies
 use Rattle.kp_replica.specs.declared.adopting.Role.TheVariants as roles
@@ -97,14 +95,6 @@ answers_never (replies.Restarted life end watermark) refusal e = cc
 answers_never (replies.Shown shown) refusal e = cc
 answers_never (replies.Lines lines) refusal e = cc
 
--- nor is what is told of a message that was sent
-messages_never : (said : Said) (refusal : Refusal) → said_reply said ≡ Refused refusal → ⊥
-messages_never (says.AsksFrom offset last) refusal e = cc
-messages_never (says.Batches count watermark) refusal e = cc
-messages_never (says.Diverging end) refusal e = cc
-messages_never (says.Proposes isr version) refusal e = cc
-messages_never (says.Decides decided) refusal e = cc
-
 pub same_refusal : (r s : Refusal) → Refused r ≡ Refused s → r ≡ s
 same_refusal r s e = cc
 
@@ -114,7 +104,7 @@ refused_so : (count : ℕ) (outcome : Result Effect Refusal) (telling : Result E
 refused_so count (Ok (Answers answer)) telling refusal is e =
     absurd (answers_never answer refusal (sym (ap (λ (r : Result EventAnswer Refusal). (outcome_of r).reply) is) ∙ e))
 refused_so count (Ok (Sends body)) telling refusal (said, is, says) e =
-    absurd (messages_never said refusal (sym (ap (λ (r : Result EventAnswer Refusal). (outcome_of r).reply) is) ∙ e))
+    absurd (said_never said refusal (sym (ap (λ (r : Result EventAnswer Refusal). (outcome_of r).reply) is) ∙ e))
 refused_so count (Err r) telling refusal is e =
     ap Err (same_refusal r refusal (sym (ap (λ (r : Result EventAnswer Refusal). (outcome_of r).reply) is) ∙ e))
 

@@ -1,18 +1,19 @@
 -- A run goes on, event by event.
-use Rattle.std.proofs.Common.{◌≡◌, ◌≢◌, ℕ, leb, Bool, true, false, length, List, [], ◌∷◌, ◌++◌, Result, refl, sym, ap, ◌∙◌, subst}
-use Rattle.std.specs.Prelude.{◌&&◌, map, reverse, slice_get, Option, Some, None}
+use Rattle.std.proofs.Common.{◌≡◌, ◌≢◌, ℕ, leb, Bool, true, false, length, List, [], ◌∷◌, ◌++◌, Result, refl, sym, ap, ◌∙◌, subst, inl, inr}
+use Rattle.std.specs.Prelude.{◌&&◌, map, reverse, Option, Some, None}
 use Rattle.std.specs.List.{AllByRecursion}
 use Rattle.std.proofs.lemmas.List.{append_assoc, append-nil, map-append, reverse-append}
 use Rattle.kp_types.specs.declared.limits.Limits.{Limits}
 use Rattle.kp_types.specs.declared.refusal.Refusal.{Refusal}
 use Rattle.kp_types.specs.declared.refusal.Refusal.TheVariants as refusals
-use Rattle.kp_model.specs.World.{LeaderAndIsr, World, Proposal, Message, Asks, Answers, Proposes, Decides, start}
+use Rattle.kp_model.specs.World.{LeaderAndIsr, World, Proposal, start}
 use Rattle.kp_model.specs.Controller.{greatest_version, same_record}
 use Rattle.kp_types.specs.Causes.{first_of}
 use Rattle.kp_model.specs.Event.{Event, Elect, Acts, Deliver, Outcome, Refused, SentDecision}
 use Rattle.kp_model.specs.Laws.{NoDeliveryIsRefusedOddly}
 use Rattle.kp_model.specs.Run.{Moment, Run, IsRun, last, extend, IsSafe}
-use Rattle.kp_model.specs.Step.{Step, Delivers, DecidesBy, decide_cause, decided_on}
+use Rattle.kp_model.specs.Step.{Step, DecidesBy, decide_cause, decided_on}
+use Rattle.kp_model.proofs.OneStep.Classes.{arrives}
 use Rattle.kp_model.proofs.InRuns.RunLaws.{last_is_of}
 use Rattle.kp_world.specs.Answers.{outcome_of}
 use Rattle.kp_world.specs.Events.{IsEvent, AreEvents}
@@ -80,7 +81,17 @@ only_full c p refusal e = by (same_record c p.known && leb greatest_version c.ve
 fits : NoDeliveryIsRefusedOddly → (count : ℕ) (r : Run count) (event : Event) (outcome : Outcome) (new : World) → Step (last r) event outcome new → Fits event outcome.reply
 fits odd count r (Elect n) outcome new step = tt
 fits odd count r (Acts n act) outcome new step = tt
-fits odd count r (Deliver number) outcome new step = by (slice_get (last r).messages number) step
+fits odd count r (Deliver number) outcome new step =
+    elim (arrives (last r) number outcome new step) [
+      | inl nobody ↦
+          (let is : outcome.reply ≡ Refused refusals.StaleAnswer = ap (λ (o : Outcome). o.reply) nobody.0 in
+          rw is ((λ e. cc), ((λ e. cc), ((λ e. cc), ((λ e. cc), ((λ e. cc), tt))))))
+      | inr party ↦
+          elim party [
+            | inl controller ↦ decides controller.0 (decide_cause (last r).controller controller.0) refl controller.2
+            | inr node ↦ odd count r (last r) (last_is_of count r) node.0 node.1 outcome new node.2
+          ]
+    ]
   where
     decides : (p : Proposal) (o : Option Refusal) → decide_cause (last r).controller p ≡ o → DecidesBy o (last r) p outcome new → Fits (Deliver number) outcome.reply
     decides p None e came =
@@ -89,15 +100,6 @@ fits odd count r (Deliver number) outcome new step = by (slice_get (last r).mess
     decides p (Some refusal) e came =
         let is : outcome.reply ≡ Refused refusals.RecordFull = ap (λ (o : Outcome). o.reply) came.0 ∙ ap Refused (only_full (last r).controller p refusal e) in
         rw is ((λ e. cc), ((λ e. cc), ((λ e. cc), ((λ e. cc), ((λ e. cc), tt)))))
-
-    by : (o : Option Message) → Delivers (last r) o outcome new → Fits (Deliver number) outcome.reply
-    by None refused =
-        let is : outcome.reply ≡ Refused refusals.StaleAnswer = ap (λ (o : Outcome). o.reply) refused.0 in
-        rw is ((λ e. cc), ((λ e. cc), ((λ e. cc), ((λ e. cc), ((λ e. cc), tt)))))
-    by (Some (Asks q)) came = odd count r (last r) (last_is_of count r) q.to (Asks q) outcome new came
-    by (Some (Answers a)) came = odd count r (last r) (last_is_of count r) a.request.from (Answers a) outcome new came
-    by (Some (Proposes p)) came = decides p (decide_cause (last r).controller p) refl came
-    by (Some (Decides d)) came = odd count r (last r) (last_is_of count r) d.proposal.from (Decides d) outcome new came
 
 pub all_fit : NoDeliveryIsRefusedOddly → (count : ℕ) (r : Run count) → AllFit r
 all_fit odd count r = by r.moments r.is_run

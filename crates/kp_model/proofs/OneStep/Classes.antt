@@ -9,7 +9,7 @@ use Rattle.kp_types.specs.declared.refusal.Refusal.{Refusal}
 use Rattle.kp_types.specs.declared.refusal.Refusal.TheVariants as refusals
 use Rattle.kp_batch.specs.Batch.{Body, IsBody}
 use Rattle.kp_model.specs.Admission.{Admission, Append, Duplicate, Refused as NotAdmitted, admit, admit_marker}
-use Rattle.kp_model.specs.World.{Leader, LeaderAndIsr, Leading, Following, Mode, Down, Idle, Leads, Follows, Node, Request, Answer, Proposal, Decision, Message, Asks, Answers, Proposes, Decides, World, with_record, with_message, IsSent}
+use Rattle.kp_model.specs.World.{Leader, LeaderAndIsr, Leading, Following, Mode, Down, Idle, Leads, Follows, Node, Request, Answer, Proposal, Decision, Message, Asks, Answers, Proposes, Decides, World, addressee, with_record, with_message, IsSent}
 use Rattle.kp_model.specs.Event.{Act, Adopt, Produce, Mark, Ask, Receive, Raise, Join, Leave, Checkpoint, Stop, Restart, Show, Read, Committed, Event, Elect, Acts, Deliver, Reply, Refused, Outcome}
 use Rattle.kp_model.specs.Controller.{elected, is_member, with_member, without_member}
 use Rattle.kp_model.specs.Effect.{Effect, becomes, sends, is_down, unless_leads}
@@ -19,7 +19,11 @@ use Rattle.kp_model.specs.Fetching.{asked, serve_cause, Serves, take_cause, Take
 use Rattle.kp_model.specs.Raising.{Raises}
 use Rattle.kp_model.specs.InSync.{is_caught_up, change_cause, join_cause, leave_cause, Proposes-set, learn_cause, Learns}
 use Rattle.kp_model.specs.Local.{Local, LocalBy, cause, receive_cause, Receives, Happens, LacksMemoryFor, LacksMemory}
-use Rattle.kp_model.specs.Step.{Step, NodeStep, Delivers, ElectsBy, DecidesBy, elect_cause, decide_cause, decided_on, decision, moved, IsGiven}
+use Rattle.kp_model.specs.Step.{Step, NodeStep, Delivers, ElectsBy, DecidesBy, elect_cause, decide_cause, decided_on, decision, moved, told, IsGiven}
+use Rattle.kp_model.specs.declared.message.Said.{Said}
+use Rattle.kp_model.specs.declared.message.Said.TheVariants as says
+use Rattle.kp_model.specs.Letter.{goes_to, letter_of}
+use Rattle.kp_model.specs.Calls.{said_reply}
 use Rattle.kp_model.specs.Handed.{Hands}
 use Rattle.kp_model.specs.Laws.{KeepsMark}
 use Rattle.kp_model.proofs.OneStep.Steps.{where_leads, where_follows, leads_cause, staying}
@@ -53,23 +57,63 @@ pub record Deciding (w : World) (new : World) : Type 0 where
 abbrev pub Cases : World → World → Type 0
 Cases w new = (new ≡ w) ⊎ ((Electing w new ⊎ Deciding w new) ⊎ Acting w new)
 
+-- To whom a delivery comes: to nobody, as a proposal to the controller, or as a message to a node.
+abbrev pub Arrives : World → Outcome → World → Type 0
+Arrives w outcome new =
+    ((outcome ≡ told (Refused refusals.StaleAnswer)) × (new ≡ w))
+    ⊎ (((p : Proposal) × IsSent w.messages (Proposes p) × DecidesBy (decide_cause w.controller p) w p outcome new)
+    ⊎ ((n : ℕ) × (m : Message) × NodeStep w n (Receive m) outcome new))
+
+pub arrives : (w : World) (number : ℕ) (outcome : Outcome) (new : World) → Delivers w (slice_get w.messages number) outcome new → Arrives w outcome new
+arrives w number outcome new s = by_message (slice_get w.messages number) refl s
+  where
+    by_message : (o : Option Message) → slice_get w.messages number ≡ o → Delivers w o outcome new → Arrives w outcome new
+    by_message None e h = inl h
+    by_message (Some (Asks r)) e h = inr (inr (r.to, Asks r, h))
+    by_message (Some (Answers a)) e h = inr (inr (a.request.from, Answers a, h))
+    by_message (Some (Proposes p)) e h = inr (inl (p, (number, e), h))
+    by_message (Some (Decides d)) e h = inr (inr (d.proposal.from, Decides d, h))
+
+-- a message goes where its letter does
+pub goes : (m : Message) → goes_to (letter_of m) ≡ addressee m
+goes (Asks r) = refl
+goes (Answers a) = refl
+goes (Proposes p) = refl
+goes (Decides d) = refl
+
+-- a message that goes to a node comes to it
+pub comes_to : (w : World) (m : Message) (n : ℕ) (outcome : Outcome) (new : World) → addressee m ≡ Some n → NodeStep w n (Receive m) outcome new → Delivers w (Some m) outcome new
+comes_to w (Asks r) n outcome new e step = let same : n ≡ r.to = cc in subst (λ (k : ℕ). NodeStep w k (Receive (Asks r)) outcome new) same step
+comes_to w (Answers a) n outcome new e step = let same : n ≡ a.request.from = cc in subst (λ (k : ℕ). NodeStep w k (Receive (Answers a)) outcome new) same step
+comes_to w (Proposes p) n outcome new e step = absurd cc
+comes_to w (Decides d) n outcome new e step = let same : n ≡ d.proposal.from = cc in subst (λ (k : ℕ). NodeStep w k (Receive (Decides d)) outcome new) same step
+
+-- what is told of a message that was sent is no refusal
+pub said_never : (said : Said) (refusal : Refusal) → said_reply said ≡ Refused refusal → ⊥
+said_never (says.AsksFrom offset last) refusal e = cc
+said_never (says.Batches count watermark) refusal e = cc
+said_never (says.Diverging end) refusal e = cc
+said_never (says.Proposes isr version) refusal e = cc
+said_never (says.Decides decided) refusal e = cc
+
 -- What a delivery comes to: nothing, a decision on a proposal, or that a node receives the message.
 abbrev pub DeliveryCases : World → Outcome → World → Type 0
 DeliveryCases w outcome new = ((new ≡ w) ⊎ Deciding w new) ⊎ ((n : ℕ) × (m : Message) × NodeStep w n (Receive m) outcome new)
 
 pub delivery_cases : (w : World) (number : ℕ) (outcome : Outcome) (new : World) → Delivers w (slice_get w.messages number) outcome new → DeliveryCases w outcome new
-delivery_cases w number outcome new s = by_message (slice_get w.messages number) refl s
+delivery_cases w number outcome new s =
+    elim (arrives w number outcome new s) [
+      | inl nobody ↦ inl (inl nobody.1)
+      | inr party ↦
+          elim party [
+            | inl controller ↦ by_cause controller.0 controller.1 (decide_cause w.controller controller.0) refl controller.2
+            | inr node ↦ inr node
+          ]
+    ]
   where
     by_cause : (p : Proposal) → IsSent w.messages (Proposes p) → (o : Option Refusal) → decide_cause w.controller p ≡ o → DecidesBy o w p outcome new → DeliveryCases w outcome new
     by_cause p sent (Some r) e h = inl (inl h.1)
     by_cause p sent None e h = inl (inr (record { asked = p; sent = sent; free = e; new_is = h.1 }))
-
-    by_message : (o : Option Message) → slice_get w.messages number ≡ o → Delivers w o outcome new → DeliveryCases w outcome new
-    by_message None e h = inl (inl h.1)
-    by_message (Some (Asks r)) e h = inr (r.to, Asks r, h)
-    by_message (Some (Answers a)) e h = inr (a.request.from, Answers a, h)
-    by_message (Some (Proposes p)) e h = by_cause p (number, e) (decide_cause w.controller p) refl h
-    by_message (Some (Decides d)) e h = inr (d.proposal.from, Decides d, h)
 
 node_cases : (w : World) (n : ℕ) (act : Act) (outcome : Outcome) (new : World) → NodeStep w n act outcome new → Cases w new
 unfolding Local
