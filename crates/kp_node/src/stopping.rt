@@ -30,8 +30,8 @@ impl<B: BoardName> Node<B> {
     }
 
     /// Starts the node again, in its next life, idle and with its high watermark at its checkpoint: the answer tells life, log end
-    /// offset and watermark. If it led it leads again only after a new election. Its mark word stays as high as it was. F28 where the node is up, F24 in the greatest life, F33; each
-    /// leaves it as it was. The cost is that of `Replica::restart`. (Own rule.)
+    /// offset and watermark. If it led it leads again only after a new election. Its mark word stays as high as it was. F28 where the
+    /// node is up, F24 in the greatest life, F33; each leaves it as it was. The cost is that of `Replica::restart`. (Own rule.)
     pub fn restart(&mut self) -> Result<Answer, Refusal>
         ensures event { Does self.old.node self.new.node Restart (answered_reply result) }
         ensures fits { IfOk result IsRestarted }
