@@ -3,7 +3,7 @@ use Rattle.std.proofs.Common.{◌≡◌, ℕ, ◌≤◌, List, Some, refl, sym, 
 use Rattle.std.specs.Prelude.{if◌then◌else◌}
 use Rattle.kp_types.specs.declared.refusal.Refusal.{Refusal}
 use Rattle.kp_types.specs.declared.refusal.Refusal.TheVariants as refusals
-use Rattle.kp_model.specs.World.{LeaderAndIsr, Node, Proposal, Decision, Message, Proposes, Decides}
+use Rattle.kp_model.specs.World.{LeaderAndIsr, Node, Proposal, Decision, Message, Decides}
 use Rattle.kp_model.specs.Event.{Act, Receive, Reply, Refused}
 use Rattle.kp_model.specs.Letter.{Proposing, Deciding, letter_of}
 use Rattle.kp_model.specs.Effect.{becomes, is_down}
@@ -15,16 +15,19 @@ use Rattle.kp_replica.specs.NumberedNode.{NumberedNode, Does}
 use Rattle.kp_board.specs.Views.{NodeView}
 use Rattle.kp_board.specs.Rule.{AreSent}
 use Rattle.kp_board.specs.Premises.{MayStepUnder}
+use Rattle.kp_node.specs.Calls.{IsMisplaced}
 use Rattle.kp_node.proofs.Heard.{proposal_in, decision_in}
 use Rattle.kp_node.proofs.Ties.{Tied}
 
 -- ---- a proposal
 
-pub turned_away : (m : NumberedNode) (sent : Message) (p : Proposal) (refusal : Refusal) → letter_of sent ≡ Proposing p → refusal ≡ (if is_down m.state.mode then refusals.Down else refusals.StaleAnswer)
+pub turned_away : (m : NumberedNode) (sent : Message) (refusal : Refusal) → IsMisplaced sent → refusal ≡ (if is_down m.state.mode then refusals.Down else refusals.StaleAnswer)
     → Does m m (Receive sent) (Refused refusal)
-turned_away m sent p refusal letter is =
-    subst (λ (z : Message). Does m m (Receive z) (Refused refusal)) (sym (proposal_in sent p letter))
-    (λ c. (was_refused c m.number m.state (Receive (Proposes p)) refusal (ap Some (sym is)), (refl, refl)))
+turned_away m sent refusal misplaced is =
+    λ c. (was_refused c m.number m.state (Receive sent) refusal (misplaced c m.number m.state ∙ ap Some (sym is)), (refl, refl))
+
+pub proposal_misplaced : (sent : Message) (p : Proposal) → letter_of sent ≡ Proposing p → IsMisplaced sent
+proposal_misplaced sent p letter = subst IsMisplaced (sym (proposal_in sent p letter)) (λ c n x. refl)
 
 -- ---- a decision
 

@@ -1,11 +1,12 @@
 -- What a call of a node with a pass is (own rule).
-use Rattle.std.specs.Prelude.{◌≡◌, ℕ, Result, Ok, Err}
+use Rattle.std.specs.Prelude.{◌≡◌, ℕ, if◌then◌else◌, Some, Result, Ok, Err}
 use Rattle.kp_types.specs.declared.refusal.Refusal.{Refusal}
+use Rattle.kp_types.specs.declared.refusal.Refusal.TheVariants.{Down, StaleAnswer}
 use Rattle.kp_model.specs.World.{LeaderAndIsr, Node, Message}
 use Rattle.kp_model.specs.Event.{Act, Reply, Refused, Stopped}
 use Rattle.kp_model.specs.Letter.{FetchLetter, Letter, fetch_answer, letter_of}
-use Rattle.kp_model.specs.Effect.{sends}
-use Rattle.kp_model.specs.Local.{Local}
+use Rattle.kp_model.specs.Effect.{is_down, sends}
+use Rattle.kp_model.specs.Local.{Local, receive_cause}
 use Rattle.kp_model.specs.Calls.{cut, sent_reply}
 use Rattle.kp_model.specs.declared.message.Answered.{Answered}
 use Rattle.kp_model.specs.declared.message.Answered.TheVariants.{Batches, Diverging}
@@ -16,6 +17,10 @@ use Rattle.kp_replica.specs.Replies.{cut_reply, learned_reply, taken_reply}
 use Rattle.kp_replica.specs.declared.altering.Learned.{Learned}
 use Rattle.kp_replica.specs.declared.cutting.CutBack.{CutBack}
 use Rattle.kp_replica.specs.declared.taking.Taken.{Taken}
+
+-- No node takes in such a message: whatever its state and the record, it refuses it as one that isn't for it, F28 where it is down.
+abbrev pub IsMisplaced : Message → Type 0
+IsMisplaced m = (c : LeaderAndIsr) (n : ℕ) (x : Node) → receive_cause c n x m ≡ Some (if is_down x.mode then Down else StaleAnswer)
 
 abbrev pub stop_reply : Result (Unit {0}) Refusal → Reply
 stop_reply (Ok done) = Stopped

@@ -2,9 +2,9 @@
 
 ghost use Rattle.std.specs.Prelude.{◌≡◌, ◌≤◌, max, if◌then◌else◌, Option, IfOk, IfErr, IfSome, IfNone};
 ghost use Rattle.kp_types.specs.declared.refusal.Refusal.TheVariants.{Down, StaleAnswer};
-ghost use Rattle.kp_model.specs.World.{LeaderAndIsr as ModelRecord, Proposal as ModelProposal};
+ghost use Rattle.kp_model.specs.World.{LeaderAndIsr as ModelRecord};
 ghost use Rattle.kp_model.specs.Event.{Receive, Refused};
-ghost use Rattle.kp_model.specs.Letter.{Fetching, Proposing, Deciding, letter, letter_of, fetch_request, fetch_answer, decision_of};
+ghost use Rattle.kp_model.specs.Letter.{Fetching, Deciding, letter, letter_of, fetch_request, fetch_answer, decision_of};
 ghost use Rattle.kp_model.specs.Effect.{is_down};
 ghost use Rattle.kp_model.specs.declared.message.Answered.TheVariants.{Batches, Diverging};
 ghost use Rattle.kp_model.specs.declared.message.EpochEnd.{EpochEnd};
@@ -12,7 +12,7 @@ ghost use Rattle.kp_model.specs.declared.message.Fetched.{Fetched};
 ghost use Rattle.kp_replica.specs.Broker.{node_at};
 ghost use Rattle.kp_replica.specs.NumberedNode.{Does, DoesUnder};
 ghost use Rattle.kp_replica.specs.Replies.{learned_reply};
-ghost use Rattle.kp_node.specs.Calls.{CutsBack, CutsTo, Sent, WasFollowed, WasTaken};
+ghost use Rattle.kp_node.specs.Calls.{CutsBack, CutsTo, IsMisplaced, Sent, WasFollowed, WasTaken};
 ghost use Rattle.kp_node.specs.Seated.{SeatedNode};
 
 use crate::node::Node;
@@ -139,9 +139,9 @@ impl<B: BoardName> Node<B> {
         }
     }
 
-    // A proposal comes, which is for the controller.
+    // A message comes that is for no node, as a proposal is for the controller.
     fn turn_away(&mut self, sent: MessagePass<B>) -> Refusal
-        requires { (p : ModelProposal) × (letter_of sent ≡ Proposing p) }
+        requires { IsMisplaced sent }
         ensures refused { Does self.old.node self.new.node (Receive sent) (Refused result) }
         ensures pass { self.new.pass ≡ record self.old.pass { state = self.new.node.state; told = self.new.pass.told } }
         ensures mark { self.new.node.state.watermark ≤ self.new.pass.published }

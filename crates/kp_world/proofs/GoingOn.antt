@@ -30,13 +30,13 @@ use Rattle.kp_model.specs.Run.{Moment, Run, extend, last}
 use Rattle.kp_model.proofs.Plain.Beginnings.{Begins-nil}
 use Rattle.kp_model.proofs.InRuns.RunLaws.{last_is_of}
 use Rattle.kp_model.proofs.OneStep.Steps.{happened, was_refused}
+use Rattle.kp_model.proofs.OneStep.Classes.{comes_to}
 use Rattle.kp_model.specs.Step.{DecidesBy, Delivers, ElectsBy, NodeStep, Step, answered, decide_cause, decided_on, decision, elect_cause, moved, told}
 use Rattle.kp_replica.specs.Acts.{IsAsked, TakesNoMemory}
 use Rattle.kp_world.specs.Laws.{IsLawful, MayCome, PlaysGoOn}
 use Rattle.kp_world.specs.Plays.{NoneLacks, SparesAt, SparesMemory, events_of, outcomes_of}
 use Rattle.kp_world.proofs.Moved.{given, same_refusal}
 use Rattle.kp_world.proofs.Playing.{all_fit, only_full}
-use Rattle.kp_world.proofs.Delivered.{comes_to}
 
 -- an answer to an event, and the world after it
 record Answering (w : World) (e : Event) : Type 0 where
@@ -169,9 +169,9 @@ learn_spared d Idle e = cc
 learn_spared d (Leads l) e = decision_spared _ _ e
 learn_spared d (Follows f) e = cc
 
-proposal_spared : (down : Bool) → Some (cond down refusals.Down refusals.StaleAnswer) ≢ Some refusals.Memory
-proposal_spared true e = cc
-proposal_spared false e = cc
+misplaced_spared : (down : Bool) → Some (cond down refusals.Down refusals.StaleAnswer) ≢ Some refusals.Memory
+misplaced_spared true e = cc
+misplaced_spared false e = cc
 
 -- no cause of it is want of memory
 cause_spared : (c : LeaderAndIsr) (n : ℕ) (x : Node) (act : Act) → TakesNoMemory x act → cause c n x act ≢ Some refusals.Memory
@@ -182,8 +182,8 @@ cause_spared c n x (model.Produce (Err fault)) takes e = takes
 cause_spared c n x (model.Receive (Asks r)) takes e = serve_spared x.mode x.log r e
 cause_spared c n x (model.Receive (Answers a)) takes e =
     hears_spared _ _ _ (sym (ap (λ (b : Bool). cond b (take_cause x a) (cut_cause c n x a)) takes) ∙ e)
-cause_spared c n x (model.Receive (Proposes p)) takes e = proposal_spared (is_down x.mode) e
 cause_spared c n x (model.Receive (Decides d)) takes e = learn_spared d x.mode e
+cause_spared c n x (model.Receive _) takes e = misplaced_spared (is_down x.mode) e
 cause_spared c n x model.Adopt takes e = takes
 cause_spared c n x (model.Mark time producer epoch coordinator commit) takes e = takes
 cause_spared c n x model.Raise takes e = takes
@@ -339,10 +339,10 @@ receives c n x (Answers a) None is known = by (is_covered a.log a.request) refl
       local = known.cuts a refl parted;
       spared = λ takes. cut_spared c x _ (cut_cause c n x a) (sym (ap (λ (b : Bool). cond b (take_cause x a) (cut_cause c n x a)) parted) ∙ sym is);
     }
-receives c n x (Proposes p) None is known = absurd cc
 receives c n x (Decides d) None is known =
     let done = learns c x d x.mode (sym is) in
     record { effect = done.0; local = happened c n x (Receive (Decides d)) done.0 (sym is) done.1; spared = λ takes. done.2 }
+receives c n x _ None is known = absurd cc
 
 -- the laws of runs by which messages come
 record Laws : Type 0 where
@@ -437,8 +437,6 @@ comes laws count r number None is =
       counted = refl;
       spared = λ takes lacks. cc;
     }
-comes laws count r number (Some (Asks q)) is = comes_there laws count r number q.to (Asks q) is refl
-comes laws count r number (Some (Answers a)) is = comes_there laws count r number a.request.from (Answers a) is refl
 comes laws count r number (Some (Proposes p)) is =
     let w = last r in
     let done = decides w p (decide_cause w.controller p) refl in
@@ -449,7 +447,7 @@ comes laws count r number (Some (Proposes p)) is =
       counted = done.counted;
       spared = λ takes. done.spared;
     }
-comes laws count r number (Some (Decides d)) is = comes_there laws count r number d.proposal.from (Decides d) is refl
+comes laws count r number (Some m) is = comes_there laws count r number _ m is refl
 
 answers : Laws → (count : ℕ) (r : Run count) (e : Event) → MayCome (last r).count e → Answering (last r) e
 answers laws count r (model.Elect n) come =

@@ -1,8 +1,13 @@
-use Rattle.std.proofs.Common.{sym, subst}
+use Rattle.std.proofs.Common.{sym, ap, subst, ◌∙◌}
 use Rattle.kp_model.specs.Event.{Receive}
+use Rattle.kp_model.specs.Letter.{letter}
 use Rattle.kp_model.specs.declared.message.MessageBody.{MessageBody}
 use Rattle.kp_node.specs.Calls.{WasTaken}
+use Rattle.kp_node.proofs.Deciding.{proposal_misplaced}
 use Rattle.kp_node.proofs.node.Node.step.Goals as goal
+
+pub turn_away-requires : goal.turn_away-requires
+turn_away-requires g c = proposal_misplaced c.args.message.pass _ (c.args.message.tied ∙ ap letter c.in-Proposal.is)
 
 pub returns-in-FetchRequest-clause-refused : goal.returns-in-FetchRequest-clause-refused
 returns-in-FetchRequest-clause-refused g c = c.in-Err.ensures.refused c.serve_fetch.new.self.pass.shown

@@ -15,7 +15,7 @@ load_end-requires-clause-may g c =
     let sent = c.args.sent in
     let tied : Tied g.B.BoardName.table.words q m = received g.B.BoardName.table.words p q m sent c.self.invariant c.receive.ensures in
     let refusal = c.misplaced-refusal.result in
-    let does = turned_away m sent c.requires.0 refusal c.requires.1 c.misplaced-refusal.ensures in
+    let does = turned_away m sent refusal c.requires c.misplaced-refusal.ensures in
     (Receive sent, may_go q m m (Receive sent) (Refused refusal) tied.0 tied.1 (gives p q sent c.receive.ensures) does)
 
 pub returns-clause-refused : goal.returns-clause-refused
@@ -23,7 +23,7 @@ returns-clause-refused g c =
     let m = node_at c.self.inside.broker in
     let refusal = c.misplaced-refusal.result in
     subst (λ (s : SeatedNode). Does s.node m (Receive c.args.sent) (Refused refusal)) c.self.view_is
-    (turned_away m c.args.sent c.requires.0 refusal c.requires.1 c.misplaced-refusal.ensures)
+    (turned_away m c.args.sent refusal c.requires c.misplaced-refusal.ensures)
 
 pub invariant_of-self : goal.invariant_of-self
 invariant_of-self g c =
