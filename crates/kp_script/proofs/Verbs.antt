@@ -7,8 +7,8 @@ use Rattle.std.proofs.lemmas.Bool.{and_parts, eqb-false, not-true}
 use Rattle.kp_marker.specs.declared.parts.HandedMarker.{HandedMarker}
 use Rattle.kp_replica.specs.declared.act.PlainAct.TheVariants.{Adopt, Mark, Ask, Raise, Alter, Checkpoint, Stop, Restart, Show, Read, Committed}
 use Rattle.kp_replica.specs.declared.altering.IsrChange.TheVariants.{Join, Leave}
-use Rattle.kp_script.specs.Call.{Call, Sender, Elect, Append, Raw, Acts, Deliver, IsCallInRange, SpellsNoCall, verb_text, fields_text}
-use Rattle.kp_script.specs.Read.{Lacks, AreFields, AreNoFields, IsNoLongVerb, IsNoNodeVerb}
+use Rattle.kp_script.specs.Call.{Call, Sender, Elect, Append, Raw, Acts, Deliver, IsCallInRange, SpellsNoCall, IsNoLongVerb, IsNoNodeVerb, verb_text, fields_text}
+use Rattle.kp_script.specs.Read.{Lacks, AreFields, AreNoFields}
 use Rattle.kp_script.specs.Seen.{seen_call}
 use Rattle.kp_script.specs.declared.call.Call.{Call as ParsedCall}
 use Rattle.kp_script.proofs.Splitting.{one_parting}
@@ -104,19 +104,19 @@ names_node count text none (Acts node _) range v = record { node = node; within 
 
 -- A text that is neither verb is no call's.
 pub no_verb : (text : List ℕ) → IsNoLongVerb text → IsNoNodeVerb text → (call : Call) → text ≢ verb_text call
-no_verb text none other (Elect node) = other.elect
+no_verb text none other (Elect node) = other.lead.0
 no_verb text none other (Append node time sender transactional values) = none.append
 no_verb text none other (Raw node bytes) = none.raw
 no_verb text none other (Deliver number) = none.deliver
-no_verb text none other (Acts node Adopt) = other.adopt
+no_verb text none other (Acts node Adopt) = other.lead.1
 no_verb text none other (Acts node (Mark handed)) = none.mark
 no_verb text none other (Acts node Ask) = other.ask
-no_verb text none other (Acts node Raise) = other.raise
+no_verb text none other (Acts node Raise) = other.lead.2
 no_verb text none other (Acts node (Alter (Join member))) = none.join
 no_verb text none other (Acts node (Alter (Leave member))) = none.leave
-no_verb text none other (Acts node Checkpoint) = other.checkpoint
-no_verb text none other (Acts node Stop) = other.stop
-no_verb text none other (Acts node Restart) = other.restart
+no_verb text none other (Acts node Checkpoint) = let life = other.lead.3 in life.0
+no_verb text none other (Acts node Stop) = let life = other.lead.3 in life.1
+no_verb text none other (Acts node Restart) = let life = other.lead.3 in life.2
 no_verb text none other (Acts node Show) = other.show
 no_verb text none other (Acts node (Read from)) = none.read
 no_verb text none other (Acts node (Committed from)) = none.committed

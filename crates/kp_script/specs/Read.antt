@@ -1,5 +1,5 @@
 -- Words of the readers' contracts.
-use Rattle.std.specs.Prelude.{◌≡◌, ◌≢◌, ℕ, ◌<◌, ◌^◌, List, [], ◌∷◌, ◌++◌, codes}
+use Rattle.std.specs.Prelude.{◌≡◌, ◌≢◌, ℕ, ◌<◌, ◌^◌, List, [], ◌∷◌, ◌++◌}
 use Rattle.std.specs.List.{AllByRecursion}
 use Rattle.std.specs.Fmt.{decimal}
 use Rattle.std.specs.Int.{IsInRange}
@@ -36,25 +36,3 @@ AreFields count verb bytes call = IsCallInRange count call × (verb ≡ verb_tex
 -- The bytes are not the fields of a call in range that has this verb.
 abbrev pub AreNoFields : (count : ℕ) → (verb bytes : List ℕ) → Type 0
 AreNoFields count verb bytes = (call : Call) → IsCallInRange count call → verb ≡ verb_text call → bytes ≢ fields_text call
-
--- No call that has more, or other, fields than a node has this verb.
-pub record IsNoLongVerb (verb : List ℕ) : Type 0 where
-  pub append : verb ≢ codes "append"
-  pub raw : verb ≢ codes "raw"
-  pub mark : verb ≢ codes "mark"
-  pub join : verb ≢ codes "join"
-  pub leave : verb ≢ codes "leave"
-  pub deliver : verb ≢ codes "deliver"
-  pub read : verb ≢ codes "read"
-  pub committed : verb ≢ codes "committed"
-
--- No call that names a node and nothing else has this verb.
-pub record IsNoNodeVerb (verb : List ℕ) : Type 0 where
-  pub elect : verb ≢ codes "elect"
-  pub adopt : verb ≢ codes "adopt"
-  pub ask : verb ≢ codes "ask"
-  pub raise : verb ≢ codes "raise"
-  pub checkpoint : verb ≢ codes "checkpoint"
-  pub stop : verb ≢ codes "stop"
-  pub restart : verb ≢ codes "restart"
-  pub show : verb ≢ codes "show"

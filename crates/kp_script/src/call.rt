@@ -2,8 +2,8 @@
 
 ghost use Rattle.std.specs.Prelude.{◌≡◌, ◌≢◌, ℕ, ◌<◌, codes, IfSome, IfNone};
 ghost use Rattle.std.specs.Fmt.{decimal};
-ghost use Rattle.kp_script.specs.Call.{IsHeaderText, IsCallText, SpellsNoHeader, SpellsNoCall, HasOneCall};
-ghost use Rattle.kp_script.specs.Read.{AreFields, AreNoFields, IsNoLongVerb, IsNoNodeVerb};
+ghost use Rattle.kp_script.specs.Call.{IsHeaderText, IsCallText, SpellsNoHeader, SpellsNoCall, HasOneCall, IsNoLifeVerb, IsNoLeadVerb, IsNoLongVerb, IsNoNodeVerb};
+ghost use Rattle.kp_script.specs.Read.{AreFields, AreNoFields};
 ghost use Rattle.kp_script.specs.Seen.{seen_header, seen_call};
 
 use crate::fields::{append_of, mark_of, node_and_offset_of, node_of, raw_of, two_nodes_of};
@@ -130,7 +130,7 @@ pub fn header_of(line: &[u8]) -> Option<Header>
 fn life_call<'a>(verb: &[u8], node: NodeId) -> Option<Call<'a>>
     ensures found { IfSome result (λ call. (count : ℕ) → node < count
         → AreFields count verb.now (decimal node) (seen_call call)) }
-    ensures none { IfNone result ((verb.now ≢ codes "checkpoint") × (verb.now ≢ codes "stop") × (verb.now ≢ codes "restart")) }
+    ensures none { IfNone result (IsNoLifeVerb verb.now) }
 {
     match verb {
         b"checkpoint" => Some(Call::Acts {
@@ -154,8 +154,7 @@ fn life_call<'a>(verb: &[u8], node: NodeId) -> Option<Call<'a>>
 fn lead_call<'a>(verb: &[u8], node: NodeId) -> Option<Call<'a>>
     ensures found { IfSome result (λ call. (count : ℕ) → node < count
         → AreFields count verb.now (decimal node) (seen_call call)) }
-    ensures none { IfNone result ((verb.now ≢ codes "elect") × (verb.now ≢ codes "adopt") × (verb.now ≢ codes "raise")
-        × (verb.now ≢ codes "checkpoint") × (verb.now ≢ codes "stop") × (verb.now ≢ codes "restart")) }
+    ensures none { IfNone result (IsNoLeadVerb verb.now) }
 {
     match verb {
         b"elect" => Some(Call::Elect { node }),

@@ -10,10 +10,9 @@ use Rattle.kp_types.specs.declared.refusal.Refusal.{Refusal}
 use Rattle.kp_types.specs.declared.refusal.Refusal.TheVariants as refusals
 use Rattle.kp_batch.specs.Batch.{Body, IsBody}
 use Rattle.kp_model.specs.Admission.{Admission, Append, Duplicate, Refused as NotAdmitted, admit}
-use Rattle.kp_model.specs.Log.{Batch, IsLog, IsKin, end_of}
-use Rattle.kp_model.specs.Transactions.{stable}
+use Rattle.kp_model.specs.Log.{Batch, IsLog, IsKin}
 use Rattle.kp_model.specs.World.{Leader, LeaderAndIsr, Leading, Mode, Down, Idle, Leads, Follows, Answer, Request, Proposal, Decision, Message, Asks, Answers, Proposes, Decides, Node, World, addressee, with_message, with_record}
-use Rattle.kp_model.specs.Event.{Act, Receive, Event, Outcome, Refused, Changed, SentDecision, Shown}
+use Rattle.kp_model.specs.Event.{Act, Receive, Event, Outcome, Refused, Changed, SentDecision}
 use Rattle.kp_model.specs.Event as model
 use Rattle.kp_model.specs.Calls.{DoesSending, answer_letter, answering_at, cut, cut_by, sent_reply, served, taken_some}
 use Rattle.kp_model.specs.Letter.{Answering as LetterAnswering, Batches, Diverging, FetchLetter, Fetching, asked_letter, answered_letter}
@@ -184,17 +183,9 @@ cause_spared c n x (model.Receive (Answers a)) takes e =
     hears_spared _ _ _ (sym (ap (λ (b : Bool). cond b (take_cause x a) (cut_cause c n x a)) takes) ∙ e)
 cause_spared c n x (model.Receive (Decides d)) takes e = learn_spared d x.mode e
 cause_spared c n x (model.Receive _) takes e = misplaced_spared (is_down x.mode) e
-cause_spared c n x model.Adopt takes e = takes
-cause_spared c n x (model.Mark time producer epoch coordinator commit) takes e = takes
-cause_spared c n x model.Raise takes e = takes
 cause_spared c n x (model.Join member) takes e = join_spared x member x.mode e
 cause_spared c n x (model.Leave member) takes e = leave_spared n member x.mode e
-cause_spared c n x model.Checkpoint takes e = takes
-cause_spared c n x model.Stop takes e = takes
-cause_spared c n x model.Restart takes e = takes
-cause_spared c n x model.Show takes e = takes
-cause_spared c n x (model.Read from) takes e = takes
-cause_spared c n x (model.Committed from) takes e = takes
+cause_spared c n x _ takes e = takes
 
 -- an effect of an act, which isn't want of memory where the act takes none
 record Doing (o : Option Refusal) (c : LeaderAndIsr) (n : ℕ) (x : Node) (act : Act) : Type 0 where
@@ -259,18 +250,13 @@ does c n x (model.Join member) None is asked lawful =
 does c n x (model.Leave member) None is asked lawful =
     let done = proposes c n x (without_member member) x.mode _ (sym is) in
     record { effect = done.0; local = inl done.1; spared = λ takes. done.2 }
-does c n x model.Checkpoint None is asked lawful =
-    record { effect = becomes c (record x { checkpoint = x.watermark }) (model.CheckpointAt x.watermark); local = inl refl; spared = λ never. absurd never }
-does c n x model.Stop None is asked lawful =
-    record { effect = becomes c (record x { mode = Down }) model.Stopped; local = inl refl; spared = λ never. absurd never }
 does c n x model.Restart None is asked lawful =
     record { effect = becomes c x (Refused refusals.Memory); local = inr refl; spared = λ never. absurd never }
-does c n x model.Show None is asked lawful =
-    record { effect = becomes c x (Shown x.life (end_of x.log) x.watermark (stable x.log x.watermark)); local = inl refl; spared = λ never. absurd never }
 does c n x (model.Read from) None is asked lawful =
     record { effect = becomes c x (Refused refusals.Memory); local = inr refl; spared = λ never. absurd never }
 does c n x (model.Committed from) None is asked lawful =
     record { effect = becomes c x (Refused refusals.Memory); local = inr refl; spared = λ never. absurd never }
+does c n x _ None is asked lawful = record { effect = _; local = inl refl; spared = λ never. absurd never }
 
 -- the same, of what a node may do
 record Acting (c : LeaderAndIsr) (n : ℕ) (x : Node) (act : Act) : Type 0 where

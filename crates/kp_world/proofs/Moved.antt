@@ -85,15 +85,7 @@ answers_never (replies.Appended receipt) refusal e = by receipt.duplicate e
     by : (b : Bool) → cond b (model.DuplicateOf receipt.base) (model.At receipt.base) ≡ Refused refusal → ⊥
     by true e = cc
     by false e = cc
-answers_never (replies.Took taken) refusal e = cc
-answers_never (replies.Cut cut) refusal e = cc
-answers_never (replies.Learned learned) refusal e = cc
-answers_never (replies.Watermark watermark) refusal e = cc
-answers_never (replies.Checkpoint watermark) refusal e = cc
-answers_never replies.Stopped refusal e = cc
-answers_never (replies.Restarted life end watermark) refusal e = cc
-answers_never (replies.Shown shown) refusal e = cc
-answers_never (replies.Lines lines) refusal e = cc
+answers_never _ refusal e = cc
 
 pub same_refusal : (r s : Refusal) → Refused r ≡ Refused s → r ≡ s
 same_refusal r s e = cc

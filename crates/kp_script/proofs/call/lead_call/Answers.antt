@@ -4,4 +4,4 @@ use Rattle.kp_script.proofs.call.lead_call.Goals as goal
 
 pub returns-in_default-clause-none : goal.returns-in_default-clause-none
 returns-in_default-clause-none c =
-    none_weaker c.life_call.result _ _ (λ others. ((λ same. grind arith), (λ same. grind arith), (λ same. grind arith), others.0, others.1, others.2)) c.life_call.ensures.none
+    none_weaker c.life_call.result _ _ (λ others. ((λ same. grind arith), (λ same. grind arith), (λ same. grind arith), others)) c.life_call.ensures.none
