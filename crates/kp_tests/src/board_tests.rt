@@ -1,19 +1,14 @@
-//! A board by itself: threads look, elect and decide on it.
+//! A board by itself: threads look and elect on it.
 
 ghost use Rattle.std.specs.Prelude.{◌≡◌, ◌≤◌};
 
-use crate::seated::nodes_of;
 use crate::shown::unrefused;
-use kp_board::{Board, BoardName, Message, Opened};
+use kp_board::{Board, BoardName, Opened};
 use kp_control::pack;
-use kp_model::MessageBody;
-use kp_node::Node;
-use kp_replica::IsrChange;
 use kp_types::{NodeId, Refusal};
 use std::alloc::Global;
 use std::marker::Brand;
 use std::process::Abort;
-use std::sync::Arc;
 use std::thread::{Threads, join};
 
 const TRIES: u32 = 100;
@@ -94,71 +89,6 @@ fn one_looks_while_another_elects(rt: HostRuntime) {
     let (elected, seen, version) = unrefused(&rt, found);
     assert_eq!(rt; (elected, version), (TRIES, TRIES));
     assert!(rt; seen <= TRIES);
-}
-
-// The node's proposal that node 1 leaves, so many times.
-fn proposals<B: BoardName>(
-    alloc: Global,
-    board: &Board<B>,
-    node: &mut Node<B>,
-) -> Result<Vec<Message<B>>, Refusal> {
-    let mut proposal = node.alter(IsrChange::Leave(1))?;
-    let mut copies = Vec::new(alloc);
-    for _ in 0..TRIES {
-        let body = proposal.body.share(alloc)?;
-        let pass = board.repeat(&mut proposal.pass);
-        copies.push(Message { body, pass })?;
-    }
-    Ok(copies)
-}
-
-// How many of these are answered by the record of version 2.
-fn decisions<B: BoardName>(board: &Board<B>, messages: Vec<Message<B>>) -> u32 {
-    let mut told = 0u32;
-    for message in messages {
-        if let Ok(answer) = board.decide(message)
-            && let MessageBody::Decision(decision) = answer.body
-            && decision.decided.version == 2
-        {
-            told = told.wrapping_add(1);
-        }
-    }
-    told
-}
-
-// Node 0 leads, and two threads decide on its proposal at one time: the decisions of each by version 2, and the last version.
-fn decide_by_two<B: BoardName + Send + Sync + 'static>(
-    rt: &impl Threads,
-    alloc: Global,
-    opened: Opened,
-) -> Result<(u32, u32, u32), Refusal>
-    requires { opened ≡ B.table }
-{
-    let (board, passes) = Board::<B>::new(alloc, opened)?;
-    let board = Arc::new(alloc, board)?;
-    let mut nodes = nodes_of(alloc, &board, passes)?;
-    let node = nodes.get_mut(0).ok_or(Refusal::BadCount)?;
-    board.elect(&mut board.pass(), 0)?;
-    node.adopt()?;
-    let (first, second) = (
-        proposals(alloc, &board, node)?,
-        proposals(alloc, &board, node)?,
-    );
-    let (one, two) = join(
-        rt,
-        || decisions(&board, first),
-        || decisions(&board, second),
-    );
-    let version = board.record(&mut board.pass()).version;
-    Ok((one, two, version))
-}
-
-// One of them follows it, and all others find its record.
-#[test]
-fn one_decision_follows_a_proposal(rt: HostRuntime) {
-    let alloc = rt.alloc();
-    let found = decide_by_two::<Brand>(&rt, alloc, board_of(&rt, alloc, 2));
-    assert_eq!(rt; found, Ok((TRIES, TRIES, 2)));
 }
 
 // The word of the record after one election of node 0.

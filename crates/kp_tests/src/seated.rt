@@ -89,7 +89,7 @@ fn node_of<B: BoardName>(
 }
 
 // A node for each pass.
-pub(crate) fn nodes_of<B: BoardName>(
+fn nodes_of<B: BoardName>(
     alloc: Global,
     board: &Arc<Board<B>, Global>,
     passes: Vec<FreshPass<B>>,
