@@ -4,4 +4,3 @@ pub mod Suits
 pub mod Taken
 pub mod Ending
 pub mod Lines
-pub mod Pipes

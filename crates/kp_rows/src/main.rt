@@ -171,7 +171,6 @@ fn show_taken(rt: &HostRuntime, folder: &GivenFolder) -> io::Result<()> {
 fn perform_words<X: Fn(NodeId, Plan) -> Result<Outcome, Refusal>>(
     rt: &HostRuntime,
     words: &[&str],
-    input: Vec<u8>,
     failing: Failing,
     races: &X,
 ) -> io::Result<()>
@@ -190,7 +189,6 @@ fn perform_words<X: Fn(NodeId, Plan) -> Result<Outcome, Refusal>>(
         Ok(handed),
         file,
         folder,
-        Faulty::new(input, failing.read),
         races,
         &mut out,
         &mut err,
@@ -214,13 +212,13 @@ fn tell_words(
     failing: Failing,
 ) -> io::Result<()> {
     let races = |nodes: NodeId, _plan: Plan| Ok(Outcome { nodes, ..outcome });
-    perform_words(rt, words, Vec::new(rt.alloc()), failing, &races)
+    perform_words(rt, words, failing, &races)
 }
 
 /// Does one command line, of which a race is refused.
 fn refuse_words(rt: &HostRuntime, refusal: Refusal, words: &[&str]) -> io::Result<()> {
     let races = |_nodes: NodeId, _plan: Plan| -> Result<Outcome, Refusal> { Err(refusal) };
-    perform_words(rt, words, Vec::new(rt.alloc()), NEVER, &races)
+    perform_words(rt, words, NEVER, &races)
 }
 
 /// No race is asked for.
@@ -371,22 +369,7 @@ fn outcome_of(receipts: &str, acknowledged: &str, committed: &str, agree: &str) 
     }
 }
 
-/// Does one command line, behind which `< FILE` may say what stands on its standard input.
-fn perform_given<X: Fn(NodeId, Plan) -> Result<Outcome, Refusal>>(
-    rt: &HostRuntime,
-    words: &[&str],
-    failing: Failing,
-    races: &X,
-) -> io::Result<()>
-    requires { (nodes : ℕ) (plan : SomePlan) → nodes ≤ 7 → X.pre races.now nodes plan }
-{
-    match words {
-        [words @ .., "<", file] => perform_words(rt, words, fs::read(rt, file)?, failing, races),
-        words => perform_words(rt, words, Vec::new(rt.alloc()), failing, races),
-    }
-}
-
-/// Does one row: a command line, behind which `< FILE` may say what stands on its standard input; or one behind `fail READ WRITE PUT`; or `each FRONT LINES BACK`; or
+/// Does one row: a command line; or one behind `fail READ WRITE PUT`; or `each FRONT LINES BACK`; or
 /// `repeat FRONT PIECE COUNT`, or `sum` for `repeat`, which prints a sum; or `keep PUT SCRIPT`, which shows the files in which
 /// a script's logs are kept; or `dump NODE SEGMENT INTERVAL SCRIPT`, which inspects those of a node; or a command line behind
 /// `outcome WRITE RECEIPTS ACKNOWLEDGED COMMITTED yes`, or `no` for `yes`, of which a race comes out so, or behind `refused`, of
@@ -407,9 +390,12 @@ fn perform_row<X: Fn(NodeId, Plan) -> Result<Outcome, Refusal>>(
         ["sum", front, piece, count] => sum_repeated(rt, front, piece, count),
         ["keep", put, file] => show_kept(rt, file, number(put)),
         ["dump", node, segment, interval, file] => dump_kept(rt, file, node, segment, interval),
-        ["fail", read, write, put, words @ ..] => {
-            perform_given(rt, words, fails_at(read, write, put), races)
-        }
+        ["fail", read, write, put, words @ ..] => perform_words(
+            rt,
+            words,
+            fails_at(read, write, put),
+            races,
+        ),
         [
             "outcome",
             write,
@@ -423,7 +409,7 @@ fn perform_row<X: Fn(NodeId, Plan) -> Result<Outcome, Refusal>>(
             tell_words(rt, outcome, words, fails_at("-", write, "-"))
         }
         ["refused", words @ ..] => refuse_words(rt, Refusal::Memory, words),
-        words => perform_given(rt, words, NEVER, races),
+        words => perform_words(rt, words, NEVER, races),
     }
 }
 

@@ -10,6 +10,3 @@ pub mod Transcript
 pub mod Ended
 pub mod Playing
 pub mod Kept
-pub mod Reads
-pub mod Piped
-pub mod Piping
