@@ -1,10 +1,12 @@
 //! A node with its pass.
 
 ghost use Rattle.std.specs.Prelude.{◌≡◌, ◌+◌, ◌*◌};
+ghost use Rattle.kp_model.specs.Log.{IsBoundary};
 ghost use Rattle.kp_model.specs.World.{fresh};
 ghost use Rattle.kp_node.specs.Seated.{SeatedNode};
 
 use kp_board::{Board, BoardName, FreshPass, NodePass};
+use kp_log::PartitionLog;
 use kp_replica::{Broker, Replica};
 use kp_types::Limits;
 use std::alloc::Global;
@@ -51,6 +53,18 @@ impl<B: BoardName> Node<B> {
             broker: Broker::Up(replica),
             pass,
         }
+    }
+
+    /// The node's log, settled up to its high watermark, which is a boundary of it; of one that is down, what it keeps. O(1).
+    pub fn log(&self) -> &PartitionLog
+        ensures value { result.now ≡ record {
+          limits = self.now.node.limits;
+          log = self.now.node.state.log;
+          settled = self.now.node.state.watermark;
+        } }
+        ensures boundary { IsBoundary self.now.node.state.log self.now.node.state.watermark }
+    {
+        self.broker.log()
     }
 
     /// The node's board, at which a caller gets a pass, and looks at the record and at watermarks, without the node's lock. It is
