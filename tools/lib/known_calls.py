@@ -68,6 +68,7 @@ Commands:
   run      Runs a script and prints its trace
   inspect  Reads a log and prints its batches, segments and tables
   race     Runs nodes, producers and elections in threads, and prints whether all nodes agree
+  pipe     Plays a script's lines from standard input, and answers each before it reads the next one
   help     Print this message or the help of the given subcommand(s)
 
 Options:
@@ -111,6 +112,15 @@ Options:
       --moves <M>      how many elections meanwhile, from 0 to 1000
   -h, --help           Print help
 """
+HELP_PIPE = """\
+Plays a script's lines from standard input, and answers each before it reads the next one
+
+Usage: kpart pipe [OPTIONS]
+
+Options:
+      --keep <FOLDER>  an empty folder, or a new one, to keep the nodes' logs in
+  -h, --help           Print help
+"""
 VERSION = "kpart 0.1.0\n"
 
 
@@ -139,7 +149,7 @@ def not_provided(*options):
 
 # Words that are no call, the kind that clap gives their refusal, and its text.
 NO_CALL = {f"kpart{' ' if words else ''}{words}": (kind, text) for words, kind, text in (
-    ("", "MissingSubcommand", mistake("'kpart' requires a subcommand but one was not provided\n  [subcommands: run, inspect, race, help]", "<COMMAND>")),
+    ("", "MissingSubcommand", mistake("'kpart' requires a subcommand but one was not provided\n  [subcommands: run, inspect, race, pipe, help]", "<COMMAND>")),
     ("walk x.script", "InvalidSubcommand", mistake("unrecognized subcommand 'walk'", "<COMMAND>")),
     ("run", MISSING, mistake("the following required arguments were not provided:\n  <FILE>", "run <FILE>")),
     ("run a b", UNKNOWN, unexpected("b", RUN)),
@@ -181,6 +191,9 @@ NO_CALL = {f"kpart{' ' if words else ''}{words}": (kind, text) for words, kind, 
     ("race --producers 2 --batches 1 --moves 0", MISSING, not_provided("--nodes <N>")),
     ("race --help", "DisplayHelp", HELP_RACE),
     ("help race", "DisplayHelp", HELP_RACE),
+    ("pipe --help", "DisplayHelp", HELP_PIPE),
+    ("help pipe", "DisplayHelp", HELP_PIPE),
+    ("pipe x", UNKNOWN, unexpected("x", "pipe [OPTIONS]")),
     ("race --nodes 0 --producers 1 --batches 0 --moves 0", VALUE, invalid("0", "nodes <N>", "0 is not in 1..=7")),
     ("race --nodes 8 --producers 1 --batches 0 --moves 0", VALUE, invalid("8", "nodes <N>", "8 is not in 1..=7")),
     ("race --nodes 257 --producers 1 --batches 0 --moves 0", VALUE, invalid("257", "nodes <N>", "257 is not in 1..=7")),
@@ -203,6 +216,7 @@ NO_FILE = {f"kpart {words}": path for words, path in (
 # Rows whose folder isn't empty
 NO_FOLDER = {f"kpart {words}": path for words, path in (
     ("run made_example_first.script --keep full", "full"),
+    ("pipe --keep full < two_segments.script", "full"),
 )}
 
 

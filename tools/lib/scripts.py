@@ -180,6 +180,32 @@ def ends(world, events, lines):
     yield world
 
 
+def lawful(lines):
+    """A script of these lines, which come one by one: a comment stands for each that can't stand where it stands. And the numbers of
+    those; no script where no line is a header."""
+    lines, faulty = lines.split(b"\n"), []
+    count = len(lines) - (lines[-1] == b"")
+    while True:
+        try:
+            parse(b"\n".join(lines))
+            return b"\n".join(lines), faulty
+        except Fault as fault:
+            place = fault.args[0]
+            if place > count:
+                return None, faulty
+            lines[place - 1] = b"#"
+            faulty.append(place)
+
+
+def piped(lines):
+    """What a pipe answers to these lines, an answer for each that has one, and its exit status."""
+    script, faulty = lawful(lines)
+    trace, _, status = run(script) if script else ("", "", 0)
+    answers = {place: f"F31 BadScript {place}\n" for place in faulty}
+    answers.update({int(line.split(" ")[0]): f"{line}\n" for line in trace.splitlines()})
+    return [answers[place] for place in sorted(answers)], 1 if faulty else status
+
+
 def run(script):
     """What a run leaves: its trace, its complaint, its exit status."""
     try:

@@ -90,8 +90,9 @@ known_of opens takes races remaining file_fault entries folder_fault held told =
   shelf = record { entries = entries; folder_fault = folder_fault };
 }
 
-abbrev pub around_of : {F K W E : Type 0} → F → Counted F → K → Counted K → (out out_left : Counted W) → (err err_left : Counted E) → Around F K W E
-around_of file file_left folder folder_left out out_left err err_left = record {
+abbrev pub around_of : {F K W E : Type 0} → (input : Option (List ℕ)) → F → Counted F → K → Counted K → (out out_left : Counted W) → (err err_left : Counted E) → Around F K W E
+around_of input file file_left folder folder_left out out_left err err_left = record {
+  input = input;
   file = file;
   file_left = file_left;
   folder = folder;

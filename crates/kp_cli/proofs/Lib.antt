@@ -4,3 +4,4 @@ pub mod Suits
 pub mod Taken
 pub mod Ending
 pub mod Lines
+pub mod Pipes

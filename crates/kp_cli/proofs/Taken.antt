@@ -271,32 +271,36 @@ is_used rows true e = refl
 is_used rows false e = refuses _ _ _ e
 
 abbrev help_shape : Shape
-help_shape = slice_index_or (built kpart).subs 3 kpart.top
+help_shape = slice_index_or (built kpart).subs 4 kpart.top
+
+abbrev pipe_shape : Shape
+pipe_shape = slice_index_or (built kpart).subs 3 kpart.top
 
 swapped : (xs ys : Text) → bytes_eq xs ys ≡ bytes_eq ys xs
 swapped xs ys = same_from_decides _ _ (bytes_eq-Decides xs ys) (Decides-like _ sym sym (bytes_eq-Decides ys xs))
 
--- the subcommand of which the tests say that it is `run`, `inspect`, `race` or `help`
-abbrev chosen : (run inspect race help : Bool) → Option Shape
-chosen b d r h =
+-- the subcommand of which the tests say that it is `run`, `inspect`, `race`, `pipe` or `help`
+abbrev chosen : (run inspect race pipe help : Bool) → Option Shape
+chosen b d r p h =
     cond (b || false) (Some run_shape)
-    (cond (d || false) (Some inspect_shape) (cond (r || false) (Some race_shape) (cond (h || false) (Some help_shape) None)))
+    (cond (d || false) (Some inspect_shape) (cond (r || false) (Some race_shape) (cond (p || false) (Some pipe_shape) (cond (h || false) (Some help_shape) None))))
 
 answered : (stop : Option (Text × List Text)) → StopsAside stop → is_some (entered (built kpart) stop) ≡ true
     → entered_fault (built kpart) stop ≡ [] → NamesCall (entered (built kpart) stop)
 answered None aside has e = absurd (true≢false (sym has))
 answered (Some p) aside has e =
-    go (bytes_eq (codes "run") p.0) (bytes_eq (codes "inspect") p.0) (bytes_eq (codes "race") p.0) (bytes_eq (codes "help") p.0)
+    go (bytes_eq (codes "run") p.0) (bytes_eq (codes "inspect") p.0) (bytes_eq (codes "race") p.0) (bytes_eq (codes "pipe") p.0) (bytes_eq (codes "help") p.0)
     (swapped (codes "help") p.0 ∙ aside) has e
   where
-    go : (b d r h : Bool) → h ≡ false → is_some (option_map (λ s. rows_at s p.1) (chosen b d r h)) ≡ true
-        → option_map_or (λ s. level_fault s [] nothing_held p.1 false []) (chosen b d r h) [] ≡ []
-        → NamesCall (option_map (λ s. rows_at s p.1) (chosen b d r h))
-    go true d r h n some f = inl (refl, run_has_file p.1 f)
-    go false true r h n some f = inr (inl (refl, inspect_has_file p.1 f, inspect_has_segment p.1 f, inspect_has_interval p.1 f))
-    go false false true h n some f = inr (inr (refl, race_is_there p.1 f))
-    go false false false true n some f = absurd (true≢false n)
-    go false false false false n some f = absurd (true≢false (sym some))
+    go : (b d r q h : Bool) → h ≡ false → is_some (option_map (λ s. rows_at s p.1) (chosen b d r q h)) ≡ true
+        → option_map_or (λ s. level_fault s [] nothing_held p.1 false []) (chosen b d r q h) [] ≡ []
+        → NamesCall (option_map (λ s. rows_at s p.1) (chosen b d r q h))
+    go true d r q h n some f = inl (refl, run_has_file p.1 f)
+    go false true r q h n some f = inr (inl (refl, inspect_has_file p.1 f, inspect_has_segment p.1 f, inspect_has_interval p.1 f))
+    go false false true q h n some f = inr (inr (inl (refl, race_is_there p.1 f)))
+    go false false false true h n some f = inr (inr (inr refl))
+    go false false false false true n some f = absurd (true≢false n)
+    go false false false false false n some f = absurd (true≢false (sym some))
 
 pub taken : (words : List Text) → fault_of kpart words ≡ [] → NamesCall (subcommand_of kpart words)
 taken words e =

@@ -1,6 +1,7 @@
 pub mod Faults
 pub mod Line
 pub mod Perform
+pub mod Piped
 pub mod Program
 pub mod Raced
 pub mod Told

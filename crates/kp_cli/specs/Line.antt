@@ -1,11 +1,11 @@
 -- The program's command line.
-use Rattle.std.specs.Prelude.{◌≡◌, ◌⊎◌, ℕ, List, [], ◌∷◌, Option, Some, None, IsSomeAnd, codes, true, is_some, string_bytes}
+use Rattle.std.specs.Prelude.{◌≡◌, ◌⊎◌, ℕ, List, [], ◌∷◌, Option, Some, None, IsSomeAnd, codes, Bool, true, false, is_some, string_bytes}
 use Rattle.std.specs.Option.{option_map}
 use Rattle.std.specs.Str.Parse.{digits_value, without_leading_plus}
 use Rattle.clap.specs.Words.{App, IsUnsignedIn, Row, Rule, Text, first_of, new_app, new_rule, one_of, with_rule, with_subcommand}
 use Rattle.clap.specs.declared.builder.value_parser.ValueParser.TheVariants.{Unsigned}
 use Rattle.kp_cli.specs.declared.call.Call.{Call}
-use Rattle.kp_cli.specs.declared.call.Call.TheVariants.{Inspect, Race, Run}
+use Rattle.kp_cli.specs.declared.call.Call.TheVariants.{Inspect, Pipe, Race, Run}
 
 -- the path of a file, a required word
 abbrev pub file_rule : Rule
@@ -57,6 +57,10 @@ racers_app = with_rule (with_rule (new_app (codes "race")) (race_rule (codes "no
 abbrev pub race_app : App
 race_app = with_rule (with_rule racers_app (race_rule (codes "batches") 0 10000)) (race_rule (codes "moves") 0 1000)
 
+-- `pipe [--keep FOLDER]`
+abbrev pub pipe_app : App
+pipe_app = with_rule (new_app (codes "pipe")) keep_rule
+
 -- `kpart`, of which a subcommand has to be used; it can be asked for its version
 abbrev pub kpart_app : App
 kpart_app =
@@ -69,9 +73,13 @@ kpart_reading = with_subcommand
     (with_subcommand kpart_app run_app.top)
     inspect_app.top
 
+-- and with a race
+abbrev pub kpart_racing : App
+kpart_racing = with_subcommand kpart_reading race_app.top
+
 -- the whole command line
 abbrev pub kpart : App
-kpart = with_subcommand kpart_reading race_app.top
+kpart = with_subcommand kpart_racing pipe_app.top
 
 -- the text of this name is a decimal numeral from `least` to `greatest`
 abbrev pub HasNumber : (name : Text) → (least greatest : ℕ) → List Row → Type 0
@@ -101,6 +109,7 @@ IsCallOf (Some entered) (Inspect file segment_bytes index_interval) =
     (entered.0 ≡ codes "inspect") × (first_of (codes "FILE") entered.1 ≡ Some (string_bytes file))
     × HasTheNumber (codes "segment") 1024 1073741824 entered.1 segment_bytes
     × HasTheNumber (codes "interval") 0 1048576 entered.1 index_interval
+IsCallOf (Some entered) (Pipe keep) = (entered.0 ≡ codes "pipe") × (first_of (codes "keep") entered.1 ≡ option_map string_bytes keep)
 IsCallOf (Some entered) (Race nodes plan) = (entered.0 ≡ codes "race") × IsRaceOf entered.1 (Race nodes plan)
 
 -- the matches have a file
@@ -122,15 +131,23 @@ NamesCall (Some entered) = ((entered.0 ≡ codes "run") × HasFile entered.1)
     ⊎ (((entered.0 ≡ codes "inspect") × HasFile entered.1
     × HasNumber (codes "segment") 1024 1073741824 entered.1
     × HasNumber (codes "interval") 0 1048576 entered.1)
-    ⊎ ((entered.0 ≡ codes "race") × NamesRace entered.1))
+    ⊎ (((entered.0 ≡ codes "race") × NamesRace entered.1)
+    ⊎ (entered.0 ≡ codes "pipe")))
+
+-- whether the call plays the lines of standard input
+abbrev pub is_pipe : Call → Bool
+is_pipe (Pipe keep) = true
+is_pipe _ = false
 
 -- the path of the file that a call reads, if it reads one
 abbrev pub file_of : Call → Option (List ℕ)
 file_of (Run file keep) = Some (string_bytes file)
 file_of (Inspect file segment_bytes index_interval) = Some (string_bytes file)
+file_of (Pipe keep) = None
 file_of (Race nodes plan) = None
 
--- the path of the folder that the logs of its run are kept in, if they are
+-- the path of the folder that the logs of its run or its pipe are kept in, if they are
 abbrev pub keep_of : Call → Option (List ℕ)
 keep_of (Run file keep) = option_map string_bytes keep
+keep_of (Pipe keep) = option_map string_bytes keep
 keep_of _ = None

@@ -17,7 +17,7 @@ use Rattle.kp_race.specs.declared.outcome.Plan.{Plan}
 use Rattle.kp_cli.specs.Raced.{EndsRace}
 use Rattle.kp_cli.specs.Told.{complaint, reason_of, status_of_refusal}
 use Rattle.kp_cli.specs.declared.call.Call.{Call}
-use Rattle.kp_cli.specs.declared.call.Call.TheVariants.{Run, Inspect, Race}
+use Rattle.kp_cli.specs.declared.call.Call.TheVariants.{Run, Inspect, Pipe, Race}
 use Rattle.kp_cli.specs.declared.fault.Fault.{Fault}
 
 -- What running a script leaves on standard output, where the input is known: with an answer the trace, with a
@@ -100,7 +100,7 @@ PerformsReading streams path Written file file_new out out_new err err_new statu
     × Complains streams.told err err_new outcome (reason_of streams.file_fault path (faults_of file) file_new)
     × (status ≡ status_of outcome)
 
--- What a call leaves, but for logs that it keeps: the trace of its script, the dump of its log, or the lines of its race, whatever
+-- What a call leaves that isn't a pipe, but for logs that it keeps: the trace of its script, the dump of its log, or the lines of its race, whatever
 -- that may answer. A race leaves the file alone.
 abbrev pub PerformsCall : {F W E : Type 0} → Streams F W E → (races : ℕ → Plan → Result Outcome Refusal → Type 0) → Call
     → (file file_new : Counted F) → (out out_new : Counted W) → (err err_new : Counted E) → (status : ℕ) → Type 0
@@ -110,6 +110,7 @@ PerformsCall streams races (Inspect path segment_bytes index_interval) file file
     PerformsReading streams (string_bytes path)
     (Inspects (record { segment_bytes = segment_bytes; index_interval = index_interval; max_batch = largest_batch }))
     file file_new out out_new err err_new status
+PerformsCall streams races (Pipe keep) file file_new out out_new err err_new status = ⊥
 PerformsCall streams races (Race nodes plan) file file_new out out_new err err_new status =
     (file_new ≡ file) × EndsRace streams.held streams.told (races nodes plan) out out_new err err_new status
 

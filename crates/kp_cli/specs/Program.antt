@@ -1,5 +1,5 @@
 -- What the program does, from the words of its command line to its exit status.
-use Rattle.std.specs.Prelude.{◌≡◌, ◌⊎◌, ℕ, List, [], Option, Some, None, Result, Ok, Err, IfSome}
+use Rattle.std.specs.Prelude.{◌≡◌, ◌⊎◌, ℕ, List, [], Option, Some, None, Result, Ok, Err, IfSome, true, false}
 use Rattle.clap.specs.Words.{IsAmong, Text, fault_of, subcommand_of}
 use Rattle.clap.specs.declared.error.kind.ErrorKind.{ErrorKind}
 use Rattle.clap.specs.declared.error.kind.ErrorKind.TheVariants as kinds
@@ -11,8 +11,9 @@ use Rattle.kp_types.specs.declared.refusal.Refusal.TheVariants.{Memory}
 use Rattle.kp_race.specs.declared.outcome.Outcome.{Outcome}
 use Rattle.kp_race.specs.declared.outcome.Plan.{Plan}
 use Rattle.kp_cli.specs.Faults.{refusal_of}
-use Rattle.kp_cli.specs.Line.{IsCallOf, file_of, keep_of, kpart}
+use Rattle.kp_cli.specs.Line.{IsCallOf, file_of, is_pipe, keep_of, kpart}
 use Rattle.kp_cli.specs.Perform.{PerformsCall, RunsAndKeeps, Shelf, Streams}
+use Rattle.kp_cli.specs.Piped.{EndsPipe, PipesAndKeeps}
 use Rattle.kp_cli.specs.Told.{Prints, complaint, file_complaint, lone_reason}
 use Rattle.kp_cli.specs.declared.call.Call.{Call}
 use Rattle.kp_cli.specs.declared.fault.Fault.{Fault}
@@ -74,8 +75,9 @@ pub record Known (F K W E : Type 0) : Type 1 where
 abbrev pub IsLeft : {T : Type 0} → T → Counted T → Type 0
 IsLeft device left = (device_of left ≡ device) × (faults_of left ≡ 0)
 
--- What the program is handed: a file, a folder, and the two outputs; and what it leaves of them.
+-- What the program is handed: what is known of its standard input, a file, a folder, and the two outputs; and what it leaves of them.
 pub record Around (F K W E : Type 0) : Type 0 where
+  pub input : Option (List ℕ)
   pub file : F
   pub file_left : Counted F
   pub folder : K
@@ -138,11 +140,54 @@ EndsOpened known call path None around status = EndsCall known call path around 
 EndsOpened known call path (Some keep) around status =
     EndsUntaken known path keep around status ⊎ EndsKeeping known path keep around status
 
--- a call, by whether it reads a file: one that doesn't leaves file and folder as they were handed in
+-- what is known of a folder and of the two outputs, for a pipe that keeps its logs
+pub record Beside (K W E : Type 0) : Type 1 where
+  pub takes : K → List ℕ → Result (Unit {0}) Fault → K → Type 0
+  pub shelf : Shelf K
+  pub held : W → Option (List ℕ)
+  pub told : E → Option (List ℕ)
+
+-- The folder at this path can't be taken: no line was read and nothing has come into a folder, and the two lines stand on standard
+-- error.
+pub record PipeUntaken {K W E : Type 0} (known : Beside K W E) (keep : List ℕ) (folder : K) (folder_left : Counted K)
+    (out out_left : Counted W) (err err_left : Counted E) (status : ℕ) : Type 0 where
+  pub fault : Fault
+  pub takes : known.takes folder keep (Err fault) (device_of folder_left)
+  pub puts_none : Puts (known.shelf.entries folder) (known.shelf.entries (device_of folder_left)) []
+  pub no_call : faults_of folder_left ≡ 0
+  pub out_same : out_left ≡ out
+  pub told : Tells known.told err err_left (file_complaint keep fault)
+  pub status_is : status ≡ 1
+
+-- The folder at this path is taken, with nothing in it: what `pipe_and_keep` says, and no more.
+pub record PipeKeeping {K W E : Type 0} (known : Beside K W E) (keep : List ℕ) (input : Option (List ℕ)) (folder : K) (folder_left : Counted K)
+    (out out_left : Counted W) (err err_left : Counted E) (status : ℕ) : Type 0 where
+  pub empty_folder : Counted K
+  pub takes : known.takes folder keep (Ok tt) (device_of empty_folder)
+  pub unput : faults_of empty_folder ≡ 0
+  pub empty : IfSome (known.shelf.entries (device_of empty_folder)) (λ all. all ≡ [])
+  pub pipes : PipesAndKeeps known.held known.told known.shelf keep input empty_folder folder_left out out_left err err_left status
+
+-- What a pipe leaves, by whether its logs are kept.
+abbrev pub LeavesPipe : {K W E : Type 0} → Beside K W E → (keep : Option (List ℕ)) → (input : Option (List ℕ)) → (folder : K) → (folder_left : Counted K)
+    → (out out_left : Counted W) → (err err_left : Counted E) → (status : ℕ) → Type 0
+LeavesPipe known None input folder folder_left out out_left err err_left status =
+    IsLeft folder folder_left × EndsPipe known.held known.told input out out_left err err_left status
+LeavesPipe known (Some keep) input folder folder_left out out_left err err_left status =
+    PipeUntaken known keep folder folder_left out out_left err err_left status
+    ⊎ PipeKeeping known keep input folder folder_left out out_left err err_left status
+
+-- what is known of the folder and of the two outputs alone
+abbrev pub beside_of : {F K W E : Type 0} → Known F K W E → Beside K W E
+beside_of known = record { takes = known.takes; shelf = known.shelf; held = known.streams.held; told = known.streams.told }
+
+-- a call, by whether it reads a file: a race leaves file and folder as they were handed in, and a pipe the file
 abbrev pub EndsAsked : {F K W E : Type 0} → Known F K W E → Call → (path : Option (List ℕ)) → Around F K W E → ℕ → Type 0
 EndsAsked {F} known call None around status =
-    (file : Counted F) × IsLeft around.file file × IsLeft around.folder around.folder_left
-    × PerformsCall known.streams known.races call file around.file_left around.out around.out_left around.err around.err_left status
+    ((is_pipe call ≡ true) × IsLeft around.file around.file_left × LeavesPipe (beside_of known) (keep_of call) around.input
+    around.folder around.folder_left around.out around.out_left around.err around.err_left status)
+    ⊎ ((is_pipe call ≡ false) × ((file : Counted F) × IsLeft around.file file × IsLeft around.folder around.folder_left
+    × PerformsCall known.streams known.races call file around.file_left around.out around.out_left around.err around.err_left status))
 EndsAsked known call (Some path) around status =
     EndsUnopened known path around status ⊎ EndsOpened known call path (keep_of call) around status
 

@@ -2,7 +2,7 @@
 
 ghost use Rattle.std.specs.Prelude.{◌≡◌};
 ghost use Rattle.std.specs.Option.{option_map};
-ghost use Rattle.kp_cli.specs.Line.{file_of, keep_of};
+ghost use Rattle.kp_cli.specs.Line.{file_of, is_pipe, keep_of};
 
 use kp_race::Plan;
 use kp_types::NodeId;
@@ -26,6 +26,11 @@ pub enum Call {
         /// How many bytes lie between two entries of an index, up to 1,048,576.
         index_interval: u32,
     },
+    /// Play a script whose lines come one by one on standard input, and answer each at once.
+    Pipe {
+        /// The path of the folder that the nodes' logs are kept in, as it was written, if they are.
+        keep: Option<String>,
+    },
     /// Run a race of nodes, producers and elections, each in a thread of its own, and print what came of it.
     Race {
         /// How many nodes there are, from 1 to 7.
@@ -36,17 +41,27 @@ pub enum Call {
 }
 
 impl Call {
-    /// The path of the file that it reads, as it was written; a race reads none. O(1).
+    /// The path of the file that it reads, as it was written; a pipe and a race read none. O(1).
     pub fn file(&self) -> Option<&str>
         ensures { option_map (λ path. path.now) result ≡ file_of self.now }
     {
         match self {
             Call::Run { file, .. } | Call::Inspect { file, .. } => Some(file.as_str()),
-            Call::Race { .. } => None,
+            Call::Pipe { .. } | Call::Race { .. } => None,
         }
     }
 
-    /// The path of the folder that the logs of its run are kept in, as it was written, if they are. O(1).
+    /// Whether it plays the lines of standard input. O(1).
+    pub fn is_pipe(&self) -> bool
+        ensures { result ≡ is_pipe self.now }
+    {
+        match self {
+            Call::Pipe { .. } => true,
+            Call::Run { .. } | Call::Inspect { .. } | Call::Race { .. } => false,
+        }
+    }
+
+    /// The path of the folder that the logs of its run or its pipe are kept in, as it was written, if they are. O(1).
     pub fn keep(&self) -> Option<&str>
         ensures { option_map (λ path. path.now) result ≡ keep_of self.now }
     {
@@ -54,7 +69,8 @@ impl Call {
             Call::Run {
                 keep: Some(path),
                 ..
-            } => Some(path.as_str()),
+            }
+            | Call::Pipe { keep: Some(path) } => Some(path.as_str()),
             _ => None,
         }
     }

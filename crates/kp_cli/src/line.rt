@@ -7,7 +7,7 @@ ghost use Rattle.std.specs.Str.Parse.{IsNumeral, digits_value, without_leading_p
 ghost use Rattle.clap.specs.Words.{FailsBy, app_of, fault_of, first_of, found_of, one_of, rows_of, rule_of};
 ghost use Rattle.clap.specs.Words.{subcommand_of, subcommand_rows_of, with_rule, with_subcommand};
 ghost use Rattle.clap.specs.declared.builder.command.Command.TheViews.{out-Command};
-ghost use Rattle.kp_cli.specs.Line.{IsCallOf, IsRaceOf, NamesCall, NamesRace, file_rule, inspect_app, interval_rule, keep_rule, kpart, kpart_reading};
+ghost use Rattle.kp_cli.specs.Line.{IsCallOf, IsRaceOf, NamesCall, NamesRace, file_rule, inspect_app, interval_rule, keep_rule, kpart, kpart_reading, kpart_racing, pipe_app};
 ghost use Rattle.kp_cli.specs.Line.{kpart_app, race_app, race_rule, racers_app, run_app, segment_rule};
 
 use crate::Call;
@@ -156,6 +156,16 @@ fn race_command<'a>(alloc: Global) -> Result<Command<'a>, AllocError>
     with_argument(command, moves)
 }
 
+fn pipe_command<'a>(alloc: Global) -> Result<Command<'a>, AllocError>
+    ensures { IfOk result (λ command. (app_of command ≡ pipe_app)
+        × ((out-Command command).has_globals ≡ false)) }
+{
+    let command = Command::new(alloc, "pipe").about(
+        "Plays a script's lines from standard input, and answers each before it reads the next one",
+    );
+    with_argument(command, keep_argument(alloc))
+}
+
 /// The command with one more subcommand.
 fn add_subcommand<'a>(
     command: Command<'a>,
@@ -187,12 +197,21 @@ fn reading_command<'a>(alloc: Global) -> Result<Command<'a>, AllocError>
     add_subcommand(reading, inspect)
 }
 
-fn whole_command<'a>(alloc: Global) -> Result<Command<'a>, AllocError>
-    ensures { IfOk result (λ command. app_of command ≡ kpart) }
+/// What reads a file, and races.
+fn racing_command<'a>(alloc: Global) -> Result<Command<'a>, AllocError>
+    ensures { IfOk result (λ command. app_of command ≡ kpart_racing) }
 {
     let race = race_command(alloc)?;
     let reading = reading_command(alloc)?;
     add_subcommand(reading, race)
+}
+
+fn whole_command<'a>(alloc: Global) -> Result<Command<'a>, AllocError>
+    ensures { IfOk result (λ command. app_of command ≡ kpart) }
+{
+    let pipe = pipe_command(alloc)?;
+    let racing = racing_command(alloc)?;
+    add_subcommand(racing, pipe)
 }
 
 /// The matches that clap has for `words`, of which the first is the program's name.
@@ -276,6 +295,10 @@ fn call_in(alloc: Global, matches: &ArgMatches<'_>) -> Result<Call, AllocError>
     };
     if name == "race" {
         return Ok(race_in(found));
+    }
+    if name == "pipe" {
+        let keep = keep_value(alloc, found)?;
+        return Ok(Call::Pipe { keep });
     }
     let file = String::from_str(alloc, file_value(found))?;
     if name == "run" {

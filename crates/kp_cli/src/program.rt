@@ -1,17 +1,20 @@
 //! The whole program: from the words of the command line to the exit status.
 
-ghost use Rattle.std.specs.Prelude.{◌≡◌, ◌+◌, ◌<◌, ◌≤◌, ◌^◌, ℕ, map, string_bytes};
+ghost use Rattle.std.specs.Prelude.{◌≡◌, ◌+◌, ◌<◌, ◌≤◌, ◌^◌, ℕ, false, map, string_bytes};
+ghost use Rattle.std.specs.Option.{option_map};
 ghost use Rattle.kp_types.specs.Devices.{faults_of};
 ghost use Rattle.kp_types.specs.declared.counted.Counted.{Counted as SomeCounted};
 ghost use Rattle.kp_race.specs.declared.outcome.Plan.{Plan as SomePlan};
 ghost use Rattle.kp_cli.specs.declared.call.Call.TheVariants.{Race};
+ghost use Rattle.kp_cli.specs.Line.{is_pipe};
 ghost use Rattle.kp_cli.specs.Perform.{PerformsCall};
-ghost use Rattle.kp_cli.specs.Program.{Asked, Ends, ExplainsBy, IsAsked, IsLeft};
+ghost use Rattle.kp_cli.specs.Program.{Asked, Ends, ExplainsBy, IsAsked, IsLeft, LeavesPipe};
 
 use crate::Call;
 use crate::devices::{KeptFolder, Source};
 use crate::fault::Fault;
 use crate::line::call_of;
+use crate::piping::{pipe, pipe_and_keep};
 use crate::running::{perform, run_and_keep};
 use crate::telling::{refuse, refuse_path, refuse_words};
 use clap::error::ErrorKind;
@@ -19,7 +22,7 @@ use kp_race::{Outcome, Plan};
 use kp_types::{Counted, NodeId, Refusal};
 use std::alloc::Global;
 use std::fmt::Display;
-use std::io::Write;
+use std::io::{Read, Write};
 
 /// What the program leaves: its exit status, and the file and the folder that it was handed, each with the count of its calls
 /// that failed.
@@ -66,12 +69,14 @@ pub fn explain<D: Display, W: Write, E: Write>(
 /// Does what the words ask for, of which the first is the program's name, with a file of which none is open and a folder of which none
 /// is taken, and with what runs a race of at most seven nodes. The exit status is that of [`perform`] for a race and for a call whose
 /// file is open, and of [`run_and_keep`] where its logs are kept besides; 1 where the file can't be opened or the folder not be
-/// taken, with a second line on standard error that says which one and why, before anything is read; that of [`explain`] where
+/// taken, with a second line on standard error that says which one and why, before anything is read; that of [`pipe`] or [`pipe_and_keep`] for
+/// a pipe, which reads standard input and leaves the file alone; that of [`explain`] where
 /// the words are no call; 2 where one isn't UTF-8; and 1 where memory ran out before. Without a call that keeps logs, and before
 /// its file is open, the folder is left alone, and so is the file by a race. Time and memory are those of the call.
 pub fn main_with<
     F: Source + Drop,
     K: KeptFolder + Drop,
+    I: Read + Drop,
     W: Write,
     E: Write,
     X: Fn(NodeId, Plan) -> Result<Outcome, Refusal>,
@@ -80,6 +85,7 @@ pub fn main_with<
     words: Result<Vec<String>, Fault>,
     file: F,
     folder: K,
+    input: I,
     races: &X,
     out: &mut Counted<W>,
     err: &mut Counted<E>,
@@ -95,6 +101,7 @@ pub fn main_with<
           streams = record { remaining = F.remaining; file_fault = F.fault_is; held = W.contents; told = E.contents };
           shelf = record { entries = K.entries; folder_fault = K.fault_is };
         }) asked (record {
+          input = I.remaining input;
           file = file;
           file_left = result.file;
           folder = folder;
@@ -118,6 +125,9 @@ pub fn main_with<
             return leave(status, file, folder);
         }
     };
+    if call.is_pipe() {
+        return piped(alloc, call.keep(), input, file, folder, out, err);
+    }
     let Some(path) = call.file() else {
         return performed(alloc, &call, races, file, folder, out, err);
     };
@@ -140,7 +150,45 @@ pub fn main_with<
     }
 }
 
-/// Performs a call that keeps no logs, with its file, which is open where it reads one.
+/// Plays the lines of standard input, and keeps the logs in the folder at this path, if one is said.
+fn piped<F: Source + Drop, K: KeptFolder + Drop, I: Read + Drop, W: Write, E: Write>(
+    alloc: Global,
+    keep: Option<&str>,
+    input: I,
+    file: F,
+    folder: K,
+    out: &mut Counted<W>,
+    err: &mut Counted<E>,
+) -> Left<F, K>
+    requires writes { faults_of out.old + 1 < 2 ^ 64 }
+    requires complaints { faults_of err.old + 1 < 2 ^ 64 }
+    ensures file { IsLeft file result.file }
+    ensures leaves { LeavesPipe (record {
+      takes = K.takes;
+      shelf = record { entries = K.entries; folder_fault = K.fault_is };
+      held = W.contents;
+      told = E.contents;
+    }) (option_map (λ path. path.now) keep.entry) (I.remaining input) folder result.folder
+        out.old out.new err.old err.new result.status }
+{
+    let Some(keep) = keep else {
+        let status = pipe(alloc, input, out, err);
+        return leave(status, file, folder);
+    };
+    let mut folder = folder;
+    if let Err(fault) = folder.take(keep) {
+        return leave(refuse_path(err, keep, fault), file, folder);
+    }
+    let mut folder = Counted::new(folder);
+    let status = pipe_and_keep(alloc, keep, input, &mut folder, out, err);
+    Left {
+        status,
+        file: Counted::new(file),
+        folder,
+    }
+}
+
+/// Performs a call that is no pipe and keeps no logs, with its file, which is open where it reads one.
 fn performed<
     F: Source + Drop,
     K: KeptFolder + Drop,
@@ -157,6 +205,7 @@ fn performed<
     err: &mut Counted<E>,
 ) -> Left<F, K>
     requires races { (nodes : ℕ) (plan : SomePlan) → (call.now ≡ Race nodes plan) → X.pre races.now nodes plan }
+    requires no_pipe { is_pipe call.now ≡ false }
     requires writes { faults_of out.old + 1 < 2 ^ 64 }
     requires complaints { faults_of err.old + 1 < 2 ^ 64 }
     ensures folder { IsLeft folder result.folder }

@@ -1,9 +1,10 @@
 //! What the command line asks for, done.
 
-ghost use Rattle.std.specs.Prelude.{◌≡◌, ◌+◌, ◌<◌, ◌^◌, ℕ};
+ghost use Rattle.std.specs.Prelude.{◌≡◌, ◌+◌, ◌<◌, ◌^◌, ℕ, false};
 ghost use Rattle.kp_types.specs.Devices.{faults_of};
 ghost use Rattle.kp_race.specs.declared.outcome.Plan.{Plan as SomePlan};
 ghost use Rattle.kp_cli.specs.declared.call.Call.TheVariants.{Race};
+ghost use Rattle.kp_cli.specs.Line.{is_pipe};
 ghost use Rattle.kp_cli.specs.Perform.{Inspects, PerformsCall, PerformsReading, RunsAndKeeps, RunsScript};
 
 use crate::Call;
@@ -63,7 +64,7 @@ fn dump<R: Read + Explained, W: Write, E: Write>(
     }
 }
 
-/// Does what the call asks for, but for keeping logs, with the opened file as the reader, and answers the exit status: 0 where no
+/// Does what the call asks for, which isn't a pipe, but for keeping logs, with the opened file as the reader, and answers the exit status: 0 where no
 /// event was refused, no fault was found and all nodes of a race agree, 1 where one or more were, where they don't, and for F32, F33
 /// and a refused race, 2 for F31. The trace, the dump or a race's lines go to standard output and a refusal of the whole call to standard
 /// error; with F31 nothing is on standard output. A race reads nothing. Takes time and memory proportional to the file and
@@ -82,6 +83,7 @@ pub fn perform<
     err: &mut Counted<E>,
 ) -> u8
     requires races { (nodes : ℕ) (plan : SomePlan) → (call.now ≡ Race nodes plan) → X.pre races.now nodes plan }
+    requires no_pipe { is_pipe call.now ≡ false }
     requires reads { faults_of reader.old + 1 < 2 ^ 64 }
     requires writes { faults_of out.old + 1 < 2 ^ 64 }
     requires complaints { faults_of err.old + 1 < 2 ^ 64 }
@@ -103,6 +105,7 @@ pub fn perform<
             };
             dump(alloc, file.as_str(), &limits, reader, out, err)
         }
+        Call::Pipe { .. } => unreachable!(),
         Call::Race { nodes, plan } => race_and_tell(*nodes, *plan, races, out, err),
     }
 }

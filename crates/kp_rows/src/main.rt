@@ -3,8 +3,9 @@
 //! Its rows, files and wanted text are made by `tools/rows`; no contract speaks of it, and `docs/TESTS.md` says how to add a row.
 #![tactic(auto)]
 
-ghost use Rattle.std.specs.Prelude.{◌≤◌, ℕ};
+ghost use Rattle.std.specs.Prelude.{◌≡◌, ◌≤◌, ℕ, false, IfOk};
 ghost use Rattle.kp_race.specs.declared.outcome.Plan.{Plan as SomePlan};
+ghost use Rattle.kp_cli.specs.Line.{is_pipe};
 ghost use Rattle.kp_cli.specs.declared.fault.Fault.TheVariants.{DiskFull, IsAFolder};
 
 use kp_cli::{
@@ -171,6 +172,7 @@ fn show_taken(rt: &HostRuntime, folder: &GivenFolder) -> io::Result<()> {
 fn perform_words<X: Fn(NodeId, Plan) -> Result<Outcome, Refusal>>(
     rt: &HostRuntime,
     words: &[&str],
+    input: Vec<u8>,
     failing: Failing,
     races: &X,
 ) -> io::Result<()>
@@ -189,6 +191,7 @@ fn perform_words<X: Fn(NodeId, Plan) -> Result<Outcome, Refusal>>(
         Ok(handed),
         file,
         folder,
+        Faulty::new(input, failing.read),
         races,
         &mut out,
         &mut err,
@@ -212,13 +215,13 @@ fn tell_words(
     failing: Failing,
 ) -> io::Result<()> {
     let races = |nodes: NodeId, _plan: Plan| Ok(Outcome { nodes, ..outcome });
-    perform_words(rt, words, failing, &races)
+    perform_words(rt, words, Vec::new(rt.alloc()), failing, &races)
 }
 
 /// Does one command line, of which a race is refused.
 fn refuse_words(rt: &HostRuntime, refusal: Refusal, words: &[&str]) -> io::Result<()> {
     let races = |_nodes: NodeId, _plan: Plan| -> Result<Outcome, Refusal> { Err(refusal) };
-    perform_words(rt, words, NEVER, &races)
+    perform_words(rt, words, Vec::new(rt.alloc()), NEVER, &races)
 }
 
 /// No race is asked for.
@@ -227,15 +230,19 @@ fn no_race(_nodes: NodeId, _plan: Plan) -> Result<Outcome, Refusal> {
 }
 
 /// The call that runs a script of no file.
-fn run_call(rt: &HostRuntime) -> io::Result<Call> {
+fn run_call(rt: &HostRuntime) -> io::Result<Call>
+    ensures { IfOk result (λ call. is_pipe call ≡ false) }
+{
     Ok(Call::Run {
         file: "script".to_string(rt.alloc())?,
         keep: None,
     })
 }
 
-/// Does the call over these bytes.
-fn run_bytes(rt: &HostRuntime, call: &Call, bytes: Vec<u8>) -> io::Result<()> {
+/// Does the call over these bytes, which is no pipe.
+fn run_bytes(rt: &HostRuntime, call: &Call, bytes: Vec<u8>) -> io::Result<()>
+    requires { is_pipe call.now ≡ false }
+{
     let mut reader = Counted::new(GivenFile::of(rt, bytes, NEVER.read));
     let mut out = Counted::new(Vec::new(rt.alloc()));
     let mut err = Counted::new(Vec::new(rt.alloc()));
@@ -369,7 +376,22 @@ fn outcome_of(receipts: &str, acknowledged: &str, committed: &str, agree: &str) 
     }
 }
 
-/// Does one row: a command line; or one behind `fail READ WRITE PUT`; or `each FRONT LINES BACK`; or
+/// Does one command line, behind which `< FILE` may say what stands on its standard input.
+fn perform_given<X: Fn(NodeId, Plan) -> Result<Outcome, Refusal>>(
+    rt: &HostRuntime,
+    words: &[&str],
+    failing: Failing,
+    races: &X,
+) -> io::Result<()>
+    requires { (nodes : ℕ) (plan : SomePlan) → nodes ≤ 7 → X.pre races.now nodes plan }
+{
+    match words {
+        [words @ .., "<", file] => perform_words(rt, words, fs::read(rt, file)?, failing, races),
+        words => perform_words(rt, words, Vec::new(rt.alloc()), failing, races),
+    }
+}
+
+/// Does one row: a command line, behind which `< FILE` may say what stands on its standard input; or one behind `fail READ WRITE PUT`; or `each FRONT LINES BACK`; or
 /// `repeat FRONT PIECE COUNT`, or `sum` for `repeat`, which prints a sum; or `keep PUT SCRIPT`, which shows the files in which
 /// a script's logs are kept; or `dump NODE SEGMENT INTERVAL SCRIPT`, which inspects those of a node; or a command line behind
 /// `outcome WRITE RECEIPTS ACKNOWLEDGED COMMITTED yes`, or `no` for `yes`, of which a race comes out so, or behind `refused`, of
@@ -390,12 +412,9 @@ fn perform_row<X: Fn(NodeId, Plan) -> Result<Outcome, Refusal>>(
         ["sum", front, piece, count] => sum_repeated(rt, front, piece, count),
         ["keep", put, file] => show_kept(rt, file, number(put)),
         ["dump", node, segment, interval, file] => dump_kept(rt, file, node, segment, interval),
-        ["fail", read, write, put, words @ ..] => perform_words(
-            rt,
-            words,
-            fails_at(read, write, put),
-            races,
-        ),
+        ["fail", read, write, put, words @ ..] => {
+            perform_given(rt, words, fails_at(read, write, put), races)
+        }
         [
             "outcome",
             write,
@@ -409,7 +428,7 @@ fn perform_row<X: Fn(NodeId, Plan) -> Result<Outcome, Refusal>>(
             tell_words(rt, outcome, words, fails_at("-", write, "-"))
         }
         ["refused", words @ ..] => refuse_words(rt, Refusal::Memory, words),
-        words => perform_words(rt, words, NEVER, races),
+        words => perform_given(rt, words, NEVER, races),
     }
 }
 

@@ -2,6 +2,7 @@ pub mod Options
 pub mod Splitting
 pub mod Numbers
 pub mod LineLaws
+pub mod Pieces
 pub mod Reading
 pub mod Tracing
 pub mod Telling
@@ -20,6 +21,7 @@ pub mod Apart
 pub mod Logs
 pub mod Lawful
 pub mod Played
+pub mod Answering
 pub mod Limited
 pub mod KeptLogs
 pub mod Counting

@@ -30,7 +30,7 @@ use Rattle.kp_script.specs.Told.{AreTold, IsTold, body_at, offer_of, plain_recor
 use Rattle.kp_script.specs.Transcript.{largest_batch}
 use Rattle.kp_script.proofs.Lawful.{same_body}
 use Rattle.kp_script.proofs.Logs.{shown_logs}
-use Rattle.kp_script.proofs.Played.{HasPlayed}
+use Rattle.kp_script.specs.Playing.{HasPlayed}
 
 -- ---- what is handed in
 

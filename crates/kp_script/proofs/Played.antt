@@ -30,7 +30,7 @@ use Rattle.kp_world.specs.declared.event.EventAnswer.{EventAnswer}
 use Rattle.kp_world.proofs.Playing.{all_fit, answered, nothing_answered, reached_none}
 use Rattle.kp_script.specs.Call.{Call, Header, IsCall, IsCallInRange, node_of, Elect, Append, Raw, Acts, Deliver}
 use Rattle.kp_script.specs.Ended.{limits_in, WritesTo}
-use Rattle.kp_script.specs.Playing.{BeginFrom, LeadTo, PlayTo}
+use Rattle.kp_script.specs.Playing.{BeginFrom, HasPlayed, LeadTo, PlayTo}
 use Rattle.kp_script.specs.Told.{IsTold, AreTold, TellsAll, offer_of}
 use Rattle.kp_script.specs.Trace.{trace_text}
 use Rattle.kp_script.specs.Script.{Script, IsScript}
@@ -64,7 +64,7 @@ one_answer_each count r es os p q =
     ∙ sym (ap length (sym q) ∙ length-reverse (map (λ (m : Moment). m.outcome) r.moments) ∙ length-map r.moments (λ (m : Moment). m.outcome))
 
 -- each call of a trace has its outcome
-as_many : (count : ℕ) (calls : List (ℕ × Call)) (es : List Event) (os : List Outcome) (r : Run count) → AreTold largest_batch (asked calls) es → events_of r ≡ es → outcomes_of r ≡ os
+pub as_many : (count : ℕ) (calls : List (ℕ × Call)) (es : List Event) (os : List Outcome) (r : Run count) → AreTold largest_batch (asked calls) es → events_of r ≡ es → outcomes_of r ≡ os
     → length (numbered calls) ≡ length os
 as_many count calls es os r told p q =
     length-map calls _ ∙ sym (length-map calls (λ (call : ℕ × Call). call.1)) ∙ AreTold-length largest_batch (asked calls) es told ∙ one_answer_each count r es os p q
@@ -151,15 +151,6 @@ calls_are all done rest next others p =
 
 -- ---- what has been played
 
--- These calls of a script with this header have been played from the start on, and their trace is out.
-pub record HasPlayed (header : Header) (done : List (ℕ × Call)) (stage : Stage) (refused : ℕ) (old now : Option (List ℕ)) : Type 0 where
-  pub events : List Event
-  pub told : AreTold largest_batch (asked done) events
-  pub answers : List (Result EventAnswer Refusal)
-  pub reached : IsReached header.count (limits_in header) events answers stage
-  pub refused_is : refused ≡ refusals_in (map outcome_of answers)
-  pub written : Appends old now (trace_text (numbered done) (map outcome_of answers))
-
 pub played_none : (header : Header) (stage : Stage) (known : Option (List ℕ)) → IsShown (limits_in header) stage (start header.count) → HasPlayed header [] stage 0 known known
 played_none header stage known shown =
     record {
@@ -206,6 +197,16 @@ played_more header done calls old new refused more known mid now p q =
           ∙ sym (ap refusals_in (map-append outcome_of p.answers q.answers) ∙ refused_append (map outcome_of p.answers) (map outcome_of q.answers));
       written = subst (Appends known now) (sym next.2) (Appends-trans known mid now _ _ p.written q.written);
     }
+
+-- and their answers stand behind the earlier ones; what is known of the bytes doesn't matter
+pub played_on : (header : Header) (done calls : List (ℕ × Call)) (old new : Stage) (refused : ℕ) (p : HasPlayed header done old refused None None) (answers : List (Result EventAnswer Refusal))
+    → LeadTo calls old new answers
+    → (r : HasPlayed header (done ++ calls) new (refused + refusals_in (map outcome_of answers)) None None) × (r.answers ≡ p.answers ++ answers)
+unfolding played_more
+played_on header done calls old new refused p answers lead = (
+  played_more header done calls old new refused (refusals_in (map outcome_of answers)) None None None p (record { answers = answers; lead = lead; refused_is = refl; written = tt }),
+  refl,
+)
 
 -- what has been played is the trace of its calls, of the run that has been reached
 abbrev pub traced : RunsAreSafe → NoDeliveryIsRefusedOddly → (header : Header) (done : List (ℕ × Call)) (stage : Stage) (refused : ℕ) (known now : Option (List ℕ)) → (p : HasPlayed header done stage refused known now)

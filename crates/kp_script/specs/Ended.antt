@@ -1,5 +1,5 @@
 -- What a script's run leaves (own rule).
-use Rattle.std.specs.Prelude.{◌≡◌, ℕ, ◌≤◌, List, map, Option, IfSome}
+use Rattle.std.specs.Prelude.{◌≡◌, ℕ, ◌≤◌, List, [], map, Option, None, Some, IfSome}
 use Rattle.std.specs.List.{AllByRecursion, range_with_len}
 use Rattle.std.specs.Io.KnownBytes.{Appends}
 use Rattle.kp_types.specs.declared.limits.Limits.{Limits}
@@ -14,6 +14,11 @@ use Rattle.kp_script.specs.Transcript.{IsTranscript, largest_batch}
 pub record RunEnd : Type 0 where
   pub refused : ℕ
   pub logs : List Partition
+
+-- the logs that a run left, if there was one
+abbrev pub logs_left : Option RunEnd → List Partition
+logs_left None = []
+logs_left (Some ended) = ended.logs
 
 -- the limits that a header asks for
 abbrev pub limits_in : Header → Limits

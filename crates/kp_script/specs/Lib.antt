@@ -10,3 +10,6 @@ pub mod Transcript
 pub mod Ended
 pub mod Playing
 pub mod Kept
+pub mod Reads
+pub mod Piped
+pub mod Piping

@@ -6,10 +6,11 @@ use Rattle.kp_types.specs.declared.refusal.Refusal.{Refusal}
 use Rattle.kp_types.specs.Devices.{AppendsFront}
 use Rattle.kp_model.specs.Event.{Event}
 use Rattle.kp_world.specs.Answers.{outcome_of}
-use Rattle.kp_world.specs.Plays.{LeadOn}
+use Rattle.kp_world.specs.Plays.{IsReached, LeadOn}
 use Rattle.kp_world.specs.Shown.{Stage}
 use Rattle.kp_world.specs.declared.event.EventAnswer.{EventAnswer}
-use Rattle.kp_script.specs.Call.{Call}
+use Rattle.kp_script.specs.Call.{Call, Header}
+use Rattle.kp_script.specs.Ended.{limits_in}
 use Rattle.kp_script.specs.Told.{AreTold}
 use Rattle.kp_script.specs.Trace.{trace_text}
 use Rattle.kp_script.specs.Transcript.{largest_batch, numbered, refusals_in}
@@ -33,3 +34,12 @@ pub record BeginFrom (calls : List (ℕ × Call)) (old : Stage) (before after : 
   pub answers : List (Result EventAnswer Refusal)
   pub lead : LeadTo calls old new answers
   pub begun : AppendsFront before after (trace_text (numbered calls) (map outcome_of answers))
+
+-- These calls of a script with this header have been played from the start on, and their trace is out.
+pub record HasPlayed (header : Header) (done : List (ℕ × Call)) (stage : Stage) (refused : ℕ) (old now : Option (List ℕ)) : Type 0 where
+  pub events : List Event
+  pub told : AreTold largest_batch (map (λ call. call.1) done) events
+  pub answers : List (Result EventAnswer Refusal)
+  pub reached : IsReached header.count (limits_in header) events answers stage
+  pub refused_is : refused ≡ refusals_in (map outcome_of answers)
+  pub written : Appends old now (trace_text (numbered done) (map outcome_of answers))

@@ -41,7 +41,7 @@ fn are_ascii(bytes: &[u8]) -> bool
 }
 
 /// Whether the line is empty or a comment.
-fn is_passed_over(line: &[u8]) -> bool
+pub(crate) fn is_passed_over(line: &[u8]) -> bool
     ensures { result ≡ is_passed_over line.now }
 {
     (line.is_empty() || line[0] == b'#') && are_ascii(line) && line.len() <= LONGEST_LINE

@@ -29,14 +29,14 @@ const EVENTS_AT_ONCE: usize = 512;
 /// What a run uses again and again: what spells its batches, and the lists of the answers to some events, and of the text of
 /// their lines.
 #[derive(Drop)]
-struct Lists {
-    speller: Speller,
-    outcomes: Vec<Result<EventAnswer, Refusal>>,
-    text: Vec<u8>,
+pub(crate) struct Lists {
+    pub(crate) speller: Speller,
+    pub(crate) outcomes: Vec<Result<EventAnswer, Refusal>>,
+    pub(crate) text: Vec<u8>,
 }
 
 /// The limits of the log that the header asks for.
-fn limits_of(header: &Header) -> Limits
+pub(crate) fn limits_of(header: &Header) -> Limits
     ensures { result ≡ limits_in (seen_header header.now) }
 {
     Limits {
@@ -62,7 +62,7 @@ fn count_refused(outcomes: &[Result<EventAnswer, Refusal>]) -> u64
 
 /// Makes the events of these lines, plays them in the world, and writes their lines. Answers how many of them were
 /// refused. F33, and then nothing of these lines is written; F32 where the writer failed, and then a beginning is.
-fn play_lines<W: Write>(
+pub(crate) fn play_lines<W: Write>(
     alloc: Global,
     lines: &[Line<'_>],
     count: NodeId,

@@ -252,7 +252,7 @@ fn push_told(text: &mut Vec<u8>, node: NodeId, told: &EventAnswer) -> Result<(),
 }
 
 /// Appends why an event was refused.
-fn push_refusal(text: &mut Vec<u8>, refusal: &Refusal) -> Result<(), AllocError>
+pub(crate) fn push_refusal(text: &mut Vec<u8>, refusal: &Refusal) -> Result<(), AllocError>
     ensures { OnOk result (text.new.items ≡ text.old.items ++ refusal_text refusal.now) }
 {
     text.extend_from_slice(refusal.name().as_bytes())?;

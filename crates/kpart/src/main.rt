@@ -1,4 +1,4 @@
-//! The program `kpart`: hands its words, a file and a folder of the host and its standard streams to `kp_cli`, and exits with the
+//! The program `kpart`: hands its words, a file and a folder of the host and its three standard streams to `kp_cli`, and exits with the
 //! status that this answers. It stands on `kp_cli` alone, whose `main_with` has the contract of all that happens here.
 //! Its own contract is none: what it hands over is the host's, and a check of the built program shows that.
 #![tactic(auto)]
@@ -47,6 +47,7 @@ fn main(rt: HostRuntime) -> ExitCode {
         words(&rt),
         file,
         folder,
+        rt.stdin(),
         &races,
         &mut out,
         &mut err,

@@ -1,14 +1,15 @@
-use Rattle.std.proofs.Common.{◌≡◌, ◌∙◌, ◌⊎◌, inl, inr, refl, sym, subst, map, string_bytes, List, [], ℕ, Option, IfSome, Result, Ok, Err}
+use Rattle.std.proofs.Common.{◌≡◌, ◌∙◌, ◌⊎◌, inl, inr, refl, sym, subst, map, string_bytes, List, [], ℕ, Option, IfSome, Result, Ok, Err, true}
 use Rattle.clap.specs.Words.{IsAmong, Text, fault_of, subcommand_of}
 use Rattle.clap.specs.declared.error.kind.ErrorKind.{ErrorKind}
 use Rattle.clap.specs.declared.error.kind.ErrorKind.TheVariants as kinds
 use Rattle.kp_types.specs.Folders.{Puts}
 use Rattle.kp_race.specs.declared.outcome.Plan.{Plan}
-use Rattle.kp_cli.specs.Line.{IsCallOf, kpart}
-use Rattle.kp_cli.specs.Program.{Asks, EndsAsked, EndsOpened, IsAsked, Mistakes, Unread}
+use Rattle.kp_cli.specs.Line.{IsCallOf, is_pipe, kpart}
+use Rattle.kp_cli.specs.Program.{Asks, EndsAsked, EndsOpened, IsAsked, LeavesPipe, Mistakes, Unread, beside_of}
 use Rattle.kp_cli.specs.declared.call.Call.{Call}
 use Rattle.kp_cli.specs.declared.fault.Fault.{Fault}
 use Rattle.kp_cli.proofs.Ending.{around_of, known_of, read_call}
+use Rattle.kp_cli.proofs.Pipes.{pipe_file}
 use Rattle.kp_cli.proofs.program.main_with.Goals as goal
 
 asked_call : {A : Type 0} (texts : A → List Text) (words : Result A Fault) (read : A) (call : Call) → words ≡ Ok read
@@ -39,6 +40,28 @@ returns-in-Err-call_of g c = (
   ((c.leave-in-Err-call_of.ensures.file, c.leave-in-Err-call_of.ensures.folder), rw c.leave-in-Err-call_of.ensures.status c.explain-status.ensures),
 )
 
+pub returns-then-is_pipe : goal.returns-then-is_pipe
+returns-then-is_pipe g c =
+    let call = c.in-Ok-call_of.call in
+    let known =
+    known_of g.F.Source.opens g.K.KeptFolder.takes (λ (nodes : ℕ) (plan : Plan). g.X.Fn.post c.args.races.now (nodes, (plan, tt))) g.F.Read.remaining
+    g.F.Explained.fault_is g.K.Folder.entries g.K.Explained.fault_is g.W.Write.contents g.E.Write.contents in
+    let input = g.I.Read.remaining c.args.input in
+    let around =
+    around_of input c.args.file c.piped.result.file c.args.folder c.piped.result.folder c.args.out.now c.piped.new.out c.args.err.now c.piped.new.err in
+    let is : is_pipe call ≡ true = sym c.is_pipe.ensures ∙ c.if-is_pipe.true in (
+      Asks call,
+      asked_call (λ all. map string_bytes all.items) c.args.words c.in-Ok.words call c.in-Ok.is
+          (subst (λ items. IsCallOf (subcommand_of kpart (map string_bytes items)) call) c.as_slice.ensures.value c.in-Ok-call_of.ensures.call),
+      subst (λ (path : Option (List ℕ)). EndsAsked known call path around c.piped.result.status) (sym (pipe_file call is))
+          (inl (
+            is,
+            c.piped.ensures.file,
+            subst (λ (keep : Option (List ℕ)). LeavesPipe (beside_of known) keep input c.args.folder c.piped.result.folder c.args.out.now c.piped.new.out c.args.err.now c.piped.new.err c.piped.result.status)
+                c.keep.ensures c.piped.ensures.leaves,
+          )),
+    )
+
 pub returns-in_default : goal.returns-in_default
 returns-in_default g c =
     let call = c.in-Ok-call_of.call in
@@ -46,16 +69,15 @@ returns-in_default g c =
     known_of g.F.Source.opens g.K.KeptFolder.takes (λ (nodes : ℕ) (plan : Plan). g.X.Fn.post c.args.races.now (nodes, (plan, tt))) g.F.Read.remaining
     g.F.Explained.fault_is g.K.Folder.entries g.K.Explained.fault_is g.W.Write.contents g.E.Write.contents in
     let around =
-    around_of c.args.file c.performed.result.file c.args.folder c.performed.result.folder c.args.out.now c.performed.new.out c.args.err.now c.performed.new.err in (
+    around_of (g.I.Read.remaining c.args.input) c.args.file c.performed.result.file c.args.folder c.performed.result.folder c.args.out.now c.performed.new.out c.args.err.now c.performed.new.err in (
       Asks call,
       asked_call (λ all. map string_bytes all.items) c.args.words c.in-Ok.words call c.in-Ok.is
           (subst (λ items. IsCallOf (subcommand_of kpart (map string_bytes items)) call) c.as_slice.ensures.value c.in-Ok-call_of.ensures.call),
-      subst (λ (path : Option (List ℕ)). EndsAsked known call path around c.performed.result.status) c.in_default.ensures (
-        c.performed.ensures.performed.0,
-        c.performed.ensures.performed.1,
-        c.performed.ensures.folder,
-        c.performed.ensures.performed.2,
-      ),
+      subst (λ (path : Option (List ℕ)). EndsAsked known call path around c.performed.result.status) c.in_default.ensures
+          (inr (
+            sym c.is_pipe.ensures ∙ c.if-is_pipe.false,
+            (c.performed.ensures.performed.0, c.performed.ensures.performed.1, c.performed.ensures.folder, c.performed.ensures.performed.2),
+          )),
     )
 
 pub returns-in-Err-open : goal.returns-in-Err-open
@@ -65,7 +87,7 @@ returns-in-Err-open g c =
     known_of g.F.Source.opens g.K.KeptFolder.takes (λ (nodes : ℕ) (plan : Plan). g.X.Fn.post c.args.races.now (nodes, (plan, tt))) g.F.Read.remaining
     g.F.Explained.fault_is g.K.Folder.entries g.K.Explained.fault_is g.W.Write.contents g.E.Write.contents in
     let around =
-    around_of c.args.file c.leave-in-Err-open.result.file c.args.folder c.leave-in-Err-open.result.folder c.args.out.now c.args.out.now c.args.err.now c.refuse_path.new.err in (
+    around_of (g.I.Read.remaining c.args.input) c.args.file c.leave-in-Err-open.result.file c.args.folder c.leave-in-Err-open.result.folder c.args.out.now c.args.out.now c.args.err.now c.refuse_path.new.err in (
       Asks call,
       asked_call (λ all. map string_bytes all.items) c.args.words c.in-Ok.words call c.in-Ok.is
           (subst (λ items. IsCallOf (subcommand_of kpart (map string_bytes items)) call) c.as_slice.ensures.value c.in-Ok-call_of.ensures.call),
@@ -90,7 +112,7 @@ returns-in_default-keep g c =
     known_of g.F.Source.opens g.K.KeptFolder.takes (λ (nodes : ℕ) (plan : Plan). g.X.Fn.post c.args.races.now (nodes, (plan, tt))) g.F.Read.remaining
     g.F.Explained.fault_is g.K.Folder.entries g.K.Explained.fault_is g.W.Write.contents g.E.Write.contents in
     let around =
-    around_of c.args.file c.performed-in_default-keep.result.file c.args.folder c.performed-in_default-keep.result.folder c.args.out.now c.performed-in_default-keep.new.out c.args.err.now c.performed-in_default-keep.new.err in (
+    around_of (g.I.Read.remaining c.args.input) c.args.file c.performed-in_default-keep.result.file c.args.folder c.performed-in_default-keep.result.folder c.args.out.now c.performed-in_default-keep.new.out c.args.err.now c.performed-in_default-keep.new.err in (
       Asks call,
       asked_call (λ all. map string_bytes all.items) c.args.words c.in-Ok.words call c.in-Ok.is
           (subst (λ items. IsCallOf (subcommand_of kpart (map string_bytes items)) call) c.as_slice.ensures.value c.in-Ok-call_of.ensures.call),
@@ -115,7 +137,7 @@ returns-in-Err-take g c =
     known_of g.F.Source.opens g.K.KeptFolder.takes (λ (nodes : ℕ) (plan : Plan). g.X.Fn.post c.args.races.now (nodes, (plan, tt))) g.F.Read.remaining
     g.F.Explained.fault_is g.K.Folder.entries g.K.Explained.fault_is g.W.Write.contents g.E.Write.contents in
     let around =
-    around_of c.args.file c.leave-in-Err-take.result.file c.args.folder c.leave-in-Err-take.result.folder c.args.out.now c.args.out.now c.args.err.now c.refuse_path-in-Err-take.new.err in (
+    around_of (g.I.Read.remaining c.args.input) c.args.file c.leave-in-Err-take.result.file c.args.folder c.leave-in-Err-take.result.folder c.args.out.now c.args.out.now c.args.err.now c.refuse_path-in-Err-take.new.err in (
       Asks call,
       asked_call (λ all. map string_bytes all.items) c.args.words c.in-Ok.words call c.in-Ok.is
           (subst (λ items. IsCallOf (subcommand_of kpart (map string_bytes items)) call) c.as_slice.ensures.value c.in-Ok-call_of.ensures.call),
@@ -149,7 +171,7 @@ returns g c =
     known_of g.F.Source.opens g.K.KeptFolder.takes (λ (nodes : ℕ) (plan : Plan). g.X.Fn.post c.args.races.now (nodes, (plan, tt))) g.F.Read.remaining
     g.F.Explained.fault_is g.K.Folder.entries g.K.Explained.fault_is g.W.Write.contents g.E.Write.contents in
     let around =
-    around_of c.args.file c.run_and_keep-status.new.reader c.args.folder c.run_and_keep-status.new.folder c.args.out.now c.run_and_keep-status.new.out c.args.err.now c.run_and_keep-status.new.err in (
+    around_of (g.I.Read.remaining c.args.input) c.args.file c.run_and_keep-status.new.reader c.args.folder c.run_and_keep-status.new.folder c.args.out.now c.run_and_keep-status.new.out c.args.err.now c.run_and_keep-status.new.err in (
       Asks call,
       asked_call (λ all. map string_bytes all.items) c.args.words c.in-Ok.words call c.in-Ok.is
           (subst (λ items. IsCallOf (subcommand_of kpart (map string_bytes items)) call) c.as_slice.ensures.value c.in-Ok-call_of.ensures.call),

@@ -10,9 +10,10 @@ use Rattle.kp_script.specs.Call.{Call}
 use Rattle.kp_script.specs.Ended.{AreLimited, RunEnd, WritesTo}
 use Rattle.kp_script.proofs.Limited.{limited}
 use Rattle.kp_script.specs.Seen.{seen_header, seen_line, seen_script}
+use Rattle.kp_script.specs.Playing.{HasPlayed}
 use Rattle.kp_script.specs.Transcript.{WritesFirst}
 use Rattle.kp_script.specs.declared.script.Line.{Line}
-use Rattle.kp_script.proofs.Played.{Front, HasPlayed, begun_lines, by_fault, calls_are, next_lawful, nothing_left, others_lawful, parts, played_more, played_none, rest_calls_lawful, same_lawful, traced, whole_lines, writes_first, writes_front, writes_to}
+use Rattle.kp_script.proofs.Played.{Front, begun_lines, by_fault, calls_are, next_lawful, nothing_left, others_lawful, parts, played_more, played_none, rest_calls_lawful, same_lawful, traced, whole_lines, writes_first, writes_front, writes_to}
 use Rattle.kp_script.proofs.run.play_script.Goals as goal
 use Rattle.kp_types.proofs.Causes.{always}
 

@@ -2,7 +2,7 @@ use Rattle.std.proofs.Common.{◌≡◌, ◌+◌, ◌≤◌, List, ◌++◌, len
 use Rattle.kp_types.specs.Devices.{device_of, faults_of}
 use Rattle.kp_script.specs.Seen.{seen_header, seen_line}
 use Rattle.kp_script.specs.declared.script.Line.{Line}
-use Rattle.kp_script.proofs.Played.{HasPlayed}
+use Rattle.kp_script.specs.Playing.{HasPlayed}
 use Rattle.kp_script.proofs.run.play_script.Given as goal
 
 abbrev pub invariant-loop-rest : goal.invariant-loop-rest

@@ -1,0 +1,335 @@
+//! A script whose lines come one by one, each answered before the next is read.
+
+ghost use Rattle.std.specs.Prelude.{◌≡◌, ◌+◌, ◌<◌, ◌≤◌, ◌^◌, ◌⊎◌, ℕ, List, [], ◌∷◌, Option, None, Some, Ok, Err, IfOk, IfErr, IfSome, OnOk, OnErr, length, true};
+ghost use Rattle.std.specs.Io.KnownBytes.{Appends, IsAtEnd};
+ghost use Rattle.kp_types.specs.declared.refusal.Refusal.TheVariants.{Device as DeviceFault, Memory as WantOfMemory};
+ghost use Rattle.kp_types.specs.Devices.{AppendsFront, CountsFaults, CountsOne, IsDeviceFault, device_of, faults_of};
+ghost use Rattle.kp_model.specs.World.{start};
+ghost use Rattle.kp_world.specs.Shown.{IsShown};
+ghost use Rattle.kp_script.specs.Call.{IsHeader};
+ghost use Rattle.kp_script.specs.Ended.{limits_in};
+ghost use Rattle.kp_script.specs.Piped.{PipesFirst, PipesFront, PipesTo, counts, fault_line};
+ghost use Rattle.kp_script.specs.Piping.{AnswersFront, HasNodes, StandsOn, Unanswered, logs_of};
+ghost use Rattle.kp_script.specs.Reads.{Reads, kept_of, read_faults, reader_of};
+ghost use Rattle.kp_script.specs.Seen.{seen_header};
+ghost use Rattle.kp_script.specs.declared.pipe.Running.{Running as SomeRunning};
+
+use crate::call::{Header, call_of, header_of};
+use crate::ended::Ended;
+use crate::lines::{LONGEST_LINE, is_passed_over};
+use crate::reader::LineReader;
+use crate::run::{Lists, limits_of, play_lines};
+use crate::script::Line;
+use crate::trace::push_refusal;
+use kp_batch::Speller;
+use kp_types::{Counted, Folder, NodeId, Refusal};
+use kp_world::World;
+use std::alloc::Global;
+use std::io::{BufRead, Write};
+use std::marker::Model;
+
+/// The nodes of a pipe, from its header on.
+#[derive(Drop)]
+struct Running {
+    count: NodeId,
+    world: World,
+}
+
+/// What a pipe leaves: how many of its answers were refusals, and the nodes of its last world, where its header came.
+#[derive(Drop)]
+pub struct Piped {
+    refused: u64,
+    ended: Option<Ended>,
+}
+
+impl Model for Piped {
+    ghost use Rattle.kp_script.specs.Ended.{RunEnd, logs_left};
+
+    ghost Value = { RunEnd };
+
+    ghost view = { λ piped. record {
+      refused = piped.refused;
+      logs = logs_left piped.ended;
+    } };
+}
+
+impl Piped {
+    ghost use Rattle.std.specs.Prelude.{◌≡◌, ◌+◌, ◌<◌, ◌^◌, IfErr, OnOk, OnErr};
+    ghost use Rattle.kp_types.specs.Devices.{CountsFaults, IsDeviceFault, device_of, faults_of};
+    ghost use Rattle.kp_script.specs.Kept.{KeepsLogs, KeepsLogsFront};
+
+    /// How many answers were refusals: of events, and F31 of lines that can't stand where they stand. O(1).
+    pub fn refused(&self) -> u64
+        ensures { result ≡ self.now.refused }
+    {
+        self.refused
+    }
+
+    /// Puts the nodes' logs into the folder, as [`Ended::write_logs`] does; nothing where no header came.
+    pub fn write_logs<F: Folder>(
+        &self,
+        alloc: Global,
+        folder: &mut Counted<F>,
+    ) -> Result<(), Refusal>
+        requires { faults_of folder.old + 1 < 2 ^ 64 }
+        ensures ok { OnOk result (KeepsLogs (F.entries (device_of folder.old))
+            (F.entries (device_of folder.new)) self.now.logs) }
+        ensures err { OnErr result (KeepsLogsFront (F.entries (device_of folder.old))
+            (F.entries (device_of folder.new)) self.now.logs) }
+        ensures only { IfErr result IsDeviceFault }
+        ensures counted { CountsFaults result (faults_of folder.old) (faults_of folder.new) }
+    {
+        match &self.ended {
+            Some(ended) => ended.write_logs(alloc, folder),
+            None => Ok(()),
+        }
+    }
+}
+
+impl Running {
+    /// The nodes that the header asks for.
+    fn start(alloc: Global, header: &Header) -> Result<Running, Refusal>
+        requires { IsHeader (seen_header header.now) }
+        ensures count { IfOk result (λ running. running.count ≡ header.now.count) }
+        ensures nodes { IfOk result (λ running. length running.world.nodes ≡ header.now.count) }
+        ensures shown { IfOk result (λ running. IsShown (limits_in (seen_header header.now)) running.world (start header.now.count)) }
+        ensures only { IfErr result (λ refusal. refusal ≡ WantOfMemory) }
+    {
+        let world = World::start(alloc, header.count, &limits_of(header))?;
+        Ok(Running {
+            count: header.count,
+            world,
+        })
+    }
+}
+
+/// Answers a line that can't stand where it stands: by one refusal.
+fn refuse_line<W: Write>(
+    number: u64,
+    lists: &mut Lists,
+    writer: &mut Counted<W>,
+) -> Result<u64, Refusal>
+    requires { faults_of writer.old + 1 < 2 ^ 64 }
+    ensures ok { OnOk result (Appends (W.contents (device_of writer.old))
+        (W.contents (device_of writer.new)) (fault_line number)) }
+    ensures begun { result ≡ Err DeviceFault → AppendsFront (W.contents (device_of writer.old))
+        (W.contents (device_of writer.new)) (fault_line number) }
+    ensures untouched { result ≡ Err WantOfMemory → writer.new ≡ writer.old }
+    ensures one { IfOk result (λ refused. refused ≡ 1) }
+    ensures only { IfErr result IsDeviceFault }
+    ensures counted { CountsFaults result (faults_of writer.old) (faults_of writer.new) }
+{
+    lists.text.clear();
+    push_refusal(&mut lists.text, &Refusal::BadScript(number))?;
+    lists.text.push(b'\n')?;
+    writer.write_all(&lists.text)?;
+    Ok(1)
+}
+
+/// Answers a line that counts, behind the header, and answers whether by a refusal: 1, or 0.
+fn answer_event<W: Write>(
+    alloc: Global,
+    number: u64,
+    line: &[u8],
+    running: &mut Running,
+    lists: &mut Lists,
+    writer: &mut Counted<W>,
+) -> Result<u64, Refusal>
+    requires nodes { HasNodes (Some running.old) }
+    requires counts { counts (number, line.now) ≡ true }
+    requires writes { faults_of writer.old + 1 < 2 ^ 64 }
+    ensures ok { IfOk result (λ refused. (answer : List ℕ)
+        × StandsOn (number, line.now) (Some running.old) (Some running.new) refused answer
+        × Appends (W.contents (device_of writer.old)) (W.contents (device_of writer.new)) answer) }
+    ensures begun { result ≡ Err DeviceFault → (new : Option SomeRunning) × (refused : ℕ) × (answer : List ℕ)
+        × StandsOn (number, line.now) (Some running.old) new refused answer
+        × AppendsFront (W.contents (device_of writer.old)) (W.contents (device_of writer.new)) answer }
+    ensures untouched { result ≡ Err WantOfMemory → writer.new ≡ writer.old }
+    ensures nodes { HasNodes (Some running.new) }
+    ensures few { IfOk result (λ refused. refused ≤ 1) }
+    ensures only { IfErr result IsDeviceFault }
+    ensures counted { CountsFaults result (faults_of writer.old) (faults_of writer.new) }
+{
+    match call_of(line, running.count) {
+        Some(call) => {
+            let lines = [Line { number, call }];
+            play_lines(
+                alloc,
+                &lines,
+                running.count,
+                &mut running.world,
+                lists,
+                writer,
+            )
+        }
+        None => refuse_line(number, lists, writer),
+    }
+}
+
+/// Answers a line that counts, before the header, and answers whether by a refusal: 1, or 0.
+fn answer_first<W: Write>(
+    alloc: Global,
+    number: u64,
+    line: &[u8],
+    running: &mut Option<Running>,
+    lists: &mut Lists,
+    writer: &mut Counted<W>,
+) -> Result<u64, Refusal>
+    requires none { running.old ≡ None }
+    requires counts { counts (number, line.now) ≡ true }
+    requires writes { faults_of writer.old + 1 < 2 ^ 64 }
+    ensures ok { IfOk result (λ refused. (answer : List ℕ)
+        × StandsOn (number, line.now) None running.new refused answer
+        × Appends (W.contents (device_of writer.old)) (W.contents (device_of writer.new)) answer) }
+    ensures begun { result ≡ Err DeviceFault → (new : Option SomeRunning) × (refused : ℕ) × (answer : List ℕ)
+        × StandsOn (number, line.now) None new refused answer
+        × AppendsFront (W.contents (device_of writer.old)) (W.contents (device_of writer.new)) answer }
+    ensures untouched { result ≡ Err WantOfMemory → writer.new ≡ writer.old }
+    ensures nodes { HasNodes running.new }
+    ensures few { IfOk result (λ refused. refused ≤ 1) }
+    ensures only { IfErr result IsDeviceFault }
+    ensures counted { CountsFaults result (faults_of writer.old) (faults_of writer.new) }
+{
+    match header_of(line) {
+        Some(header) => match Running::start(alloc, &header) {
+            Ok(nodes) => {
+                *running = Some(nodes);
+                Ok(0)
+            }
+            Err(_) => Err(Refusal::Memory),
+        },
+        None => refuse_line(number, lists, writer),
+    }
+}
+
+/// Answers a line of which this is kept, and answers whether by a refusal: 1, or 0.
+fn answer_line<W: Write>(
+    alloc: Global,
+    number: u64,
+    line: &[u8],
+    running: &mut Option<Running>,
+    lists: &mut Lists,
+    writer: &mut Counted<W>,
+) -> Result<u64, Refusal>
+    requires nodes { HasNodes running.old }
+    requires writes { faults_of writer.old + 1 < 2 ^ 64 }
+    ensures ok { IfOk result (λ refused. (whole : List ℕ) → line.now ≡ kept_of whole → (answer : List ℕ)
+        × StandsOn (number, whole) running.old running.new refused answer
+        × Appends (W.contents (device_of writer.old)) (W.contents (device_of writer.new)) answer) }
+    ensures begun { result ≡ Err DeviceFault → (whole : List ℕ) → line.now ≡ kept_of whole
+        → (new : Option SomeRunning) × (refused : ℕ) × (answer : List ℕ)
+        × StandsOn (number, whole) running.old new refused answer
+        × AppendsFront (W.contents (device_of writer.old)) (W.contents (device_of writer.new)) answer }
+    ensures untouched { result ≡ Err WantOfMemory → writer.new ≡ writer.old }
+    ensures nodes { HasNodes running.new }
+    ensures few { IfOk result (λ refused. refused ≤ 1) }
+    ensures only { IfErr result IsDeviceFault }
+    ensures counted { CountsFaults result (faults_of writer.old) (faults_of writer.new) }
+{
+    if line.len() > LONGEST_LINE {
+        return refuse_line(number, lists, writer);
+    }
+    if is_passed_over(line) {
+        return Ok(0);
+    }
+    match running {
+        Some(nodes) => answer_event(alloc, number, line, nodes, lists, writer),
+        None => answer_first(alloc, number, line, running, lists, writer),
+    }
+}
+
+/// Reads the next line and answers it. Answers whether by a refusal, 1 or 0, or that there was none.
+fn answer_next<R: BufRead, W: Write>(
+    alloc: Global,
+    number: u64,
+    reader: &mut LineReader<R>,
+    running: &mut Option<Running>,
+    lists: &mut Lists,
+    writer: &mut Counted<W>,
+) -> Result<Option<u64>, Refusal>
+    requires nodes { HasNodes running.old }
+    requires reads { read_faults reader.old + 1 < 2 ^ 64 }
+    requires writes { faults_of writer.old + 1 < 2 ^ 64 }
+    ensures more { IfOk result (λ found. IfSome found (λ refused. (line : List ℕ) × (answer : List ℕ)
+        × Reads (R.remaining (reader_of reader.old)) (R.remaining (reader_of reader.new)) (line ∷ [])
+        × StandsOn (number, line) running.old running.new refused answer
+        × Appends (W.contents (device_of writer.old)) (W.contents (device_of writer.new)) answer)) }
+    ensures end { result ≡ Ok None → IsAtEnd (R.remaining (reader_of reader.old)) }
+    ensures same { result ≡ Ok None → running.new ≡ running.old }
+    ensures quiet { result ≡ Ok None → writer.new ≡ writer.old }
+    ensures cut { OnErr result (((writer.new ≡ writer.old)
+        × Unanswered (R.remaining (reader_of reader.old)) (R.remaining (reader_of reader.new)))
+        ⊎ ((faults_of writer.new ≡ faults_of writer.old + 1)
+        × AnswersFront number (R.remaining (reader_of reader.old)) (R.remaining (reader_of reader.new)) running.old
+        (W.contents (device_of writer.old)) (W.contents (device_of writer.new)))) }
+    ensures nodes { HasNodes running.new }
+    ensures few { IfOk result (λ found. IfSome found (λ refused. refused ≤ 1)) }
+    ensures only { IfErr result IsDeviceFault }
+    ensures counted { CountsOne result (read_faults reader.old) (read_faults reader.new)
+        (faults_of writer.old) (faults_of writer.new) }
+{
+    if !reader.next_line()? {
+        return Ok(None);
+    }
+    let refused = answer_line(alloc, number, reader.line(), running, lists, writer)?;
+    Ok(Some(refused))
+}
+
+/// What is left of a pipe.
+fn left(refused: u64, running: Option<Running>) -> Piped
+    requires nodes { HasNodes running }
+    requires some { IfSome running (λ nodes. 0 < nodes.count) }
+    requires most { IfSome running (λ nodes. nodes.count ≤ 7) }
+    ensures { result ≡ record { refused = refused; logs = logs_of running } }
+{
+    let ended = match running {
+        Some(nodes) => Some(Ended::new(refused, nodes.count, nodes.world)),
+        None => None,
+    };
+    Piped { refused, ended }
+}
+
+/// Plays a script whose lines come one by one: each is answered before the next one is read, by what `run` prints of an event, by
+/// nothing where it is the header, a comment or empty, and by F31 and its number where it can't stand where it stands; then it is
+/// passed over. It has any number of events. Answers at the reader's end how many answers were refusals, and the nodes with their logs
+/// as they are then. F32 where a device failed, F33 where memory was refused, and after 2^64 - 1 lines: then what was read before is
+/// answered, but for the last line. Takes time proportional to the script, its trace and the batches that messages carry, and memory to
+/// its longest line, to what the nodes' logs keep of it and to all messages.
+pub fn play_pipe<R: BufRead, W: Write>(
+    alloc: Global,
+    reader: &mut LineReader<R>,
+    writer: &mut Counted<W>,
+) -> Result<Piped, Refusal>
+    requires reads { read_faults reader.old + 1 < 2 ^ 64 }
+    requires writes { faults_of writer.old + 1 < 2 ^ 64 }
+    ensures piped { IfOk result (λ ended. PipesTo (R.remaining (reader_of reader.old))
+        (W.contents (device_of writer.old)) (W.contents (device_of writer.new)) ended) }
+    ensures cut { OnErr result (((faults_of writer.new ≡ faults_of writer.old)
+        × PipesFirst (R.remaining (reader_of reader.old)) (R.remaining (reader_of reader.new))
+        (W.contents (device_of writer.old)) (W.contents (device_of writer.new)))
+        ⊎ ((faults_of writer.new ≡ faults_of writer.old + 1)
+        × PipesFront (R.remaining (reader_of reader.old)) (R.remaining (reader_of reader.new))
+        (W.contents (device_of writer.old)) (W.contents (device_of writer.new)))) }
+    ensures only { IfErr result IsDeviceFault }
+    ensures counted { CountsOne result (read_faults reader.old) (read_faults reader.new)
+        (faults_of writer.old) (faults_of writer.new) }
+{
+    kp_model::runs_keep_count();
+    kp_model::runs_are_safe();
+    kp_model::no_delivery_is_refused_oddly();
+    let mut lists = Lists {
+        speller: Speller::new(alloc),
+        outcomes: Vec::new(alloc),
+        text: Vec::new(alloc),
+    };
+    let mut running = None;
+    let mut refused = 0;
+    for read in 0..u64::MAX {
+        match answer_next(alloc, read + 1, reader, &mut running, &mut lists, writer) {
+            Ok(Some(more)) => refused += more,
+            Ok(None) => return Ok(left(refused, running)),
+            Err(refusal) => return Err(refusal),
+        }
+    }
+    Err(Refusal::Memory)
+}
