@@ -1,0 +1,13 @@
+pub mod Called
+pub mod CallerCalls
+pub mod Holding
+pub mod Messages
+pub mod NodeCalls
+pub mod Numbers
+pub mod Objects
+pub mod Opening
+pub mod Outs
+pub mod PairCalls
+pub mod Reading
+pub mod Rows
+pub mod Segments

@@ -1,0 +1,73 @@
+-- The numbers that calls answer (own rule).
+use Rattle.std.specs.Prelude.{◌≡◌, ◌⊎◌, ◌<◌, ℕ, Option, Some, None, Result, Ok, Err}
+use Rattle.kp_types.specs.declared.refusal.Refusal.{Refusal}
+use Rattle.kp_types.specs.declared.refusal.Refusal.TheVariants as refusals
+use Rattle.kp_embed.specs.declared.misuse.Misuse.{Misuse}
+use Rattle.kp_embed.specs.declared.misuse.Misuse.TheVariants.{Closed, OtherKind, InUse, NoRoom, OutOfRange, BadLength}
+
+-- a refusal's number, as its text has it after the F
+abbrev pub refusal_number : Refusal → ℕ
+refusal_number refusals.Truncated = 1
+refusal_number refusals.BadMagic = 2
+refusal_number refusals.BadLength = 3
+refusal_number refusals.BadCrc = 4
+refusal_number refusals.Compressed = 5
+refusal_number refusals.BadAttributes = 6
+refusal_number refusals.BadCount = 7
+refusal_number (refusals.BadRecord place) = 8
+refusal_number refusals.TooLarge = 9
+refusal_number refusals.BadProducerFields = 10
+refusal_number refusals.InvalidProducerEpoch = 11
+refusal_number refusals.OutOfOrderSequence = 12
+refusal_number refusals.InvalidTxnState = 13
+refusal_number refusals.CoordinatorFenced = 14
+refusal_number refusals.NotLeader = 15
+refusal_number refusals.OffsetOutOfRange = 16
+refusal_number refusals.FencedLeaderEpoch = 17
+refusal_number refusals.UnknownLeaderEpoch = 18
+refusal_number refusals.NotBoundary = 19
+refusal_number refusals.BelowSettled = 20
+refusal_number refusals.NotInSync = 21
+refusal_number refusals.StaleRecord = 22
+refusal_number refusals.NotCaughtUp = 23
+refusal_number refusals.RecordFull = 24
+refusal_number refusals.OffsetsExhausted = 25
+refusal_number refusals.NotNext = 26
+refusal_number refusals.EpochBack = 27
+refusal_number refusals.Down = 28
+refusal_number refusals.StaleAnswer = 29
+refusal_number refusals.ControlFromClient = 30
+refusal_number (refusals.BadScript place) = 31
+refusal_number refusals.Device = 32
+refusal_number refusals.Memory = 33
+refusal_number refusals.ChangePending = 34
+
+abbrev pub misuse_number : Misuse → ℕ
+misuse_number Closed = 65
+misuse_number OtherKind = 66
+misuse_number InUse = 67
+misuse_number NoRoom = 68
+misuse_number OutOfRange = 69
+misuse_number BadLength = 70
+
+-- what a call answers: 0 where it was made, else why it wasn't
+abbrev pub answer_number : {X : Type 0} → Result (Result X Refusal) Misuse → ℕ
+answer_number (Ok (Ok x)) = 0
+answer_number (Ok (Err refusal)) = refusal_number refusal
+answer_number (Err why) = misuse_number why
+
+-- the same of a look at a node's watermark, where None says that there is no such node
+abbrev pub mark_number : {X : Type 0} → Result (Result (Option X) Refusal) Misuse → ℕ
+mark_number (Ok (Ok None)) = misuse_number OutOfRange
+mark_number (Ok (Ok (Some x))) = 0
+mark_number (Ok (Err refusal)) = refusal_number refusal
+mark_number (Err why) = misuse_number why
+
+-- the number is no refusal's
+abbrev pub IsNoRefusal : ℕ → Type 0
+IsNoRefusal number = (number ≡ 0) ⊎ (34 < number)
+
+-- what a call that can't be refused answers
+abbrev pub done_number : {X : Type 0} → Result X Misuse → ℕ
+done_number (Ok x) = 0
+done_number (Err why) = misuse_number why

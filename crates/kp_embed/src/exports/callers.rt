@@ -1,0 +1,72 @@
+//! Calls of a caller's pass alone.
+ghost use Rattle.std.specs.Prelude.{◌≡◌, ℕ, Result, Ok, IfOk, Option, Some};
+ghost use Rattle.kp_types.specs.declared.refusal.Refusal.{Refusal};
+ghost use Rattle.kp_model.specs.declared.record.LeaderAndIsr.{LeaderAndIsr};
+ghost use Rattle.kp_embed.specs.declared.misuse.Misuse.{Misuse};
+ghost use Rattle.kp_embed.specs.Called.{CallerCalled};
+ghost use Rattle.kp_embed.specs.CallerCalls.{Elects, Looks, LearnsMark};
+ghost use Rattle.kp_embed.specs.Numbers.{answer_number, mark_number};
+ghost use Rattle.kp_embed.specs.Outs.{record_out};
+
+use crate::callers::{elect, record, watermark};
+use crate::handle::Handle;
+use crate::misuse::Misuse;
+use crate::numbers::{misuse_number, refusal_number};
+use crate::outs::RecordOut;
+use std::alloc::Global;
+use std::marker::Brand;
+
+/// Tries once to elect a node.
+#[unsafe(no_mangle)]
+pub extern "C" fn kp_elect(alloc: Global, pass: &mut Handle, node: u8, found: &mut RecordOut) -> u32
+    ensures called { (answer : Result (Result LeaderAndIsr Refusal) Misuse) × (result ≡ answer_number answer)
+        × CallerCalled pass.old.object pass.new.object answer (Elects node)
+        × IfOk answer (λ a. IfOk a (λ r. found.new ≡ record_out r)) }
+    ensures cluster { pass.new.table ≡ pass.old.table }
+{
+    match elect::<Brand>(alloc, pass, node) {
+        Ok(Ok(seen)) => {
+            *found = RecordOut::of(&seen);
+            0
+        }
+        Ok(Err(refusal)) => refusal_number(&refusal),
+        Err(misuse) => misuse_number(&misuse),
+    }
+}
+
+/// Looks at the controller's record.
+#[unsafe(no_mangle)]
+pub extern "C" fn kp_record(alloc: Global, pass: &mut Handle, found: &mut RecordOut) -> u32
+    ensures called { (answer : Result (Result LeaderAndIsr Refusal) Misuse) × (result ≡ answer_number answer)
+        × CallerCalled pass.old.object pass.new.object answer Looks
+        × IfOk answer (λ a. IfOk a (λ r. found.new ≡ record_out r)) }
+    ensures cluster { pass.new.table ≡ pass.old.table }
+{
+    match record::<Brand>(alloc, pass) {
+        Ok(Ok(seen)) => {
+            *found = RecordOut::of(&seen);
+            0
+        }
+        Ok(Err(refusal)) => refusal_number(&refusal),
+        Err(misuse) => misuse_number(&misuse),
+    }
+}
+
+/// Looks at a node's high watermark.
+#[unsafe(no_mangle)]
+pub extern "C" fn kp_watermark(alloc: Global, pass: &mut Handle, node: u8, offset: &mut u64) -> u32
+    ensures called { (answer : Result (Result (Option ℕ) Refusal) Misuse) × (result ≡ mark_number answer)
+        × CallerCalled pass.old.object pass.new.object answer (LearnsMark node)
+        × ((w : ℕ) → answer ≡ Ok (Ok (Some w)) → offset.new ≡ w) }
+    ensures cluster { pass.new.table ≡ pass.old.table }
+{
+    match watermark::<Brand>(alloc, pass, node) {
+        Ok(Ok(Some(seen))) => {
+            *offset = seen;
+            0
+        }
+        Ok(Ok(None)) => misuse_number(&Misuse::OutOfRange),
+        Ok(Err(refusal)) => refusal_number(&refusal),
+        Err(misuse) => misuse_number(&misuse),
+    }
+}

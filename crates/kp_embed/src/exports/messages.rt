@@ -1,0 +1,85 @@
+//! Calls that send a message, or take one.
+ghost use Rattle.std.specs.Prelude.{◌≡◌, Result, IfSome};
+ghost use Rattle.kp_types.specs.declared.refusal.Refusal.{Refusal};
+ghost use Rattle.kp_embed.specs.Called.{AreOfOne};
+ghost use Rattle.kp_embed.specs.Messages.{Alters, Asks, DecideCalled, SendCalled, StepCalled};
+ghost use Rattle.kp_embed.specs.Numbers.{answer_number};
+ghost use Rattle.kp_embed.specs.Outs.{change_in};
+ghost use Rattle.kp_embed.specs.declared.misuse.Misuse.{Misuse};
+
+use crate::handle::Handle;
+use crate::messages::{alter, ask, decide, step};
+use crate::numbers::{misuse_number, refusal_number};
+use crate::outs::change_in;
+use std::alloc::Global;
+use std::marker::Brand;
+
+/// A node asks its leader, into a closed handle.
+#[unsafe(no_mangle)]
+pub extern "C" fn kp_ask(alloc: Global, node: &mut Handle, message: &mut Handle) -> u32
+    ensures called { (answer : Result (Result (Unit {0}) Refusal) Misuse) × (result ≡ answer_number answer)
+        × SendCalled node.old.object node.new.object message.old.object message.new.object answer Asks }
+    ensures cluster { node.new.table ≡ node.old.table }
+    ensures named { result ≡ 0 → message.new.table ≡ node.old.table }
+{
+    match ask::<Brand>(alloc, node, message) {
+        Ok(Ok(())) => 0,
+        Ok(Err(refusal)) => refusal_number(&refusal),
+        Err(misuse) => misuse_number(&misuse),
+    }
+}
+
+/// A node proposes a change of the in-sync replicas, into a closed handle.
+#[unsafe(no_mangle)]
+pub extern "C" fn kp_alter(
+    alloc: Global,
+    node: &mut Handle,
+    joins: bool,
+    which: u8,
+    message: &mut Handle,
+) -> u32
+    ensures called { (answer : Result (Result (Unit {0}) Refusal) Misuse) × (result ≡ answer_number answer)
+        × SendCalled node.old.object node.new.object message.old.object message.new.object answer (Alters (change_in joins which)) }
+    ensures cluster { node.new.table ≡ node.old.table }
+    ensures named { result ≡ 0 → message.new.table ≡ node.old.table }
+{
+    match alter::<Brand>(alloc, node, change_in(joins, which), message) {
+        Ok(Ok(())) => 0,
+        Ok(Err(refusal)) => refusal_number(&refusal),
+        Err(misuse) => misuse_number(&misuse),
+    }
+}
+
+/// A message comes to a node; its handle holds the answer then, or is closed.
+#[tactic(auto, using(crate::proofs::OneCluster::first_is, crate::proofs::OneCluster::second_is))]
+#[unsafe(no_mangle)]
+pub extern "C" fn kp_step(alloc: Global, node: &mut Handle, message: &mut Handle) -> u32
+    requires { AreOfOne node.old.object node.old.table message.old.object message.old.table }
+    ensures called { (answer : Result (Result (Unit {0}) Refusal) Misuse) × (result ≡ answer_number answer)
+        × StepCalled node.old.object node.new.object message.old.object message.new.object answer }
+    ensures cluster { node.new.table ≡ node.old.table }
+    ensures named { IfSome message.new.object (λ _. message.new.table ≡ message.old.table) }
+{
+    match step::<Brand>(alloc, node, message) {
+        Ok(Ok(())) => 0,
+        Ok(Err(refusal)) => refusal_number(&refusal),
+        Err(misuse) => misuse_number(&misuse),
+    }
+}
+
+/// The controller decides on a proposal; its handle holds the answer then, or is closed.
+#[tactic(auto, using(crate::proofs::OneCluster::first_is, crate::proofs::OneCluster::second_is))]
+#[unsafe(no_mangle)]
+pub extern "C" fn kp_decide(alloc: Global, pass: &mut Handle, message: &mut Handle) -> u32
+    requires { AreOfOne pass.old.object pass.old.table message.old.object message.old.table }
+    ensures called { (answer : Result (Result (Unit {0}) Refusal) Misuse) × (result ≡ answer_number answer)
+        × DecideCalled pass.old.object pass.new.object message.old.object message.new.object answer }
+    ensures cluster { pass.new.table ≡ pass.old.table }
+    ensures named { IfSome message.new.object (λ _. message.new.table ≡ message.old.table) }
+{
+    match decide::<Brand>(alloc, pass, message) {
+        Ok(Ok(())) => 0,
+        Ok(Err(refusal)) => refusal_number(&refusal),
+        Err(misuse) => misuse_number(&misuse),
+    }
+}

@@ -1,0 +1,103 @@
+//! Calls of a node alone.
+ghost use Rattle.std.specs.Prelude.{◌≡◌, ℕ, Result, IfOk};
+ghost use Rattle.kp_types.specs.declared.refusal.Refusal.{Refusal};
+ghost use Rattle.kp_replica.specs.declared.act.Answer.{Answer};
+ghost use Rattle.kp_replica.specs.declared.adopting.Role.{Role};
+ghost use Rattle.kp_embed.specs.declared.misuse.Misuse.{Misuse};
+ghost use Rattle.kp_embed.specs.Called.{NodeCalled};
+ghost use Rattle.kp_embed.specs.NodeCalls.{Adopts, Raises, Checkpoints, Stops, Restarts};
+ghost use Rattle.kp_embed.specs.Numbers.{answer_number};
+ghost use Rattle.kp_embed.specs.Outs.{restart_out, role_out};
+
+use crate::handle::Handle;
+use crate::nodes::{adopt, checkpoint, raise, restart, stop};
+use crate::numbers::{misuse_number, refusal_number};
+use crate::outs::{RestartOut, RoleOut};
+use std::alloc::Global;
+use std::marker::Brand;
+
+/// Takes up the controller's record.
+#[unsafe(no_mangle)]
+pub extern "C" fn kp_adopt(alloc: Global, node: &mut Handle, role: &mut RoleOut) -> u32
+    ensures called { (answer : Result (Result (Role) Refusal) Misuse) × (result ≡ answer_number answer)
+        × NodeCalled node.old.object node.new.object answer Adopts
+        × IfOk answer (λ a. IfOk a (λ r. role.new ≡ role_out r)) }
+    ensures cluster { node.new.table ≡ node.old.table }
+{
+    match adopt::<Brand>(alloc, node) {
+        Ok(Ok(found)) => {
+            *role = RoleOut::of(found);
+            0
+        }
+        Ok(Err(refusal)) => refusal_number(&refusal),
+        Err(misuse) => misuse_number(&misuse),
+    }
+}
+
+/// Raises the high watermark.
+#[unsafe(no_mangle)]
+pub extern "C" fn kp_raise(alloc: Global, node: &mut Handle, offset: &mut u64) -> u32
+    ensures called { (answer : Result (Result (ℕ) Refusal) Misuse) × (result ≡ answer_number answer)
+        × NodeCalled node.old.object node.new.object answer Raises
+        × IfOk answer (λ a. IfOk a (λ r. offset.new ≡ r)) }
+    ensures cluster { node.new.table ≡ node.old.table }
+{
+    match raise::<Brand>(alloc, node) {
+        Ok(Ok(found)) => {
+            *offset = found;
+            0
+        }
+        Ok(Err(refusal)) => refusal_number(&refusal),
+        Err(misuse) => misuse_number(&misuse),
+    }
+}
+
+/// Notes the high watermark as the checkpoint.
+#[unsafe(no_mangle)]
+pub extern "C" fn kp_checkpoint(alloc: Global, node: &mut Handle, offset: &mut u64) -> u32
+    ensures called { (answer : Result (Result (ℕ) Refusal) Misuse) × (result ≡ answer_number answer)
+        × NodeCalled node.old.object node.new.object answer Checkpoints
+        × IfOk answer (λ a. IfOk a (λ r. offset.new ≡ r)) }
+    ensures cluster { node.new.table ≡ node.old.table }
+{
+    match checkpoint::<Brand>(alloc, node) {
+        Ok(Ok(found)) => {
+            *offset = found;
+            0
+        }
+        Ok(Err(refusal)) => refusal_number(&refusal),
+        Err(misuse) => misuse_number(&misuse),
+    }
+}
+
+/// Stops the node.
+#[unsafe(no_mangle)]
+pub extern "C" fn kp_stop(alloc: Global, node: &mut Handle) -> u32
+    ensures called { (answer : Result (Result (Unit {0}) Refusal) Misuse) × (result ≡ answer_number answer)
+        × NodeCalled node.old.object node.new.object answer Stops }
+    ensures cluster { node.new.table ≡ node.old.table }
+{
+    match stop::<Brand>(alloc, node) {
+        Ok(Ok(())) => 0,
+        Ok(Err(refusal)) => refusal_number(&refusal),
+        Err(misuse) => misuse_number(&misuse),
+    }
+}
+
+/// Starts the node again.
+#[unsafe(no_mangle)]
+pub extern "C" fn kp_restart(alloc: Global, node: &mut Handle, restarted: &mut RestartOut) -> u32
+    ensures called { (answer : Result (Result (Answer) Refusal) Misuse) × (result ≡ answer_number answer)
+        × NodeCalled node.old.object node.new.object answer Restarts
+        × IfOk answer (λ a. IfOk a (λ r. restarted.new ≡ restart_out r)) }
+    ensures cluster { node.new.table ≡ node.old.table }
+{
+    match restart::<Brand>(alloc, node) {
+        Ok(Ok(found)) => {
+            *restarted = RestartOut::of(&found);
+            0
+        }
+        Ok(Err(refusal)) => refusal_number(&refusal),
+        Err(misuse) => misuse_number(&misuse),
+    }
+}

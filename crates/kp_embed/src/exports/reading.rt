@@ -1,0 +1,57 @@
+//! Reads, of batches, and of what a read-committed consumer gets.
+ghost use Rattle.std.specs.Prelude.{◌≡◌, Result};
+ghost use Rattle.kp_types.specs.declared.refusal.Refusal.{Refusal};
+ghost use Rattle.kp_embed.specs.Called.{AreOfOne};
+ghost use Rattle.kp_embed.specs.Numbers.{answer_number};
+ghost use Rattle.kp_embed.specs.Reading.{CommittedCalled, ReadCalled};
+ghost use Rattle.kp_embed.specs.declared.misuse.Misuse.{Misuse};
+
+use crate::handle::Handle;
+use crate::numbers::{misuse_number, refusal_number};
+use crate::reading::{read, read_committed};
+use std::alloc::Global;
+use std::marker::Brand;
+
+/// Reads committed batches into a closed handle.
+#[tactic(auto, using(crate::proofs::OneCluster::first_is, crate::proofs::OneCluster::second_is))]
+#[unsafe(no_mangle)]
+pub extern "C" fn kp_read(
+    alloc: Global,
+    node: &mut Handle,
+    pass: &mut Handle,
+    from: u64,
+    batches: &mut Handle,
+) -> u32
+    requires { AreOfOne node.old.object node.old.table pass.old.object pass.old.table }
+    ensures called { (answer : Result (Result (Unit {0}) Refusal) Misuse) × (result ≡ answer_number answer)
+        × ReadCalled from node.old.object node.new.object pass.old.object pass.new.object batches.old.object batches.new.object answer }
+    ensures cluster { (node.new.table ≡ node.old.table) × (pass.new.table ≡ pass.old.table) }
+{
+    match read::<Brand>(alloc, node, pass, from, batches) {
+        Ok(Ok(())) => 0,
+        Ok(Err(refusal)) => refusal_number(&refusal),
+        Err(misuse) => misuse_number(&misuse),
+    }
+}
+
+/// Reads the records that a read-committed consumer gets into a closed handle.
+#[tactic(auto, using(crate::proofs::OneCluster::first_is, crate::proofs::OneCluster::second_is))]
+#[unsafe(no_mangle)]
+pub extern "C" fn kp_read_committed(
+    alloc: Global,
+    node: &mut Handle,
+    pass: &mut Handle,
+    from: u64,
+    records: &mut Handle,
+) -> u32
+    requires { AreOfOne node.old.object node.old.table pass.old.object pass.old.table }
+    ensures called { (answer : Result (Result (Unit {0}) Refusal) Misuse) × (result ≡ answer_number answer)
+        × CommittedCalled from node.old.object node.new.object pass.old.object pass.new.object records.old.object records.new.object answer }
+    ensures cluster { (node.new.table ≡ node.old.table) × (pass.new.table ≡ pass.old.table) }
+{
+    match read_committed::<Brand>(alloc, node, pass, from, records) {
+        Ok(Ok(())) => 0,
+        Ok(Err(refusal)) => refusal_number(&refusal),
+        Err(misuse) => misuse_number(&misuse),
+    }
+}

@@ -1,0 +1,69 @@
+//! What a handle holds.
+
+ghost use Rattle.std.specs.Prelude.{◌≡◌, IfOk, IfErr};
+ghost use Rattle.kp_embed.specs.Objects.{empty};
+ghost use Rattle.kp_embed.specs.declared.misuse.Misuse.TheVariants.{NoRoom};
+
+use crate::misuse::Misuse;
+use crate::segments::SegmentShare;
+use kp_batch::Batch;
+use kp_board::{Board, BoardName, FreshPass, Message, Pass};
+use kp_node::Node;
+use kp_types::Limits;
+use kp_visible::ReadRecords;
+use std::alloc::Global;
+use std::marker::Model;
+use std::sync::Arc;
+
+/// A board with the passes of the nodes that aren't open yet, and the sizes of their logs.
+#[derive(Drop)]
+pub struct Cluster<B: BoardName> {
+    pub(crate) board: Arc<Board<B>, Global>,
+    pub(crate) waiting: Vec<FreshPass<B>>,
+    pub(crate) limits: Limits,
+}
+
+/// A caller's pass, with its board.
+#[derive(Drop)]
+pub struct Caller<B: BoardName> {
+    pub(crate) board: Arc<Board<B>, Global>,
+    pub(crate) pass: Pass<B>,
+}
+
+/// What a handle holds, by its kind.
+#[derive(Drop)]
+pub enum Kind<B: BoardName> {
+    Empty,
+    Cluster(Cluster<B>),
+    Node(Node<B>),
+    Caller(Caller<B>),
+    Message(Message<B>),
+    Batches(Vec<Batch>),
+    Records(ReadRecords),
+    Segments(Vec<SegmentShare>),
+}
+
+/// What a handle holds. A clause sees no name of a board.
+#[derive(Drop)]
+pub struct Object<B: BoardName> {
+    pub(crate) kind: Kind<B>,
+}
+
+impl<B: BoardName> Model for Object<B> {
+    ghost use Rattle.kp_embed.specs.Objects.{ObjectView, object_view};
+
+    ghost Value = { ObjectView };
+
+    ghost view = { λ o. object_view o.kind };
+}
+
+/// Room for an object, which holds nothing yet.
+pub(crate) fn room<B: BoardName>(alloc: Global) -> Result<Box<Object<B>>, Misuse>
+    ensures made { IfOk result (λ b. b.value ≡ empty) }
+    ensures refused { IfErr result (λ m. m ≡ NoRoom) }
+{
+    match Box::new(alloc, Object { kind: Kind::Empty }) {
+        Ok(room) => Ok(room),
+        Err(_) => Err(Misuse::NoRoom),
+    }
+}
