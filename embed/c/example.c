@@ -1,0 +1,263 @@
+/* Three nodes of one partition in one process: an election, batches from two clients on threads of their own, replication by
+ * messages, reads, a change of the in-sync replicas, a stop and a restart, and the log's files. Each node has a lock of the host's.
+ *
+ * At the top of the repository, after `tools/embed`, which builds the library:
+ *   cc -std=c11 -O2 -pthread -Iembed embed/c/example.c crates/kp_embed/out/libkp_embed.a "$KIT/c/liblibc_c.a" -o example
+ * It prints one line for each step, and ends with status 0 if all went as written here.
+ */
+#include "kpart.h"
+
+#include <pthread.h>
+#include <stdio.h>
+#include <stdlib.h>
+#include <string.h>
+
+enum { NODES = 3, CLIENTS = 2, BATCHES = 4 };
+
+typedef struct {
+    kp_handle node;
+    pthread_mutex_t lock;
+} locked_node;
+
+typedef struct {
+    locked_node *leader;
+    kp_handle pass;
+    kp_receipt receipts[BATCHES];
+    uint64_t producer;
+} client;
+
+/* What a call answered, where it isn't what was wanted. */
+static void wants(const char *what, uint32_t answer, uint32_t wanted) {
+    char name[32];
+    size_t length = kp_text(answer, (uint8_t *)name, sizeof name);
+    printf("%-10s %.*s\n", what, (int)length, name);
+    if (answer != wanted)
+        exit(1);
+}
+
+static void holds(const char *what, bool fact) {
+    if (!fact) {
+        printf("not so: %s\n", what);
+        exit(1);
+    }
+}
+
+/* ---- a batch as a client sends it (Kafka protocol guide, 'Record Batch') */
+
+static uint8_t *put(uint8_t *to, uint64_t value, int bytes) {
+    for (int i = bytes - 1; i >= 0; i--)
+        *to++ = (uint8_t)(value >> (8 * i));
+    return to;
+}
+
+/* CRC-32C */
+static uint32_t checksum(const uint8_t *bytes, size_t length) {
+    uint32_t sum = 0xffffffff;
+    for (size_t i = 0; i < length; i++) {
+        sum ^= bytes[i];
+        for (int bit = 0; bit < 8; bit++)
+            sum = (sum >> 1) ^ (0x82f63b78 & (0 - (sum & 1)));
+    }
+    return ~sum;
+}
+
+/* One record whose value is one letter. Its bytes are answered. */
+static size_t batch(uint8_t *to, uint64_t producer, uint32_t sequence, char value) {
+    static const uint8_t head[] = {14, 0, 0, 0, 1, 2}; /* length 7; attributes, time and offset 0; no key; a value of one byte */
+    uint8_t *at = to + 21;
+    at = put(at, 0, 2);         /* attributes */
+    at = put(at, 0, 4);         /* last offset delta */
+    at = put(at, 1000, 8);      /* base timestamp */
+    at = put(at, 1000, 8);      /* max timestamp */
+    at = put(at, producer, 8);
+    at = put(at, 0, 2);         /* producer epoch */
+    at = put(at, sequence, 4);
+    at = put(at, 1, 4);         /* count */
+    memcpy(at, head, sizeof head);
+    at += sizeof head;
+    *at++ = (uint8_t)value;
+    *at++ = 0;                  /* no headers */
+    size_t size = (size_t)(at - to);
+    put(to, 0, 8);              /* base offset */
+    put(to + 8, size - 12, 4);
+    put(to + 12, 0xffffffff, 4); /* no leader epoch yet */
+    to[16] = 2;                 /* magic */
+    put(to + 17, checksum(to + 21, size - 21), 4);
+    return size;
+}
+
+/* ---- clients */
+
+static void *produces(void *of) {
+    client *c = of;
+    for (uint32_t i = 0; i < BATCHES; i++) {
+        uint8_t bytes[128];
+        size_t size = batch(bytes, c->producer, i, (char)('a' + i));
+        pthread_mutex_lock(&c->leader->lock);
+        uint32_t answer = kp_produce(&c->leader->node, &c->pass, bytes, size, &c->receipts[i]);
+        pthread_mutex_unlock(&c->leader->lock);
+        if (answer != KP_DONE)
+            return c;
+    }
+    return NULL;
+}
+
+/* The follower asks, the leader answers, and the follower takes what it answered. */
+static void fetches(locked_node *follower, locked_node *leader) {
+    kp_handle message = {0};
+    uint8_t addressee;
+    wants("ask", kp_ask(&follower->node, &message), KP_DONE);
+    wants("for whom", kp_addressee(&message, &addressee), KP_DONE);
+    holds("for node 0", addressee == 0);
+    wants("answer", kp_step(&leader->node, &message), KP_DONE);
+    wants("take", kp_step(&follower->node, &message), KP_DONE);
+    wants("gone", kp_close(&message), KP_CLOSED);
+}
+
+/* ---- reads */
+
+/* The batches from the client's second one on; each has `size` bytes. */
+static void reads(kp_handle *node, client *c, size_t size) {
+    uint8_t bytes[128];
+    kp_handle batches = {0};
+    size_t count;
+    uint32_t batch_size;
+    wants("read", kp_read(node, &c->pass, c->receipts[1].base, &batches), KP_DONE);
+    wants("count", kp_count(&batches, &count), KP_DONE);
+    holds("those from there on", count == CLIENTS * BATCHES - c->receipts[1].base);
+    wants("size", kp_batch_size(&batches, 0, &batch_size), KP_DONE);
+    wants("short", kp_batch(&batches, 0, bytes, batch_size - 1), KP_BAD_LENGTH);
+    wants("bytes", kp_batch(&batches, 0, bytes, sizeof bytes), KP_DONE);
+    holds("the second value", batch_size == size && bytes[size - 2] == 'b');
+    wants("beyond", kp_batch(&batches, count, bytes, sizeof bytes), KP_OUT_OF_RANGE);
+    wants("close", kp_close(&batches), KP_DONE);
+}
+
+/* The client's second record, as a read-committed consumer gets it. */
+static void reads_committed(kp_handle *node, client *c) {
+    uint8_t value;
+    kp_handle records = {0};
+    size_t count;
+    kp_committed_out found;
+    wants("committed", kp_read_committed(node, &c->pass, c->receipts[1].base, &records), KP_DONE);
+    wants("count", kp_count(&records, &count), KP_DONE);
+    holds("those from there on", count == CLIENTS * BATCHES - c->receipts[1].base);
+    wants("record", kp_committed(&records, 0, &found), KP_DONE);
+    holds("the second one", found.offset == c->receipts[1].base && found.size == 1 && !found.null);
+    wants("short", kp_value(&records, 0, &value, 0), KP_BAD_LENGTH);
+    wants("value", kp_value(&records, 0, &value, 1), KP_DONE);
+    holds("its letter", value == 'b');
+    wants("no batch", kp_batch(&records, 0, &value, 1), KP_OTHER_KIND);
+    wants("close", kp_close(&records), KP_DONE);
+}
+
+/* The log is one segment, whose file has so many batches. */
+static void has_file(kp_handle *node, size_t wanted) {
+    uint8_t name[KP_NAME_BYTES];
+    kp_handle segments = {0}, batches = {0};
+    size_t count;
+    wants("segments", kp_segments(node, &segments), KP_DONE);
+    wants("count", kp_count(&segments, &count), KP_DONE);
+    holds("one segment", count == 1);
+    wants("short", kp_segment(&segments, 0, name, sizeof name - 1, &batches), KP_BAD_LENGTH);
+    wants("segment", kp_segment(&segments, 0, name, sizeof name, &batches), KP_DONE);
+    holds("its name", memcmp(name, "00000000000000000000.log", sizeof name) == 0);
+    wants("count", kp_count(&batches, &count), KP_DONE);
+    holds("all batches", count == wanted);
+    wants("close", kp_close(&batches), KP_DONE);
+    wants("close", kp_close(&segments), KP_DONE);
+}
+
+int main(void) {
+    kp_handle cluster = {0};
+    const kp_limits limits = {1048576, 4096, 1048576};
+    static locked_node nodes[NODES];
+    static client clients[CLIENTS];
+    kp_handle controller = {0};
+    wants("open", kp_open(&cluster, NODES, &limits), KP_DONE);
+    wants("again", kp_open(&cluster, NODES, &limits), KP_IN_USE);
+    for (int i = 0; i < NODES; i++) {
+        pthread_mutex_init(&nodes[i].lock, NULL);
+        wants("node", kp_open_node(&cluster, &nodes[i].node), KP_DONE);
+    }
+    wants("pass", kp_open_pass(&cluster, &controller), KP_DONE);
+
+    kp_record_out record;
+    wants("elect", kp_elect(&controller, 0, &record), KP_DONE);
+    holds("node 0 leads in epoch 0", record.elected && record.leader == 0 && record.in_sync[2] && !record.in_sync[3]);
+    for (int i = 0; i < NODES; i++) {
+        kp_role role;
+        wants("adopt", kp_adopt(&nodes[i].node, &role), KP_DONE);
+        holds("only node 0 leads", role.leads == (i == 0));
+    }
+
+    pthread_t threads[CLIENTS];
+    for (int i = 0; i < CLIENTS; i++) {
+        clients[i].leader = &nodes[0];
+        clients[i].producer = (uint64_t)i + 1;
+        wants("pass", kp_open_pass(&cluster, &clients[i].pass), KP_DONE);
+        pthread_create(&threads[i], NULL, produces, &clients[i]);
+    }
+    for (int i = 0; i < CLIENTS; i++) {
+        void *fault;
+        pthread_join(threads[i], &fault);
+        holds("each batch was appended", fault == NULL);
+    }
+    client *one = &clients[0];
+    uint8_t bytes[128];
+    size_t size = batch(bytes, one->producer, BATCHES - 1, 'd');
+    kp_receipt receipt;
+    wants("repeat", kp_produce(&nodes[0].node, &one->pass, bytes, size, &receipt), KP_DONE);
+    holds("it is a duplicate", receipt.duplicate && receipt.base == one->receipts[BATCHES - 1].base);
+    bytes[size - 2] ^= 1;
+    wants("bad bytes", kp_produce(&nodes[0].node, &one->pass, bytes, size, &receipt), 4);
+
+    uint32_t ack;
+    wants("acked", kp_acked(&nodes[0].node, &one->pass, &one->receipts[0], &ack), KP_DONE);
+    holds("not yet", ack == KP_NOT_YET);
+    for (int round = 0; round < 2; round++) /* the second fetch tells the leader how far each follower is */
+        for (int i = 1; i < NODES; i++)
+            fetches(&nodes[i], &nodes[0]);
+    uint64_t offset;
+    wants("raise", kp_raise(&nodes[0].node, &offset), KP_DONE);
+    holds("all is committed", offset == CLIENTS * BATCHES);
+    wants("acked", kp_acked(&nodes[0].node, &one->pass, &one->receipts[0], &ack), KP_DONE);
+    holds("committed", ack == KP_COMMITTED);
+    wants("watermark", kp_watermark(&one->pass, 0, &offset), KP_DONE);
+    holds("the board shows it", offset == CLIENTS * BATCHES);
+
+    reads(&nodes[0].node, one, size);
+    reads_committed(&nodes[0].node, one);
+
+    kp_handle proposal = {0};
+    wants("propose", kp_alter(&nodes[0].node, false, 2, &proposal), KP_DONE);
+    uint8_t addressee;
+    wants("for whom", kp_addressee(&proposal, &addressee), KP_DONE);
+    holds("for the controller", addressee == KP_CONTROLLER);
+    wants("decide", kp_decide(&controller, &proposal), KP_DONE);
+    wants("learn", kp_step(&nodes[0].node, &proposal), KP_DONE);
+    wants("record", kp_record(&controller, &record), KP_DONE);
+    holds("node 2 has left", record.in_sync[1] && !record.in_sync[2]);
+
+    const kp_marker marker = {3, 2000, 0, 0, false};
+    wants("marker", kp_mark(&nodes[0].node, &one->pass, &marker, &receipt), KP_DONE);
+    wants("checkpoint", kp_checkpoint(&nodes[0].node, &offset), KP_DONE);
+    wants("stop", kp_stop(&nodes[0].node), KP_DONE);
+    wants("down", kp_raise(&nodes[0].node, &offset), 28);
+    kp_restarted restarted;
+    has_file(&nodes[0].node, CLIENTS * BATCHES + 1); /* also while it is down */
+    wants("restart", kp_restart(&nodes[0].node, &restarted), KP_DONE);
+    holds("at its checkpoint", restarted.watermark == CLIENTS * BATCHES && restarted.end == CLIENTS * BATCHES + 1);
+
+    kp_role role;
+    wants("misuse", kp_adopt(&controller, &role), KP_OTHER_KIND);
+    for (int i = 0; i < NODES; i++)
+        wants("close", kp_close(&nodes[i].node), KP_DONE);
+    for (int i = 0; i < CLIENTS; i++)
+        wants("close", kp_close(&clients[i].pass), KP_DONE);
+    wants("close", kp_close(&controller), KP_DONE);
+    wants("close", kp_close(&cluster), KP_DONE);
+    wants("second", kp_close(&cluster), KP_CLOSED);
+    wants("use", kp_record(&controller, &record), KP_CLOSED);
+    return 0;
+}

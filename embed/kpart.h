@@ -1,0 +1,253 @@
+/* kpart as a static library: one partition's replicated log, for services in C, C++ and Rust.
+ *
+ * The library owns boards, nodes, passes, messages and what was read, and their memory, which it takes by malloc, realloc and
+ * free. It has no thread and no lock, and never waits. The host owns threads and locks.
+ *
+ * WHAT IS PROVED. The library is crates/kp_embed, written in Rattle: each function below is proved safe, to end, and to
+ * meet its contract, which stands in crates/kp_embed/src/exports/ and speaks of what the handles hold, before and after.
+ * At each function stands the word of the contract that carries it (crates/kp_embed/specs/), and the call of kp_node or
+ * kp_board whose clauses that word repeats. Also proved: a handle is Send, so it may go from thread to thread.
+ * WHAT IS NOT PROVED. That callers keep the duties below; that malloc, realloc and free do what C says; the C compiler and
+ * linker. Of the numbers from 65 on it is proved that each comes only where what it says is so, but for KP_NO_ROOM, and but for
+ * KP_OUT_OF_RANGE and KP_BAD_LENGTH at kp_produce, kp_mark, kp_acked, kp_read and kp_read_committed: of those it is proved only
+ * that nothing has changed. Where several are so, any of them may be answered.
+ * The texts of kp_text are proved only where they are a refusal's. What a call writes through a
+ * parameter besides handles is said only after KP_DONE, and of kp_produce's `place` after a refusal.
+ * The layer's own unsafe lines are two: `Box::from_raw` in src/loose.rt, and `unsafe impl Send for Handle` in
+ * src/handle.rt. Both are proved, as are the casts of a box's pointer in src/handle.rt (proofs/handle, proofs/loose).
+ *
+ * DUTIES OF THE CALLER, which nothing checks:
+ *  1. A kp_handle is all zero before its first use ("kp_handle h = {0};"). From then on only the library reads or writes its
+ *     two words. It may be moved while no call runs with it, and the place that it was moved from counts as gone: a handle
+ *     that was copied is used in one place only. No call is given a copy of a handle that was closed, or used, elsewhere.
+ *  2. In one call no two pointers point to the same memory or to memory that overlaps, and none is null, also where a length
+ *     is 0. Each points to readable memory of its type, and to writable memory where it is not const. A length is at most
+ *     the bytes that lie there, and below 2^63. A bool is 0 or 1.
+ *  3. One call at a time is given a handle: of two calls with one handle, one happens before the other, by a lock, a channel,
+ *     the start or end of a thread, or whatever else orders memory. Calls with different handles may run at once, also of one
+ *     cluster.
+ *  4. Handles of different clusters never go into one call. (A closed handle is of any.)
+ *  5. No call is made from a signal handler, nor in the forked child of a process with threads.
+ *  6. malloc and realloc align a block to each power of two up to 16 that divides its size.
+ *
+ * WHAT IS TESTED and answered by a number: a closed handle where an open one is wanted, so also a handle that was used after
+ * its close, and a second close (KP_CLOSED); a handle that holds something else (KP_OTHER_KIND); an open handle where a
+ * closed one is wanted (KP_IN_USE); a number above its greatest (KP_OUT_OF_RANGE); a length above the greatest, or too small
+ * (KP_BAD_LENGTH); memory that was refused (KP_NO_ROOM, and KP_MEMORY from a log). After each of these but KP_MEMORY nothing
+ * has changed. For the refusals 1 to 34 see docs/RULES.md; after one a call has done what its contract says.
+ */
+#ifndef KPART_H
+#define KPART_H
+
+#include <stdbool.h>
+#include <stddef.h>
+#include <stdint.h>
+
+#ifdef __cplusplus
+extern "C" {
+#endif
+
+/* Holds a cluster, a node, a pass, a message, or what was read; all zero it is closed, and holds nothing. */
+typedef struct {
+    void *at;
+    uint64_t state;
+} kp_handle;
+
+/* What a call answers: 0, a refusal's number (1 to 34, docs/RULES.md), or one of these. */
+enum {
+    KP_DONE = 0,
+    KP_MEMORY = 33,
+    KP_CLOSED = 65,
+    KP_OTHER_KIND = 66,
+    KP_IN_USE = 67,
+    KP_NO_ROOM = 68,
+    KP_OUT_OF_RANGE = 69,
+    KP_BAD_LENGTH = 70
+};
+
+/* Writes the name of what a call answered, as "F22 StaleRecord", without a zero at its end, as far as `length` bytes reach;
+ * answers how many bytes it wrote. A number that no call answers has no name. Memory: none.
+ * Proved: no byte beyond `length` is written, and the refusal named has this number (`refusal_of`). */
+size_t kp_text(uint32_t number, uint8_t *to, size_t length);
+
+/* ---- opening and closing */
+
+/* Sizes of the nodes' logs, in bytes. */
+typedef struct {
+    uint32_t segment_bytes;  /* the most of a segment that has more than one batch */
+    uint32_t index_interval; /* between two entries of an index */
+    uint32_t max_batch;      /* the most of a batch */
+} kp_limits;
+
+/* Opens a board of 0 to 7 nodes, at the start of a run. KP_OUT_OF_RANGE above 7, KP_IN_USE, KP_NO_ROOM.
+ * Proved: `IsCluster` (kp_board's `Opened::new`, `Board::new`). */
+uint32_t kp_open(kp_handle *cluster, uint8_t nodes, const kp_limits *limits);
+
+/* Opens the cluster's next node, 0 first, up and idle with an empty log. KP_OUT_OF_RANGE where all are open.
+ * Proved: `OpensNode` (`Node::new`). */
+uint32_t kp_open_node(kp_handle *cluster, kp_handle *node);
+
+/* Opens a pass: what a client or the controller calls with, one for each that calls at the same time. It has seen nothing.
+ * Proved: `OpensCaller` (`Board::pass`). */
+uint32_t kp_open_pass(kp_handle *cluster, kp_handle *pass);
+
+/* Closes a handle and frees what it holds; what its cluster shares stays until the last of its handles is closed. KP_CLOSED
+ * for a handle that is closed, which is left so. Proved: the handle is closed then. */
+uint32_t kp_close(kp_handle *handle);
+
+/* ---- the controller's record, and watermarks, by a pass: no node's lock is needed */
+
+typedef struct {
+    uint32_t version;   /* every change raises it */
+    uint32_t epoch;     /* the leader epoch; 0 before the first election */
+    uint8_t leader;     /* 0 before the first election */
+    bool elected;       /* whether there was one */
+    bool in_sync[7];    /* each node, by its number */
+} kp_record_out;
+
+/* Tries once to elect a node. 21, 22, 24: see `Board::elect`. Proved: `CallerCalled`, `Elects`. */
+uint32_t kp_elect(kp_handle *pass, uint8_t node, kp_record_out *found);
+
+/* The controller's record. Proved: `CallerCalled`, `Looks` (`Board::record`). */
+uint32_t kp_record(kp_handle *pass, kp_record_out *found);
+
+/* A high watermark that the node had. KP_OUT_OF_RANGE where the cluster has no such node.
+ * Proved: `CallerCalled`, `LearnsMark` (`Board::watermark`). */
+uint32_t kp_watermark(kp_handle *pass, uint8_t node, uint64_t *offset);
+
+/* ---- a node alone */
+
+typedef struct {
+    uint64_t start;  /* where it leads: its log's end when it began to; else 0 */
+    uint32_t epoch;  /* the leader epoch */
+    uint8_t leader;  /* where it follows: the leader; else 0 */
+    bool leads;
+} kp_role;
+
+/* Takes up the controller's record. 22, 28. Proved: `NodeCalled`, `Adopts` (`Node::adopt`). */
+uint32_t kp_adopt(kp_handle *node, kp_role *role);
+
+/* Raises the high watermark, and tells it. 15, 28. Proved: `NodeCalled`, `Raises` (`Node::raise`). */
+uint32_t kp_raise(kp_handle *node, uint64_t *offset);
+
+/* Notes the high watermark as the checkpoint, and tells it. 28. Proved: `NodeCalled`, `Checkpoints` (`Node::checkpoint`). */
+uint32_t kp_checkpoint(kp_handle *node, uint64_t *offset);
+
+/* Stops the node, which keeps its log. 28. Proved: `NodeCalled`, `Stops` (`Node::stop`). */
+uint32_t kp_stop(kp_handle *node);
+
+typedef struct {
+    uint64_t life;
+    uint64_t end;       /* its log's end */
+    uint64_t watermark; /* its checkpoint */
+} kp_restarted;
+
+/* Starts a stopped node again, idle. 24, 28, 33. Proved: `NodeCalled`, `Restarts` (`Node::restart`). */
+uint32_t kp_restart(kp_handle *node, kp_restarted *restarted);
+
+/* ---- a node, for a pass */
+
+typedef struct {
+    uint64_t base;   /* the offset of the batch's first record */
+    uint64_t last;   /* of its last record */
+    uint64_t place;  /* after a refusal 8: where the record begins in the batch; 0 after another one, and after none */
+    uint32_t epoch;  /* its leader epoch */
+    bool duplicate;  /* it had been appended before */
+} kp_receipt;
+
+/* Hands the leader the bytes of a batch as a client sends them (magic 2). They are copied once. KP_BAD_LENGTH above
+ * 2,147,483,659 bytes; the refusals are those of `Replica::produce`, and 28.
+ * Proved: `PairCalled`, `Produces` (`Node::produce`). */
+uint32_t kp_produce(kp_handle *node, kp_handle *pass, const uint8_t *bytes, size_t length, kp_receipt *receipt);
+
+typedef struct {
+    uint64_t producer_id;       /* whose transaction ends, below 2^63 */
+    uint64_t timestamp;         /* in milliseconds since 1970, below 2^62 */
+    uint32_t coordinator_epoch; /* below 2^31 */
+    uint16_t producer_epoch;    /* below 2^15 */
+    bool commits;               /* or aborts */
+} kp_marker;
+
+/* Hands the leader a transaction's marker. KP_OUT_OF_RANGE for a field out of its range; the refusals of `Replica::mark`, and
+ * 28. Proved: `PairCalled`, `Marks` (`Node::mark`). */
+uint32_t kp_mark(kp_handle *node, kp_handle *pass, const kp_marker *marker, kp_receipt *receipt);
+
+enum { KP_NOT_YET = 0, KP_COMMITTED = 1, KP_LOST = 2 };
+
+/* Whether a receipt's batch is committed, by this node: KP_NOT_YET, KP_COMMITTED, or KP_LOST where another batch is committed
+ * in its place. 28. Proved: `PairCalled`, `Acks` (`Node::acked`). */
+uint32_t kp_acked(kp_handle *node, kp_handle *pass, const kp_receipt *receipt, uint32_t *ack);
+
+/* Reads committed batches from an offset on into a closed handle, which shares their bytes: as many as fit into 1,048,576
+ * bytes, but at least one where there is one. 16, 28, 33. Proved: `ReadCalled`, `Reads` (`Node::read`). */
+uint32_t kp_read(kp_handle *node, kp_handle *pass, uint64_t from, kp_handle *batches);
+
+/* Reads the records from an offset on that a read-committed consumer gets, into a closed handle: those below the node's last
+ * stable offset that no aborted transaction has. 16, 28, 33. Proved: `CommittedCalled`, `ReadsCommitted` (`Node::committed`). */
+uint32_t kp_read_committed(kp_handle *node, kp_handle *pass, uint64_t from, kp_handle *records);
+
+/* ---- what was read: no node's lock is needed, and the log may go on meanwhile */
+
+/* How many batches, records or segments stand in a handle. Proved: `HasCount`. */
+uint32_t kp_count(kp_handle *handle, size_t *found);
+
+/* How many bytes one of the batches has, from 0 on. KP_OUT_OF_RANGE. Proved: `HasSize`. */
+uint32_t kp_batch_size(kp_handle *batches, size_t index, uint32_t *size);
+
+/* Copies the bytes of one of the batches, once. KP_OUT_OF_RANGE; KP_BAD_LENGTH where `length` is less than they are, and then
+ * nothing is written. Memory: none. Proved: `WritesBatch`: the batch's one spelling, and no byte after it. */
+uint32_t kp_batch(kp_handle *batches, size_t index, uint8_t *to, size_t length);
+
+typedef struct {
+    uint64_t offset;
+    size_t size; /* how many bytes its value has */
+    bool null;   /* its value is null, which has no byte */
+} kp_committed_out;
+
+/* One of the records, from 0 on, but for the bytes of its value. KP_OUT_OF_RANGE. Proved: `HasRecord`. */
+uint32_t kp_committed(kp_handle *records, size_t index, kp_committed_out *found);
+
+/* Copies a record's value. KP_OUT_OF_RANGE; KP_BAD_LENGTH where `length` is less than it has, and then nothing is written.
+ * Memory: none. Proved: `WritesValue`, and no byte after it. */
+uint32_t kp_value(kp_handle *records, size_t index, uint8_t *to, size_t length);
+
+/* ---- a node's log as a broker keeps it in files */
+
+/* Puts the node's log into a closed handle, segment by segment, with shares of all its batches, also of those that aren't
+ * committed; also of a node that is down. 33. Proved: `SegmentsCalled` (`Node::log`, `Segments::runs`). */
+uint32_t kp_segments(kp_handle *node, kp_handle *segments);
+
+enum { KP_NAME_BYTES = 24 };
+
+/* One of the segments, from 0 on: writes the name of its file, as 00000000000000000000.log, 24 bytes without a zero at their
+ * end, and puts its batches into a closed handle; their bytes, one behind another, are the file. KP_OUT_OF_RANGE; KP_BAD_LENGTH
+ * where `length` is less than the name has. 33. Proved: `SegmentCalled`. */
+uint32_t kp_segment(kp_handle *segments, size_t index, uint8_t *name, size_t length, kp_handle *batches);
+
+/* ---- messages. A host may drop one, or let it wait. */
+
+/* A follower's request to its leader, put into a closed handle. 15, 28. Proved: `SendCalled`, `Asks` (`Node::ask`). */
+uint32_t kp_ask(kp_handle *node, kp_handle *message);
+
+/* A leader's proposal to the controller that a node joins the in-sync replicas, or leaves them, put into a closed handle. The
+ * refusals of `Replica::alter`, and 28. Proved: `SendCalled`, `Alters` (`Node::alter`). */
+uint32_t kp_alter(kp_handle *node, bool joins, uint8_t which, kp_handle *message);
+
+/* Hands a node a message, which is used up: its handle holds the answer then, or is closed where there is none. The refusals
+ * of `Node::step`, after which it is closed too. Proved: `StepCalled`, `Took` (`Node::step`). */
+uint32_t kp_step(kp_handle *node, kp_handle *message);
+
+/* The controller decides on a proposal, which is used up: its handle holds the answer then, for the node that proposed, or is
+ * closed after a refusal. 24, 29. Proved: `DecideCalled`, `Decided` (`Board::decide`). */
+uint32_t kp_decide(kp_handle *pass, kp_handle *message);
+
+enum { KP_CONTROLLER = 255 };
+
+/* The number of the node that a message goes to, or KP_CONTROLLER. Proved: `HasAddressee` (`MessageBody::addressee`). */
+uint32_t kp_addressee(kp_handle *message, uint8_t *node);
+
+#ifdef __cplusplus
+}
+#endif
+
+#endif

@@ -1,0 +1,55 @@
+//! Batches that were read.
+
+use crate::error::Error;
+use crate::ffi::RawBatches;
+
+/// Batches that were read, in the order of the log. They share the log's memory until they are dropped, and need no lock.
+#[derive(Debug)]
+pub struct Batches {
+    raw: RawBatches,
+    next: usize,
+    count: usize,
+}
+
+impl Batches {
+    pub(crate) fn new(mut raw: RawBatches) -> Result<Batches, Error> {
+        let count = raw.count()?;
+        Ok(Batches { raw, next: 0, count })
+    }
+
+    /// How many were not given yet.
+    pub fn len(&self) -> usize {
+        self.count - self.next
+    }
+
+    /// Whether all were given.
+    pub fn is_empty(&self) -> bool {
+        self.len() == 0
+    }
+
+    /// Puts the next one's bytes in place of what the buffer holds, and says whether there was one. They are those that were handed
+    /// in, with base offset and leader epoch stamped. [`Error::NoRoom`] leaves the batch for the next call. O(n) in its bytes.
+    pub fn next_into(&mut self, bytes: &mut Vec<u8>) -> Result<bool, Error> {
+        if self.is_empty() {
+            return Ok(false);
+        }
+        let size = self.raw.size(self.next)?;
+        bytes.resize(size, 0);
+        self.raw.copy(self.next, bytes)?;
+        self.next += 1;
+        Ok(true)
+    }
+}
+
+impl Iterator for Batches {
+    type Item = Result<Vec<u8>, Error>;
+
+    fn next(&mut self) -> Option<Result<Vec<u8>, Error>> {
+        let mut bytes = Vec::new();
+        match self.next_into(&mut bytes) {
+            Ok(true) => Some(Ok(bytes)),
+            Ok(false) => None,
+            Err(error) => Some(Err(error)),
+        }
+    }
+}

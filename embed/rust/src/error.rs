@@ -1,0 +1,227 @@
+//! Why a call gave nothing.
+
+use std::fmt;
+
+/// What the rules say of a call that they refuse, by the numbers F1 to F34 of `docs/RULES.md`. The node or the record is as before
+/// but at [`Refusal::Memory`], where a node that took batches is down.
+#[derive(Clone, Copy, Debug, PartialEq, Eq)]
+#[non_exhaustive]
+pub enum Refusal {
+    /// F1: fewer bytes than the batch needs.
+    Truncated,
+    /// F2: the format isn't 2.
+    BadMagic,
+    /// F3: the length field, or bytes behind the batch.
+    BadLength,
+    /// F4: the checksum differs.
+    BadCrc,
+    /// F5: the batch is compressed.
+    Compressed,
+    /// F6: an attribute that no client's batch has.
+    BadAttributes,
+    /// F7: a count, an offset or a time outside of its range.
+    BadCount,
+    /// F8: a record's bytes; the place of its first byte in the batch.
+    BadRecord(u64),
+    /// F9: more bytes than `max_batch`.
+    TooLarge,
+    /// F10: the producer's fields don't go together.
+    BadProducerFields,
+    /// F11: the producer's epoch is too low.
+    InvalidProducerEpoch,
+    /// F12: not the producer's next sequence number.
+    OutOfOrderSequence,
+    /// F13: the batch doesn't fit the producer's open transaction.
+    InvalidTxnState,
+    /// F14: a later coordinator has ended a transaction of the producer.
+    CoordinatorFenced,
+    /// F15: the node doesn't lead, or follows nobody.
+    NotLeader,
+    /// F16: no such offset to read.
+    OffsetOutOfRange,
+    /// F17: the request is of an earlier leader epoch.
+    FencedLeaderEpoch,
+    /// F18: the request is of a later leader epoch.
+    UnknownLeaderEpoch,
+    /// F19: no batch begins there.
+    NotBoundary,
+    /// F20: the place is settled.
+    BelowSettled,
+    /// F21: the node isn't in sync.
+    NotInSync,
+    /// F22: the record has moved on, or is no news.
+    StaleRecord,
+    /// F23: the node hasn't caught up.
+    NotCaughtUp,
+    /// F24: versions, epochs or lives are used up.
+    RecordFull,
+    /// F25: offsets are used up.
+    OffsetsExhausted,
+    /// F26: the batches don't follow the log.
+    NotNext,
+    /// F27: the leader epoch goes back.
+    EpochBack,
+    /// F28: the node is down; of a restart, it is up.
+    Down,
+    /// F29: the answer is to no present request.
+    StaleAnswer,
+    /// F30: a client sent a control batch.
+    ControlFromClient,
+    /// F33: memory was refused.
+    Memory,
+    /// F34: another in-sync change of the leader is pending.
+    ChangePending,
+    /// A refusal of the program's alone, which no call of the library gives: its number.
+    Other(u32),
+}
+
+impl Refusal {
+    fn of(number: u32, place: u64) -> Refusal {
+        match NAMED.iter().find(|(_, it)| it.number() == number) {
+            Some((_, Refusal::BadRecord(_))) => Refusal::BadRecord(place),
+            Some((_, found)) => *found,
+            None => Refusal::Other(number),
+        }
+    }
+
+    /// Its number, 1 to 34.
+    pub fn number(self) -> u32 {
+        match self {
+            Refusal::Memory => 33,
+            Refusal::ChangePending => 34,
+            Refusal::Other(number) => number,
+            found => NAMED.iter().position(|(_, it)| same_kind(*it, found)).map_or(0, |place| place as u32 + 1),
+        }
+    }
+
+    /// Its name in the rules.
+    pub fn name(self) -> &'static str {
+        NAMED.iter().find(|(_, it)| same_kind(*it, self)).map_or("Other", |(name, _)| name)
+    }
+}
+
+fn same_kind(one: Refusal, other: Refusal) -> bool {
+    std::mem::discriminant(&one) == std::mem::discriminant(&other)
+}
+
+// F1 to F30 in their order, and two more.
+const NAMED: [(&str, Refusal); 32] = [
+    ("Truncated", Refusal::Truncated),
+    ("BadMagic", Refusal::BadMagic),
+    ("BadLength", Refusal::BadLength),
+    ("BadCrc", Refusal::BadCrc),
+    ("Compressed", Refusal::Compressed),
+    ("BadAttributes", Refusal::BadAttributes),
+    ("BadCount", Refusal::BadCount),
+    ("BadRecord", Refusal::BadRecord(0)),
+    ("TooLarge", Refusal::TooLarge),
+    ("BadProducerFields", Refusal::BadProducerFields),
+    ("InvalidProducerEpoch", Refusal::InvalidProducerEpoch),
+    ("OutOfOrderSequence", Refusal::OutOfOrderSequence),
+    ("InvalidTxnState", Refusal::InvalidTxnState),
+    ("CoordinatorFenced", Refusal::CoordinatorFenced),
+    ("NotLeader", Refusal::NotLeader),
+    ("OffsetOutOfRange", Refusal::OffsetOutOfRange),
+    ("FencedLeaderEpoch", Refusal::FencedLeaderEpoch),
+    ("UnknownLeaderEpoch", Refusal::UnknownLeaderEpoch),
+    ("NotBoundary", Refusal::NotBoundary),
+    ("BelowSettled", Refusal::BelowSettled),
+    ("NotInSync", Refusal::NotInSync),
+    ("StaleRecord", Refusal::StaleRecord),
+    ("NotCaughtUp", Refusal::NotCaughtUp),
+    ("RecordFull", Refusal::RecordFull),
+    ("OffsetsExhausted", Refusal::OffsetsExhausted),
+    ("NotNext", Refusal::NotNext),
+    ("EpochBack", Refusal::EpochBack),
+    ("Down", Refusal::Down),
+    ("StaleAnswer", Refusal::StaleAnswer),
+    ("ControlFromClient", Refusal::ControlFromClient),
+    ("Memory", Refusal::Memory),
+    ("ChangePending", Refusal::ChangePending),
+];
+
+/// Why a call gave nothing.
+#[derive(Clone, Copy, Debug, PartialEq, Eq)]
+#[non_exhaustive]
+pub enum Error {
+    /// The rules refuse it.
+    Refused(Refusal),
+    /// The memory that the call needs before it does anything was refused. Nothing has happened: try again later.
+    NoRoom,
+    /// A number is outside of its range: a node that the cluster hasn't got, more than seven nodes, a field of a marker.
+    OutOfRange,
+    /// More bytes than a batch may have, or fewer places than bytes.
+    BadLength,
+    /// The pass or the message is of another cluster. Nothing has happened.
+    OtherCluster,
+    /// The system gave no thread for a worker; those that were started have ended.
+    NoThread,
+    /// The library says that a handle is closed, or of another kind, which these types exclude: its number.
+    Misuse(u32),
+}
+
+impl Error {
+    pub(crate) fn of(number: u32, place: u64) -> Error {
+        match number {
+            68 => Error::NoRoom,
+            69 => Error::OutOfRange,
+            70 => Error::BadLength,
+            65.. => Error::Misuse(number),
+            _ => Error::Refused(Refusal::of(number, place)),
+        }
+    }
+
+    /// Whether memory was refused: the same call may pass later.
+    pub fn is_memory(self) -> bool {
+        matches!(self, Error::NoRoom | Error::Refused(Refusal::Memory))
+    }
+}
+
+impl From<Refusal> for Error {
+    fn from(refusal: Refusal) -> Error {
+        Error::Refused(refusal)
+    }
+}
+
+impl fmt::Display for Refusal {
+    fn fmt(&self, out: &mut fmt::Formatter<'_>) -> fmt::Result {
+        write!(out, "F{} {}", self.number(), self.name())?;
+        match self {
+            Refusal::BadRecord(place) => write!(out, " {place}"),
+            _ => Ok(()),
+        }
+    }
+}
+
+impl fmt::Display for Error {
+    fn fmt(&self, out: &mut fmt::Formatter<'_>) -> fmt::Result {
+        match self {
+            Error::Refused(refusal) => refusal.fmt(out),
+            Error::NoRoom => out.write_str("memory was refused"),
+            Error::OutOfRange => out.write_str("a number is outside of its range"),
+            Error::BadLength => out.write_str("too many bytes, or too few places"),
+            Error::NoThread => out.write_str("the system gave no thread"),
+            Error::OtherCluster => out.write_str("the pass or the message is of another cluster"),
+            Error::Misuse(number) => write!(out, "misuse {number}"),
+        }
+    }
+}
+
+impl std::error::Error for Error {}
+
+#[cfg(test)]
+mod tests {
+    use super::*;
+
+    #[test]
+    fn numbers_and_names_are_the_librarys() {
+        for number in (1..=30).chain(33..=34) {
+            let Error::Refused(refusal) = Error::of(number, 61) else { panic!("no refusal") };
+            assert_eq!(refusal.number(), number);
+            assert_eq!(format!("F{number} {}", refusal.name()), crate::ffi::text(number));
+        }
+        assert_eq!(Error::of(8, 61).to_string(), "F8 BadRecord 61");
+        assert_eq!(Error::of(32, 0), Error::Refused(Refusal::Other(32)));
+        assert!(Error::of(33, 0).is_memory() && Error::of(68, 0).is_memory());
+    }
+}

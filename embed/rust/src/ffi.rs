@@ -1,0 +1,451 @@
+//! The library's C functions, and all of this crate's `unsafe`.
+//!
+//! What the library asks of its callers stands in `embed/kpart.h`, and is kept by these types alone:
+//!
+//! - **A handle is all zero, or was written by the library.** `Handle` is made closed, and its fields are private to this module.
+//! - **No two calls have one handle at a time.** Each call borrows its handles by `&mut`, so also no two parameters are one handle.
+//! - **The handles of a call are of one cluster.** Each typed handle knows its cluster's number, and a call of two tests them first.
+//! - **A handle is closed once, and never used afterwards.** `Drop` closes it.
+//!
+//! No call is made from a signal handler or in the forked child of a process with threads unless other `unsafe` code does so.
+
+use crate::error::Error;
+use std::sync::atomic::{AtomicU64, Ordering};
+
+/// The sizes of the nodes' logs.
+#[derive(Clone, Copy, Debug, PartialEq, Eq)]
+#[repr(C)]
+pub struct Limits {
+    /// The most bytes of a segment that has more than one batch.
+    pub segment_bytes: u32,
+    /// How many bytes lie between two entries of a segment's indexes.
+    pub index_interval: u32,
+    /// The most bytes of a batch; a longer one is refused by F9.
+    pub max_batch: u32,
+}
+
+#[repr(C)]
+#[derive(Clone, Copy, Default)]
+pub(crate) struct RoleOut {
+    pub start: u64,
+    pub epoch: u32,
+    pub leader: u8,
+    pub leads: bool,
+}
+
+#[repr(C)]
+#[derive(Clone, Copy, Default)]
+pub(crate) struct RecordOut {
+    pub version: u32,
+    pub epoch: u32,
+    pub leader: u8,
+    pub elected: bool,
+    pub in_sync: [bool; 7],
+}
+
+#[repr(C)]
+#[derive(Clone, Copy, Default)]
+pub(crate) struct RestartOut {
+    pub life: u64,
+    pub end: u64,
+    pub watermark: u64,
+}
+
+#[repr(C)]
+#[derive(Clone, Copy, Default)]
+pub(crate) struct ReceiptOut {
+    pub base: u64,
+    pub last: u64,
+    pub place: u64,
+    pub epoch: u32,
+    pub duplicate: bool,
+}
+
+#[repr(C)]
+#[derive(Clone, Copy)]
+pub(crate) struct MarkerIn {
+    pub producer_id: u64,
+    pub timestamp: u64,
+    pub coordinator_epoch: u32,
+    pub producer_epoch: u16,
+    pub commits: bool,
+}
+
+#[repr(C)]
+#[derive(Clone, Copy, Default)]
+pub(crate) struct ValueOut {
+    pub offset: u64,
+    pub size: usize,
+    pub null: bool,
+}
+
+// Closed where all is zero; else it owns what lies at its pointer.
+#[derive(Debug)]
+#[repr(C)]
+struct Handle {
+    at: *mut u8,
+    state: u64,
+}
+
+unsafe extern "C" {
+    fn kp_open(cluster: &mut Handle, nodes: u8, limits: &Limits) -> u32;
+    fn kp_open_node(cluster: &mut Handle, node: &mut Handle) -> u32;
+    fn kp_open_pass(cluster: &mut Handle, pass: &mut Handle) -> u32;
+    fn kp_close(handle: &mut Handle) -> u32;
+
+    fn kp_elect(pass: &mut Handle, node: u8, found: &mut RecordOut) -> u32;
+    fn kp_record(pass: &mut Handle, found: &mut RecordOut) -> u32;
+    fn kp_watermark(pass: &mut Handle, node: u8, offset: &mut u64) -> u32;
+    fn kp_decide(pass: &mut Handle, message: &mut Handle) -> u32;
+
+    fn kp_adopt(node: &mut Handle, role: &mut RoleOut) -> u32;
+    fn kp_raise(node: &mut Handle, offset: &mut u64) -> u32;
+    fn kp_checkpoint(node: &mut Handle, offset: &mut u64) -> u32;
+    fn kp_stop(node: &mut Handle) -> u32;
+    fn kp_restart(node: &mut Handle, restarted: &mut RestartOut) -> u32;
+    fn kp_ask(node: &mut Handle, message: &mut Handle) -> u32;
+    fn kp_alter(node: &mut Handle, joins: bool, which: u8, message: &mut Handle) -> u32;
+    fn kp_step(node: &mut Handle, message: &mut Handle) -> u32;
+
+    fn kp_produce(node: &mut Handle, pass: &mut Handle, bytes: *const u8, count: usize, receipt: &mut ReceiptOut) -> u32;
+    fn kp_mark(node: &mut Handle, pass: &mut Handle, marker: &MarkerIn, receipt: &mut ReceiptOut) -> u32;
+    fn kp_acked(node: &mut Handle, pass: &mut Handle, receipt: &ReceiptOut, ack: &mut u32) -> u32;
+    fn kp_read(node: &mut Handle, pass: &mut Handle, from: u64, batches: &mut Handle) -> u32;
+
+    fn kp_read_committed(node: &mut Handle, pass: &mut Handle, from: u64, records: &mut Handle) -> u32;
+    fn kp_segments(node: &mut Handle, segments: &mut Handle) -> u32;
+
+    fn kp_count(handle: &mut Handle, found: &mut usize) -> u32;
+    fn kp_batch_size(batches: &mut Handle, index: usize, size: &mut u32) -> u32;
+    fn kp_batch(batches: &mut Handle, index: usize, to: *mut u8, count: usize) -> u32;
+    fn kp_committed(records: &mut Handle, index: usize, found: &mut ValueOut) -> u32;
+    fn kp_value(records: &mut Handle, index: usize, to: *mut u8, count: usize) -> u32;
+    fn kp_segment(segments: &mut Handle, index: usize, name: *mut u8, count: usize, batches: &mut Handle) -> u32;
+    fn kp_addressee(message: &mut Handle, node: &mut u8) -> u32;
+
+    #[cfg(test)]
+    fn kp_text(number: u32, to: *mut u8, count: usize) -> usize;
+}
+
+// SAFETY: the library's own handle is Send, whatever it holds: `unsafe impl Send for Handle` in `crates/kp_embed/src/handle.rt`, which is
+// proved. It asks that calls with one handle in two threads come one after the other; whoever has it by `&mut` came by it through a
+// lock, a channel, or the start or end of a thread.
+unsafe impl Send for Handle {}
+
+// SAFETY: nothing can be done with a `&Handle` but to read its two words, which are plain: each call takes a `&mut Handle`.
+unsafe impl Sync for Handle {}
+
+impl Handle {
+    const fn closed() -> Handle {
+        Handle { at: std::ptr::null_mut(), state: 0 }
+    }
+
+    fn is_open(&self) -> bool {
+        self.state != 0
+    }
+}
+
+impl Drop for Handle {
+    fn drop(&mut self) {
+        if self.is_open() {
+            // SAFETY: the handle is the library's, nobody else has it, and it isn't used again.
+            unsafe { kp_close(self) };
+        }
+    }
+}
+
+fn answered(number: u32) -> Result<(), Error> {
+    if number == 0 { Ok(()) } else { Err(Error::of(number, 0)) }
+}
+
+// Whether two handles are of one cluster.
+fn of_one(one: u64, other: u64) -> Result<(), Error> {
+    if one == other { Ok(()) } else { Err(Error::OtherCluster) }
+}
+
+static CLUSTERS: AtomicU64 = AtomicU64::new(0);
+
+/// A board, the passes of its nodes that aren't open yet, and the logs' sizes.
+#[derive(Debug)]
+pub(crate) struct RawCluster {
+    handle: Handle,
+    cluster: u64,
+}
+
+/// A node.
+#[derive(Debug)]
+pub(crate) struct RawNode {
+    handle: Handle,
+    cluster: u64,
+}
+
+/// A caller's pass.
+#[derive(Debug)]
+pub(crate) struct RawPass {
+    handle: Handle,
+    cluster: u64,
+}
+
+/// A message that was sent.
+#[derive(Debug)]
+pub(crate) struct RawMessage {
+    handle: Handle,
+    cluster: u64,
+}
+
+/// Batches that were read.
+#[derive(Debug)]
+pub(crate) struct RawBatches {
+    handle: Handle,
+}
+
+/// Records, as a read-committed consumer gets them.
+#[derive(Debug)]
+pub(crate) struct RawRecords {
+    handle: Handle,
+}
+
+/// A node's log as segments.
+#[derive(Debug)]
+pub(crate) struct RawSegments {
+    handle: Handle,
+}
+
+impl RawCluster {
+    pub(crate) fn open(nodes: u8, limits: &Limits) -> Result<RawCluster, Error> {
+        let mut handle = Handle::closed();
+        // SAFETY: the handle is closed.
+        answered(unsafe { kp_open(&mut handle, nodes, limits) })?;
+        let cluster = CLUSTERS.fetch_add(1, Ordering::Relaxed);
+        Ok(RawCluster { handle, cluster })
+    }
+
+    pub(crate) fn node(&mut self) -> Result<RawNode, Error> {
+        let mut handle = Handle::closed();
+        // SAFETY: one handle is the library's, the other is closed.
+        answered(unsafe { kp_open_node(&mut self.handle, &mut handle) })?;
+        Ok(RawNode { handle, cluster: self.cluster })
+    }
+
+    pub(crate) fn pass(&mut self) -> Result<RawPass, Error> {
+        let mut handle = Handle::closed();
+        // SAFETY: one handle is the library's, the other is closed.
+        answered(unsafe { kp_open_pass(&mut self.handle, &mut handle) })?;
+        Ok(RawPass { handle, cluster: self.cluster })
+    }
+}
+
+impl RawPass {
+    pub(crate) fn elect(&mut self, node: u8) -> Result<RecordOut, Error> {
+        let mut found = RecordOut::default();
+        // SAFETY: the handle is the library's.
+        answered(unsafe { kp_elect(&mut self.handle, node, &mut found) })?;
+        Ok(found)
+    }
+
+    pub(crate) fn record(&mut self) -> Result<RecordOut, Error> {
+        let mut found = RecordOut::default();
+        // SAFETY: the handle is the library's.
+        answered(unsafe { kp_record(&mut self.handle, &mut found) })?;
+        Ok(found)
+    }
+
+    pub(crate) fn watermark(&mut self, node: u8) -> Result<u64, Error> {
+        let mut offset = 0;
+        // SAFETY: the handle is the library's.
+        answered(unsafe { kp_watermark(&mut self.handle, node, &mut offset) })?;
+        Ok(offset)
+    }
+
+    /// The decision on a proposal.
+    pub(crate) fn decide(&mut self, mut message: RawMessage) -> Result<RawMessage, Error> {
+        of_one(self.cluster, message.cluster)?;
+        // SAFETY: both handles are the library's, and of one cluster.
+        answered(unsafe { kp_decide(&mut self.handle, &mut message.handle) })?;
+        Ok(message)
+    }
+}
+
+impl RawNode {
+    pub(crate) fn adopt(&mut self) -> Result<RoleOut, Error> {
+        let mut role = RoleOut::default();
+        // SAFETY: the handle is the library's.
+        answered(unsafe { kp_adopt(&mut self.handle, &mut role) })?;
+        Ok(role)
+    }
+
+    pub(crate) fn raise(&mut self) -> Result<u64, Error> {
+        let mut offset = 0;
+        // SAFETY: the handle is the library's.
+        answered(unsafe { kp_raise(&mut self.handle, &mut offset) })?;
+        Ok(offset)
+    }
+
+    pub(crate) fn checkpoint(&mut self) -> Result<u64, Error> {
+        let mut offset = 0;
+        // SAFETY: the handle is the library's.
+        answered(unsafe { kp_checkpoint(&mut self.handle, &mut offset) })?;
+        Ok(offset)
+    }
+
+    pub(crate) fn stop(&mut self) -> Result<(), Error> {
+        // SAFETY: the handle is the library's.
+        answered(unsafe { kp_stop(&mut self.handle) })
+    }
+
+    pub(crate) fn restart(&mut self) -> Result<RestartOut, Error> {
+        let mut restarted = RestartOut::default();
+        // SAFETY: the handle is the library's.
+        answered(unsafe { kp_restart(&mut self.handle, &mut restarted) })?;
+        Ok(restarted)
+    }
+
+    pub(crate) fn ask(&mut self) -> Result<RawMessage, Error> {
+        let mut handle = Handle::closed();
+        // SAFETY: one handle is the library's, the other is closed.
+        answered(unsafe { kp_ask(&mut self.handle, &mut handle) })?;
+        Ok(RawMessage { handle, cluster: self.cluster })
+    }
+
+    pub(crate) fn alter(&mut self, joins: bool, which: u8) -> Result<RawMessage, Error> {
+        let mut handle = Handle::closed();
+        // SAFETY: one handle is the library's, the other is closed.
+        answered(unsafe { kp_alter(&mut self.handle, joins, which, &mut handle) })?;
+        Ok(RawMessage { handle, cluster: self.cluster })
+    }
+
+    /// The answer to the message, where there is one.
+    pub(crate) fn step(&mut self, mut message: RawMessage) -> Result<Option<RawMessage>, Error> {
+        of_one(self.cluster, message.cluster)?;
+        // SAFETY: both handles are the library's, and of one cluster.
+        answered(unsafe { kp_step(&mut self.handle, &mut message.handle) })?;
+        Ok(message.handle.is_open().then_some(message))
+    }
+
+    pub(crate) fn produce(&mut self, pass: &mut RawPass, bytes: &[u8]) -> Result<ReceiptOut, Error> {
+        of_one(self.cluster, pass.cluster)?;
+        let mut receipt = ReceiptOut::default();
+        // SAFETY: both handles are the library's, and of one cluster; the pointer and the count are a slice's.
+        let number = unsafe { kp_produce(&mut self.handle, &mut pass.handle, bytes.as_ptr(), bytes.len(), &mut receipt) };
+        if number == 0 { Ok(receipt) } else { Err(Error::of(number, receipt.place)) }
+    }
+
+    pub(crate) fn mark(&mut self, pass: &mut RawPass, marker: &MarkerIn) -> Result<ReceiptOut, Error> {
+        of_one(self.cluster, pass.cluster)?;
+        let mut receipt = ReceiptOut::default();
+        // SAFETY: both handles are the library's, and of one cluster.
+        answered(unsafe { kp_mark(&mut self.handle, &mut pass.handle, marker, &mut receipt) })?;
+        Ok(receipt)
+    }
+
+    pub(crate) fn acked(&mut self, pass: &mut RawPass, receipt: &ReceiptOut) -> Result<u32, Error> {
+        of_one(self.cluster, pass.cluster)?;
+        let mut ack = 0;
+        // SAFETY: both handles are the library's, and of one cluster.
+        answered(unsafe { kp_acked(&mut self.handle, &mut pass.handle, receipt, &mut ack) })?;
+        Ok(ack)
+    }
+
+    pub(crate) fn read(&mut self, pass: &mut RawPass, from: u64) -> Result<RawBatches, Error> {
+        of_one(self.cluster, pass.cluster)?;
+        let mut handle = Handle::closed();
+        // SAFETY: two handles are the library's, and of one cluster; the third is closed.
+        answered(unsafe { kp_read(&mut self.handle, &mut pass.handle, from, &mut handle) })?;
+        Ok(RawBatches { handle })
+    }
+
+    pub(crate) fn read_committed(&mut self, pass: &mut RawPass, from: u64) -> Result<RawRecords, Error> {
+        of_one(self.cluster, pass.cluster)?;
+        let mut handle = Handle::closed();
+        // SAFETY: two handles are the library's, and of one cluster; the third is closed.
+        answered(unsafe { kp_read_committed(&mut self.handle, &mut pass.handle, from, &mut handle) })?;
+        Ok(RawRecords { handle })
+    }
+
+    pub(crate) fn segments(&mut self) -> Result<RawSegments, Error> {
+        let mut handle = Handle::closed();
+        // SAFETY: one handle is the library's, the other is closed.
+        answered(unsafe { kp_segments(&mut self.handle, &mut handle) })?;
+        Ok(RawSegments { handle })
+    }
+}
+
+// How many batches, records or segments stand in the handle.
+fn count(handle: &mut Handle) -> Result<usize, Error> {
+    let mut found = 0;
+    // SAFETY: the handle is the library's.
+    answered(unsafe { kp_count(handle, &mut found) })?;
+    Ok(found)
+}
+
+impl RawMessage {
+    /// The number of the node that it goes to, or 255 for the controller.
+    pub(crate) fn addressee(&mut self) -> Result<u8, Error> {
+        let mut found = 0;
+        // SAFETY: the handle is the library's.
+        answered(unsafe { kp_addressee(&mut self.handle, &mut found) })?;
+        Ok(found)
+    }
+}
+
+impl RawRecords {
+    pub(crate) fn count(&mut self) -> Result<usize, Error> {
+        count(&mut self.handle)
+    }
+
+    /// A record's offset, how many bytes its value has, and whether it is null.
+    pub(crate) fn record(&mut self, index: usize) -> Result<ValueOut, Error> {
+        let mut found = ValueOut::default();
+        // SAFETY: the handle is the library's.
+        answered(unsafe { kp_committed(&mut self.handle, index, &mut found) })?;
+        Ok(found)
+    }
+
+    /// Copies a record's value to the front of the place.
+    pub(crate) fn copy(&mut self, index: usize, to: &mut [u8]) -> Result<(), Error> {
+        // SAFETY: the handle is the library's; the pointer and the count are a slice's.
+        answered(unsafe { kp_value(&mut self.handle, index, to.as_mut_ptr(), to.len()) })
+    }
+}
+
+impl RawSegments {
+    pub(crate) fn count(&mut self) -> Result<usize, Error> {
+        count(&mut self.handle)
+    }
+
+    /// Writes the name of a segment's file, and gives the segment's batches.
+    pub(crate) fn segment(&mut self, index: usize, name: &mut [u8]) -> Result<RawBatches, Error> {
+        let mut handle = Handle::closed();
+        // SAFETY: one handle is the library's, the other is closed; the pointer and the count are a slice's.
+        answered(unsafe { kp_segment(&mut self.handle, index, name.as_mut_ptr(), name.len(), &mut handle) })?;
+        Ok(RawBatches { handle })
+    }
+}
+
+impl RawBatches {
+    pub(crate) fn count(&mut self) -> Result<usize, Error> {
+        count(&mut self.handle)
+    }
+
+    pub(crate) fn size(&mut self, index: usize) -> Result<usize, Error> {
+        let mut size = 0;
+        // SAFETY: the handle is the library's.
+        answered(unsafe { kp_batch_size(&mut self.handle, index, &mut size) })?;
+        Ok(size as usize)
+    }
+
+    /// Copies a batch to the front of the place.
+    pub(crate) fn copy(&mut self, index: usize, to: &mut [u8]) -> Result<(), Error> {
+        // SAFETY: the handle is the library's; the pointer and the count are a slice's.
+        answered(unsafe { kp_batch(&mut self.handle, index, to.as_mut_ptr(), to.len()) })
+    }
+}
+
+/// The library's name of what a call answers.
+#[cfg(test)]
+pub(crate) fn text(number: u32) -> String {
+    let mut bytes = [0; 64];
+    // SAFETY: the pointer and the count are an array's.
+    let count = unsafe { kp_text(number, bytes.as_mut_ptr(), bytes.len()) };
+    String::from_utf8_lossy(&bytes[..count]).into_owned()
+}

@@ -1,0 +1,95 @@
+//! A replicated partition log with the rules of Apache Kafka, whose code is proved, for Rust services.
+//!
+//! A [`Cluster`] has one to seven nodes in this process. An election names a leader, which takes batches from producers; followers
+//! ask it for what they lack; and once all that are in sync have a batch, it is *committed*: no election, restart or late message
+//! takes it back. What each call does is proved of the library that this crate calls (`docs/PROOFS.md`); this crate adds types by
+//! which safe Rust can't break what the library asks of its callers, and threads that carry the messages ([`Workers`]).
+//!
+//! | You want | Take |
+//! |---|---|
+//! | nodes, and who leads | [`Cluster`], [`Pass::elect`], [`Node::adopt`] |
+//! | to hand in a batch, and to know that it stays | [`Node::produce`], [`Node::acked`] |
+//! | to read what is committed, batch by batch | [`Node::read`] |
+//! | to read records, none of an aborted transaction | [`Node::read_committed`] |
+//! | to keep a node's log as files | [`Node::segments`] |
+//! | followers to replicate | [`Workers`], or [`Node::ask`] and [`Node::step`] by hand |
+//! | a slow node out of the in-sync set | [`Workers::propose`], or [`Node::alter`] and [`Pass::decide`] |
+//!
+//! Three nodes, with a worker each, and a batch that is committed on all of them:
+//!
+//! ```
+//! use kpart::{Ack, Cluster, Limits, Workers};
+//! use std::time::Duration;
+//!
+//! # fn main() -> Result<(), kpart::Error> {
+//! let cluster = Cluster::open(3, Limits::default())?;
+//! let mut pass = cluster.pass()?;
+//! pass.elect(0)?;
+//! cluster.node(0)?.adopt()?;
+//! let workers = Workers::start(&cluster, Duration::from_millis(1))?;
+//!
+//! let batch = include_bytes!(concat!(env!("CARGO_MANIFEST_DIR"), "/tests/one_record.batch"));
+//! let receipt = cluster.node(0)?.produce(&mut pass, batch)?;
+//! while cluster.node(0)?.acked(&mut pass, &receipt)? != Ack::Yes {
+//!     std::thread::sleep(Duration::from_millis(1));
+//! }
+//! while pass.watermark(2)? <= receipt.last {
+//!     std::thread::sleep(Duration::from_millis(1)); // node 2 has it already, and hears soon that it is committed
+//! }
+//! let read: Vec<Vec<u8>> = cluster.node(2)?.read(&mut pass, 0)?.collect::<Result<_, _>>()?;
+//! assert_eq!(read[0][16..], batch[16..]);
+//! workers.stop();
+//! # Ok(()) }
+//! ```
+//!
+//! What the library asks of its callers, the types keep. A message is used up by the node that takes it:
+//!
+//! ```compile_fail,E0382
+//! # fn main() -> Result<(), kpart::Error> {
+//! let cluster = kpart::Cluster::open(2, kpart::Limits::default())?;
+//! let request = cluster.node(1)?.ask()?;
+//! cluster.node(0)?.step(request)?;
+//! cluster.node(0)?.step(request)?; // it is gone
+//! # Ok(()) }
+//! ```
+//!
+//! and two threads can't call with one pass:
+//!
+//! ```compile_fail,E0499
+//! # fn main() -> Result<(), kpart::Error> {
+//! let cluster = kpart::Cluster::open(1, kpart::Limits::default())?;
+//! let mut pass = cluster.pass()?;
+//! std::thread::scope(|scope| {
+//!     scope.spawn(|| pass.elect(0).is_ok());
+//!     scope.spawn(|| pass.record().is_ok()); // each thread has its own pass
+//! });
+//! # Ok(()) }
+//! ```
+//!
+//! Nothing is promised about progress or time: whether a batch is ever committed depends on the messages that are carried.
+
+#![deny(unsafe_code)]
+#![warn(missing_docs)]
+
+mod batches;
+mod cluster;
+mod error;
+#[allow(unsafe_code)]
+mod ffi;
+mod message;
+mod node;
+mod records;
+mod segments;
+mod values;
+mod workers;
+
+pub use batches::Batches;
+pub use cluster::{Cluster, Pass};
+pub use error::{Error, Refusal};
+pub use ffi::Limits;
+pub use message::{Addressee, Message};
+pub use node::Node;
+pub use records::{CommittedRecord, Records};
+pub use segments::{Segment, Segments};
+pub use values::{Ack, Change, Marker, Receipt, Record, Restarted, Role};
+pub use workers::Workers;

@@ -1,0 +1,125 @@
+//! A node whose lock is held.
+
+use crate::batches::Batches;
+use crate::cluster::Pass;
+use crate::error::Error;
+use crate::ffi::{MarkerIn, RawNode, ReceiptOut};
+use crate::message::Message;
+use crate::records::Records;
+use crate::segments::Segments;
+use crate::values::{Ack, Change, Marker, Receipt, Restarted, Role};
+use std::sync::MutexGuard;
+
+/// A node, as long as its lock is held: drop it to let others in. Each call is one event of the run; a node that is down refuses all
+/// but [`Node::restart`] by F28.
+#[derive(Debug)]
+pub struct Node<'a> {
+    number: u8,
+    raw: MutexGuard<'a, RawNode>,
+}
+
+impl<'a> Node<'a> {
+    pub(crate) fn new(number: u8, raw: MutexGuard<'a, RawNode>) -> Node<'a> {
+        Node { number, raw }
+    }
+
+    /// Its number.
+    pub fn number(&self) -> u8 {
+        self.number
+    }
+
+    /// Takes up the controller's record, and says what the node is now. F22 where it is no news; a leader that was restarted has to
+    /// be elected anew. O(1).
+    pub fn adopt(&mut self) -> Result<Role, Error> {
+        self.raw.adopt().map(Role::from)
+    }
+
+    /// Raises the high watermark as far as all counted replicas have reported, and says where it is. F15 where the node doesn't
+    /// lead. O(1), and O(1) for each batch that is committed by it.
+    pub fn raise(&mut self) -> Result<u64, Error> {
+        self.raw.raise()
+    }
+
+    /// Notes the high watermark: a restart begins there. O(1).
+    pub fn checkpoint(&mut self) -> Result<u64, Error> {
+        self.raw.checkpoint()
+    }
+
+    /// Stops the node, which keeps its log and its checkpoint. O(1).
+    pub fn stop(&mut self) -> Result<(), Error> {
+        self.raw.stop()
+    }
+
+    /// Starts a node that is down: F28 where it is up. Its high watermark is the checkpoint; it leads and follows nobody until it
+    /// adopts. F33 leaves it down. O(n) in its log.
+    pub fn restart(&mut self) -> Result<Restarted, Error> {
+        self.raw.restart().map(Restarted::from)
+    }
+
+    /// A follower asks its leader for what comes behind its log. F15 where it follows nobody. O(1), and no memory but the handle's.
+    pub fn ask(&mut self) -> Result<Message, Error> {
+        Message::new(self.raw.ask()?)
+    }
+
+    /// A leader proposes a change of the in-sync replicas to the controller. F15, F21, F23; F34 where another change is pending.
+    /// O(1).
+    pub fn alter(&mut self, change: Change) -> Result<Message, Error> {
+        let raw = match change {
+            Change::Join(which) => self.raw.alter(true, which)?,
+            Change::Leave(which) => self.raw.alter(false, which)?,
+        };
+        Message::new(raw)
+    }
+
+    /// Takes a message in: a leader answers a request, a follower takes the answer's batches or cuts its log, a leader learns a
+    /// decision. The message is spent, also where it is refused. F33 where batches were to be taken leaves the node down: restart
+    /// it. O(1) for each batch.
+    pub fn step(&mut self, message: Message) -> Result<Option<Message>, Error> {
+        self.raw.step(message.raw)?.map(Message::new).transpose()
+    }
+
+    /// Hands a leader a batch of a client: format 2, not compressed, with whatever base offset and leader epoch, which the leader
+    /// stamps. The bytes are copied once, read and summed. A batch that an idempotent producer hands in twice is appended once, and
+    /// its receipt names the one that stands, so trying again is safe. F1 to F13, F15, F25, F30, F33. O(n) in the bytes.
+    pub fn produce(&mut self, pass: &mut Pass, batch: &[u8]) -> Result<Receipt, Error> {
+        self.raw.produce(&mut pass.raw, batch).map(Receipt::from)
+    }
+
+    /// Hands a leader a transaction's marker. F11, F14, F15, F25, F33; [`Error::OutOfRange`] where a field is outside of its range.
+    /// O(1).
+    pub fn mark(&mut self, pass: &mut Pass, marker: &Marker) -> Result<Receipt, Error> {
+        self.raw.mark(&mut pass.raw, &MarkerIn::from(marker)).map(Receipt::from)
+    }
+
+    /// Whether the receipt's batch is committed, as far as this node knows. At [`Ack::Yes`] it stands in the one committed list, and
+    /// in every list that is read later, at any node. O(log n) in the log, and no memory.
+    pub fn acked(&mut self, pass: &mut Pass, receipt: &Receipt) -> Result<Ack, Error> {
+        Ok(match self.raw.acked(&mut pass.raw, &ReceiptOut::from(receipt))? {
+            1 => Ack::Yes,
+            2 => Ack::Lost,
+            _ => Ack::NotYet,
+        })
+    }
+
+    /// Committed batches from the one that holds the offset on: as many as fit into 1 MiB, but at least one where there is one;
+    /// none where the offset isn't committed yet. F16 above the node's log end, F33. O(log n) in the log, O(1) for each batch, as
+    /// they are shared, not copied.
+    pub fn read(&mut self, pass: &mut Pass, from: u64) -> Result<Batches, Error> {
+        let raw = self.raw.read(&mut pass.raw, from)?;
+        Batches::new(raw)
+    }
+
+    /// The records from an offset on that a read-committed consumer gets of this node: those below its last stable offset that no
+    /// aborted transaction has. F16 above the node's log end, F33. O(n) in the log from there on; values are copied once.
+    pub fn read_committed(&mut self, pass: &mut Pass, from: u64) -> Result<Records, Error> {
+        let raw = self.raw.read_committed(&mut pass.raw, from)?;
+        Records::new(raw)
+    }
+
+    /// The node's log as the segments that a broker would keep as files, also of a node that is down, and also what isn't committed.
+    /// F33. O(n) in the log's batches, which are shared, not copied.
+    pub fn segments(&mut self) -> Result<Segments, Error> {
+        let raw = self.raw.segments()?;
+        Segments::new(raw)
+    }
+}

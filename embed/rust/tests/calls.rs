@@ -1,0 +1,247 @@
+//! Each call once, and what the types refuse.
+
+use kpart::{Ack, Addressee, Change, Cluster, CommittedRecord, Error, Limits, Marker, Message, Pass, Record, Refusal, Role, Segment};
+
+const ONE_RECORD: &[u8] = include_bytes!("one_record.batch");
+// Of producer 12's transaction: the values 'paid' and null.
+const TRANSACTION: &[u8] = include_bytes!("transaction.batch");
+// Of producer 13's transaction: the value 'withdrawn'.
+const ABORTED: &[u8] = include_bytes!("aborted.batch");
+
+type Done = Result<(), Error>;
+
+fn opened(nodes: u8) -> Result<(Cluster, Pass), Error> {
+    let cluster = Cluster::open(nodes, Limits::default())?;
+    let pass = cluster.pass()?;
+    Ok((cluster, pass))
+}
+
+fn led(nodes: u8) -> Result<(Cluster, Pass), Error> {
+    let (cluster, mut pass) = opened(nodes)?;
+    pass.elect(0)?;
+    for number in 0..nodes {
+        cluster.node(number)?.adopt()?;
+    }
+    Ok((cluster, pass))
+}
+
+// Hands a message on until nobody answers.
+fn carry(cluster: &Cluster, pass: &mut Pass, message: Message) -> Done {
+    let mut under_way = Some(message);
+    while let Some(message) = under_way.take() {
+        under_way = match message.addressee() {
+            Addressee::Node(number) => cluster.node(number)?.step(message)?,
+            Addressee::Controller => Some(pass.decide(message)?),
+        };
+    }
+    Ok(())
+}
+
+fn replicate(cluster: &Cluster, pass: &mut Pass, follower: u8) -> Done {
+    let request = cluster.node(follower)?.ask()?;
+    carry(cluster, pass, request)
+}
+
+fn bytes_read(cluster: &Cluster, pass: &mut Pass, node: u8) -> Result<Vec<Vec<u8>>, Error> {
+    cluster.node(node)?.read(pass, 0)?.collect()
+}
+
+#[test]
+fn a_batch_is_replicated_and_committed() -> Done {
+    let (cluster, mut pass) = led(2)?;
+    let receipt = cluster.node(0)?.produce(&mut pass, ONE_RECORD)?;
+    assert_eq!((receipt.base, receipt.last, receipt.epoch, receipt.duplicate), (0, 0, 0, false));
+    replicate(&cluster, &mut pass, 1)?;
+    assert_eq!(cluster.node(0)?.raise()?, 0);
+    assert_eq!(cluster.node(0)?.acked(&mut pass, &receipt)?, Ack::NotYet);
+    replicate(&cluster, &mut pass, 1)?; // tells the leader that it has it
+    assert_eq!(cluster.node(0)?.raise()?, 1);
+    assert_eq!(cluster.node(0)?.acked(&mut pass, &receipt)?, Ack::Yes);
+    replicate(&cluster, &mut pass, 1)?; // learns that it is committed
+    assert_eq!(pass.watermark(1)?, 1);
+    for node in [0, 1] {
+        let read = bytes_read(&cluster, &mut pass, node)?;
+        assert_eq!((read.len(), &read[0][16..]), (1, &ONE_RECORD[16..]));
+    }
+    Ok(())
+}
+
+#[test]
+fn a_lost_batch_is_handed_in_again() -> Done {
+    let (cluster, mut pass) = led(2)?;
+    let lost = cluster.node(0)?.produce(&mut pass, ONE_RECORD)?; // on node 0 alone
+    pass.elect(1)?;
+    assert_eq!(cluster.node(1)?.adopt()?, Role::Leads { epoch: 1, start: 0 });
+    let kept = cluster.node(1)?.produce(&mut pass, ONE_RECORD)?;
+    assert_eq!(cluster.node(0)?.adopt()?, Role::Follows { leader: 1, epoch: 1 });
+    for _ in 0..3 {
+        replicate(&cluster, &mut pass, 0)?; // cuts, takes, tells
+    }
+    assert_eq!(cluster.node(1)?.raise()?, 1);
+    assert_eq!(cluster.node(1)?.acked(&mut pass, &lost)?, Ack::Lost);
+    assert_eq!(cluster.node(1)?.acked(&mut pass, &kept)?, Ack::Yes);
+    Ok(())
+}
+
+#[test]
+fn in_sync_changes_go_by_the_controller() -> Done {
+    let (cluster, mut pass) = led(2)?;
+    let proposal = cluster.node(0)?.alter(Change::Leave(1))?;
+    let again = cluster.node(0)?.alter(Change::Leave(1))?;
+    assert_eq!(cluster.node(0)?.alter(Change::Leave(0)).err(), Some(Refusal::ChangePending.into()));
+    assert_eq!(proposal.addressee(), Addressee::Controller);
+    carry(&cluster, &mut pass, proposal)?;
+    assert!(!pass.record()?.has_in_sync(1));
+    assert_eq!(carry(&cluster, &mut pass, again), Err(Refusal::StaleAnswer.into())); // it learns nothing new
+    let receipt = cluster.node(0)?.produce(&mut pass, ONE_RECORD)?;
+    assert_eq!(cluster.node(0)?.raise()?, 1);
+    assert_eq!(cluster.node(0)?.acked(&mut pass, &receipt)?, Ack::Yes);
+    assert_eq!(pass.elect(1), Err(Refusal::NotInSync.into()));
+    assert_eq!(cluster.node(0)?.alter(Change::Join(1)).err(), Some(Refusal::NotCaughtUp.into()));
+    replicate(&cluster, &mut pass, 1)?;
+    replicate(&cluster, &mut pass, 1)?;
+    let proposal = cluster.node(0)?.alter(Change::Join(1))?;
+    carry(&cluster, &mut pass, proposal)?;
+    assert!(pass.record()?.has_in_sync(1));
+    Ok(())
+}
+
+#[test]
+fn a_node_stops_and_starts() -> Done {
+    let (cluster, mut pass) = led(1)?;
+    cluster.node(0)?.produce(&mut pass, ONE_RECORD)?;
+    cluster.node(0)?.raise()?;
+    assert_eq!(cluster.node(0)?.checkpoint()?, 1);
+    cluster.node(0)?.stop()?;
+    assert_eq!(cluster.node(0)?.read(&mut pass, 0).err(), Some(Refusal::Down.into()));
+    let restarted = cluster.node(0)?.restart()?;
+    assert_eq!((restarted.life, restarted.end, restarted.watermark), (1, 1, 1));
+    assert_eq!(cluster.node(0)?.adopt(), Err(Refusal::StaleRecord.into())); // it has to be elected anew
+    assert_eq!(cluster.node(0)?.produce(&mut pass, ONE_RECORD), Err(Refusal::NotLeader.into()));
+    Ok(())
+}
+
+#[test]
+fn a_marker_ends_a_transaction() -> Done {
+    let (cluster, mut pass) = led(1)?;
+    let marker = Marker { producer_id: 12, producer_epoch: 0, coordinator_epoch: 1, timestamp: 1_000, commits: true };
+    let receipt = cluster.node(0)?.mark(&mut pass, &marker)?;
+    assert_eq!((receipt.base, receipt.last), (0, 0));
+    let earlier = Marker { coordinator_epoch: 0, ..marker };
+    assert_eq!(cluster.node(0)?.mark(&mut pass, &earlier), Err(Refusal::CoordinatorFenced.into()));
+    let wrong = Marker { producer_id: 1 << 63, ..marker };
+    assert_eq!(cluster.node(0)?.mark(&mut pass, &wrong), Err(Error::OutOfRange));
+    Ok(())
+}
+
+fn ended(producer_id: u64, commits: bool) -> Marker {
+    Marker { producer_id, producer_epoch: 0, coordinator_epoch: 0, timestamp: 1_000, commits }
+}
+
+fn committed(cluster: &Cluster, pass: &mut Pass, from: u64) -> Result<Vec<CommittedRecord>, Error> {
+    cluster.node(0)?.read_committed(pass, from)?.collect()
+}
+
+#[test]
+fn a_read_committed_consumer_gets_what_was_committed() -> Done {
+    let (cluster, mut pass) = led(1)?;
+    let paid = |offset, value: Option<&str>| CommittedRecord { offset, value: value.map(|it| it.as_bytes().to_vec()) };
+    let wanted = vec![paid(0, Some("paid")), paid(1, None)];
+    for batch in [TRANSACTION, ABORTED] {
+        cluster.node(0)?.produce(&mut pass, batch)?;
+    }
+    cluster.node(0)?.raise()?;
+    assert!(committed(&cluster, &mut pass, 0)?.is_empty()); // nothing has ended
+    cluster.node(0)?.mark(&mut pass, &ended(13, false))?;
+    cluster.node(0)?.raise()?;
+    assert!(committed(&cluster, &mut pass, 0)?.is_empty());
+    cluster.node(0)?.mark(&mut pass, &ended(12, true))?;
+    cluster.node(0)?.raise()?;
+    assert_eq!(committed(&cluster, &mut pass, 0)?, wanted);
+    assert_eq!(committed(&cluster, &mut pass, 1)?, wanted[1..]);
+    assert!(committed(&cluster, &mut pass, 5)?.is_empty());
+    assert_eq!(committed(&cluster, &mut pass, 6).err(), Some(Refusal::OffsetOutOfRange.into()));
+    assert_eq!(bytes_read(&cluster, &mut pass, 0)?.len(), 4); // any other consumer gets all of it
+    Ok(())
+}
+
+#[test]
+fn a_log_is_segments() -> Done {
+    let limits = Limits { segment_bytes: 2 * ONE_RECORD.len() as u32, ..Limits::default() };
+    let cluster = Cluster::open(1, limits)?;
+    let mut pass = cluster.pass()?;
+    assert!(cluster.node(0)?.segments()?.is_empty());
+    pass.elect(0)?;
+    cluster.node(0)?.adopt()?;
+    for _ in 0..5 {
+        cluster.node(0)?.produce(&mut pass, ONE_RECORD)?;
+    }
+    cluster.node(0)?.raise()?;
+    let wanted = bytes_read(&cluster, &mut pass, 0)?;
+    cluster.node(0)?.stop()?; // its log is there all the same
+    let segments: Vec<Segment> = cluster.node(0)?.segments()?.collect::<Result<_, _>>()?;
+    let names: Vec<&str> = segments.iter().map(|it| it.name.as_str()).collect();
+    assert_eq!(names, ["00000000000000000000.log", "00000000000000000002.log", "00000000000000000004.log"]);
+    let files: Vec<Vec<Vec<u8>>> = segments.into_iter().map(|it| it.batches.collect()).collect::<Result<_, _>>()?;
+    assert_eq!(files.concat(), wanted);
+    assert_eq!(files.iter().map(Vec::len).collect::<Vec<_>>(), [2, 2, 1]);
+    Ok(())
+}
+
+#[test]
+fn messages_tell_whom_they_go_to() -> Done {
+    let (cluster, mut pass) = led(3)?;
+    let request = cluster.node(2)?.ask()?;
+    assert_eq!(request.addressee(), Addressee::Node(0));
+    let answer = cluster.node(0)?.step(request)?.ok_or(Error::OutOfRange)?;
+    assert_eq!(answer.addressee(), Addressee::Node(2));
+    let proposal = cluster.node(0)?.alter(Change::Leave(1))?;
+    assert_eq!(proposal.addressee(), Addressee::Controller);
+    assert_eq!(pass.decide(proposal)?.addressee(), Addressee::Node(0));
+    Ok(())
+}
+
+#[test]
+fn handles_of_two_clusters_are_told_apart() -> Done {
+    let (one, mut pass) = led(2)?;
+    let (other, mut stranger) = led(2)?;
+    assert_eq!(one.node(0)?.produce(&mut stranger, ONE_RECORD), Err(Error::OtherCluster));
+    let receipt = one.node(0)?.produce(&mut pass, ONE_RECORD)?;
+    assert_eq!(one.node(0)?.acked(&mut stranger, &receipt), Err(Error::OtherCluster));
+    let request = one.node(1)?.ask()?;
+    assert_eq!(other.node(0)?.step(request).err(), Some(Error::OtherCluster));
+    assert_eq!(one.node(0)?.read_committed(&mut stranger, 0).err(), Some(Error::OtherCluster));
+    let proposal = one.node(0)?.alter(Change::Leave(1))?;
+    assert_eq!(stranger.decide(proposal).err(), Some(Error::OtherCluster));
+    Ok(())
+}
+
+#[test]
+fn what_there_is_not_is_refused() -> Done {
+    assert_eq!(Cluster::open(8, Limits::default()).err(), Some(Error::OutOfRange));
+    let (cluster, mut pass) = opened(2)?;
+    assert_eq!(cluster.nodes(), 2);
+    assert_eq!(cluster.node(2).err(), Some(Error::OutOfRange));
+    assert_eq!(pass.watermark(2), Err(Error::OutOfRange));
+    assert_eq!(pass.record()?, Record { version: 0, leader: None, in_sync: [true, true, false, false, false, false, false] });
+    assert_eq!(cluster.node(0)?.adopt(), Err(Refusal::StaleRecord.into()));
+    assert_eq!(cluster.node(0)?.ask().err(), Some(Refusal::NotLeader.into()));
+    assert_eq!(cluster.node(0)?.read(&mut pass, 1).err(), Some(Refusal::OffsetOutOfRange.into()));
+    assert!(cluster.node(0)?.read(&mut pass, 0)?.is_empty());
+    Ok(())
+}
+
+#[test]
+fn a_pass_and_batches_outlive_their_cluster() -> Done {
+    let (cluster, mut pass) = led(1)?;
+    cluster.node(0)?.produce(&mut pass, ONE_RECORD)?;
+    cluster.node(0)?.raise()?;
+    let mut batches = cluster.node(0)?.read(&mut pass, 0)?;
+    drop(cluster);
+    assert_eq!(pass.watermark(0)?, 1);
+    drop(pass);
+    let mut bytes = Vec::new();
+    assert_eq!((batches.len(), batches.next_into(&mut bytes)?), (1, true));
+    assert_eq!((bytes.len(), batches.next_into(&mut bytes)?), (ONE_RECORD.len(), false));
+    Ok(())
+}

@@ -1,0 +1,226 @@
+//! Each growth of the library's memory refused in turn, under the Rust face.
+//!
+//! This program has a heap of its own for the library, in place of the kit's: it counts growths, and refuses one of them, or
+//! each so many of the first ones.
+
+use kpart::{Ack, Addressee, Change, Cluster, CommittedRecord, Error, Limits, Marker, Message, Pass, Receipt, Refusal, Workers};
+use std::alloc::{Layout, alloc, dealloc, realloc};
+use std::sync::Mutex;
+use std::sync::atomic::{AtomicU64, Ordering};
+use std::time::Duration;
+
+const ONE_RECORD: &[u8] = include_bytes!("one_record.batch");
+const HEAD: usize = 32; // before each block stands its size
+const FIRST: u64 = 1_000;
+
+static GROWTHS: AtomicU64 = AtomicU64::new(0);
+static REFUSED: AtomicU64 = AtomicU64::new(u64::MAX);
+static EVERY: AtomicU64 = AtomicU64::new(u64::MAX);
+static HELD: AtomicU64 = AtomicU64::new(0);
+
+#[repr(C)]
+struct Tried {
+    ok: bool,
+    at: *mut u8,
+}
+
+fn is_refused() -> bool {
+    let number = GROWTHS.fetch_add(1, Ordering::SeqCst);
+    let every = EVERY.load(Ordering::SeqCst);
+    number == REFUSED.load(Ordering::SeqCst) || (number < FIRST && number % every == every - 1)
+}
+
+fn layout(size: usize) -> Layout {
+    Layout::from_size_align(size + HEAD, 16).expect("a size")
+}
+
+// SAFETY (of the three): the library hands back just what it was given, once; the alignments that it asks for divide 16.
+#[unsafe(no_mangle)]
+extern "C" fn rattle_alloc(size: usize, _align: usize) -> Tried {
+    if is_refused() {
+        return Tried { ok: false, at: std::ptr::without_provenance_mut(16) };
+    }
+    HELD.fetch_add(1, Ordering::SeqCst);
+    unsafe {
+        let block = alloc(layout(size));
+        block.cast::<usize>().write(size);
+        Tried { ok: true, at: block.add(HEAD) }
+    }
+}
+
+#[unsafe(no_mangle)]
+unsafe extern "C" fn rattle_realloc(at: *mut u8, _kept: usize, size: usize, _align: usize) -> Tried {
+    if is_refused() {
+        return Tried { ok: false, at: std::ptr::without_provenance_mut(16) };
+    }
+    unsafe {
+        let block = at.sub(HEAD);
+        let block = realloc(block, layout(block.cast::<usize>().read()), size + HEAD);
+        block.cast::<usize>().write(size);
+        Tried { ok: true, at: block.add(HEAD) }
+    }
+}
+
+#[unsafe(no_mangle)]
+unsafe extern "C" fn rattle_dealloc(at: *mut u8) {
+    HELD.fetch_sub(1, Ordering::SeqCst);
+    unsafe {
+        let block = at.sub(HEAD);
+        dealloc(block, layout(block.cast::<usize>().read()));
+    }
+}
+
+// Each step again where memory was refused; only one growth is.
+fn again<T>(mut step: impl FnMut() -> Result<T, Error>) -> Result<T, Error> {
+    match step() {
+        Err(error) if error.is_memory() => step(),
+        done => done,
+    }
+}
+
+// A node that fell as memory was refused in a take starts again.
+fn carry(cluster: &Cluster, pass: &mut Pass, message: Message) -> Result<(), Error> {
+    let mut under_way = Some(message);
+    while let Some(message) = under_way.take() {
+        under_way = match message.addressee() {
+            Addressee::Node(number) => {
+                let mut node = cluster.node(number)?;
+                match node.step(message) {
+                    Err(error) if error.is_memory() => {
+                        if node.checkpoint() == Err(Refusal::Down.into()) {
+                            again(|| node.restart())?;
+                            node.adopt()?;
+                        }
+                        None
+                    }
+                    done => done?,
+                }
+            }
+            Addressee::Controller => Some(pass.decide(message)?),
+        };
+    }
+    Ok(())
+}
+
+fn replicate(cluster: &Cluster, pass: &mut Pass) -> Result<(), Error> {
+    let request = again(|| cluster.node(1)?.ask())?;
+    carry(cluster, pass, request)
+}
+
+fn all_read(cluster: &Cluster, pass: &mut Pass, node: u8) -> Result<Vec<Vec<u8>>, Error> {
+    let mut batches = again(|| cluster.node(node)?.read(pass, 0))?;
+    let (mut bytes, mut all) = (Vec::new(), Vec::new());
+    while again(|| batches.next_into(&mut bytes))? {
+        all.push(bytes.clone());
+    }
+    Ok(all)
+}
+
+fn all_committed(cluster: &Cluster, pass: &mut Pass) -> Result<Vec<CommittedRecord>, Error> {
+    again(|| cluster.node(0)?.read_committed(pass, 0))?.collect()
+}
+
+// The bytes of all segments' files, batch by batch.
+fn all_kept(cluster: &Cluster) -> Result<Vec<Vec<u8>>, Error> {
+    let mut segments = again(|| cluster.node(0)?.segments())?;
+    let mut all = Vec::new();
+    while let Some(segment) = again(|| segments.next().transpose())? {
+        for bytes in segment.batches {
+            all.push(bytes?);
+        }
+    }
+    Ok(all)
+}
+
+// A small service: batches, a marker, replication, an in-sync change, a stop, an election, reads. What it read.
+fn serve() -> Result<Vec<Vec<u8>>, Error> {
+    let limits = Limits { segment_bytes: 1_024, index_interval: 0, max_batch: 1_048_576 };
+    let cluster = again(|| Cluster::open(2, limits))?;
+    let mut pass = again(|| cluster.pass())?;
+    pass.elect(0)?;
+    cluster.node(0)?.adopt()?;
+    cluster.node(1)?.adopt()?;
+    let mut receipts: Vec<Receipt> = Vec::new();
+    for _ in 0..20 {
+        receipts.push(again(|| cluster.node(0)?.produce(&mut pass, ONE_RECORD))?);
+    }
+    let marker = Marker { producer_id: 12, producer_epoch: 0, coordinator_epoch: 1, timestamp: 1_000, commits: true };
+    receipts.push(again(|| cluster.node(0)?.mark(&mut pass, &marker))?);
+    for _ in 0..4 {
+        replicate(&cluster, &mut pass)?;
+        again(|| cluster.node(0)?.raise())?;
+    }
+    for receipt in &receipts {
+        assert_eq!(cluster.node(0)?.acked(&mut pass, receipt)?, Ack::Yes);
+    }
+    let proposal = again(|| cluster.node(0)?.alter(Change::Leave(1)))?;
+    carry(&cluster, &mut pass, proposal)?;
+    cluster.node(0)?.checkpoint()?;
+    cluster.node(0)?.stop()?;
+    again(|| cluster.node(0)?.restart())?;
+    pass.elect(0)?;
+    cluster.node(0)?.adopt()?;
+    cluster.node(0)?.raise()?;
+    let all = all_read(&cluster, &mut pass, 0)?;
+    assert_eq!(all_read(&cluster, &mut pass, 1)?, all);
+    assert_eq!(all_committed(&cluster, &mut pass)?.len(), 20);
+    assert_eq!(all_kept(&cluster)?, all);
+    Ok(all)
+}
+
+fn counted() -> (u64, Vec<Vec<u8>>) {
+    GROWTHS.store(0, Ordering::SeqCst);
+    let read = serve().expect("the service serves");
+    assert_eq!(HELD.load(Ordering::SeqCst), 0, "all memory came back");
+    (GROWTHS.load(Ordering::SeqCst), read)
+}
+
+static ONE_AT_A_TIME: Mutex<()> = Mutex::new(());
+
+#[test]
+fn each_growth_is_refused_in_turn() {
+    let _alone = ONE_AT_A_TIME.lock().unwrap_or_else(|poisoned| poisoned.into_inner());
+    let (growths, wanted) = counted();
+    assert!(growths > 50 && wanted.len() == 21, "{growths} growths, {} batches", wanted.len());
+    for refused in 0..growths {
+        REFUSED.store(refused, Ordering::SeqCst);
+        let (_, read) = counted();
+        assert_eq!(read, wanted, "growth {refused} was refused");
+    }
+    REFUSED.store(u64::MAX, Ordering::SeqCst);
+    println!("{growths} growths refused in turn");
+}
+
+// Hands batches in over and over while workers replicate them, until node 1 has committed so many.
+fn replicated(cluster: &Cluster, batches: u64) -> Result<(), Error> {
+    let mut pass = again(|| cluster.pass())?;
+    pass.elect(0)?;
+    let workers = again(|| again(|| Workers::start(cluster, Duration::from_micros(200))))?;
+    let mut appended = 0;
+    while pass.watermark(1)? < batches {
+        if appended < batches {
+            match cluster.node(0)?.produce(&mut pass, ONE_RECORD) {
+                Ok(_) => appended += 1,
+                Err(error) => assert!(error.is_memory() || error == Refusal::NotLeader.into(), "{error}"),
+            }
+        }
+        std::thread::sleep(Duration::from_micros(100));
+    }
+    workers.stop();
+    Ok(())
+}
+
+#[test]
+fn workers_go_on_after_refusals() {
+    let _alone = ONE_AT_A_TIME.lock().unwrap_or_else(|poisoned| poisoned.into_inner());
+    for every in [2, 3, 5, 7, 11] {
+        let cluster = Cluster::open(2, Limits::default()).expect("there is room");
+        GROWTHS.store(0, Ordering::SeqCst);
+        EVERY.store(every, Ordering::SeqCst);
+        let done = replicated(&cluster, 60);
+        EVERY.store(u64::MAX, Ordering::SeqCst);
+        done.expect("it comes to its end");
+        drop(cluster);
+        assert_eq!(HELD.load(Ordering::SeqCst), 0, "all memory came back");
+    }
+}

@@ -1,0 +1,104 @@
+//! A producer of payments, which tries again until it knows that each one stays.
+
+use crate::batch::{Sequence, transactional};
+use crate::clock::{Clock, Fault};
+use crate::payment::Payment;
+use kpart::{Ack, Cluster, Error, Marker, Node, Pass, Receipt, Refusal};
+use std::sync::atomic::{AtomicU64, Ordering};
+use std::sync::mpsc::Sender;
+
+const TIME: u64 = 1_700_000_000_000;
+// So many pauses after the leader has changed, a batch that nobody knows of is handed in again.
+const PAUSES: u32 = 100;
+
+/// A payment that was acknowledged, with how its transaction ended.
+#[derive(Clone, Copy)]
+pub struct Paid {
+    pub payment: Payment,
+    pub commits: bool,
+    /// How often one of its batches was handed in again.
+    pub retries: u64,
+}
+
+pub struct Producer {
+    cluster: Cluster,
+    pass: Pass,
+    clock: Clock,
+    id: u64,
+    sequence: u32,
+    retries: u64,
+}
+
+impl Producer {
+    pub fn new(cluster: &Cluster, id: u64, clock: Clock) -> Result<Producer, Fault> {
+        let (cluster, pass) = (cluster.clone(), cluster.pass()?);
+        Ok(Producer { cluster, pass, clock, id, sequence: 0, retries: 0 })
+    }
+
+    /// Makes so many payments one after another, counts each one that is acknowledged, and tells the last marker's receipt.
+    pub fn run(mut self, payments: u64, acknowledged: &AtomicU64, done: &Sender<Receipt>) -> Result<Vec<Paid>, Fault> {
+        let mut paid = Vec::new();
+        for number in 0..payments {
+            let payment = Payment::made_up(self.id, number);
+            let commits = number % 5 != 4;
+            let receipt = self.pay(&payment, commits)?;
+            acknowledged.fetch_add(1, Ordering::Relaxed);
+            paid.push(Paid { payment, commits, retries: std::mem::take(&mut self.retries) });
+            if number + 1 == payments {
+                done.send(receipt).map_err(|_| "the consumer has ended")?;
+            }
+        }
+        Ok(paid)
+    }
+
+    /// A transaction: both entries in one batch, then the marker, whose receipt is answered.
+    fn pay(&mut self, payment: &Payment, commits: bool) -> Result<Receipt, Fault> {
+        let sequence = Sequence { producer: self.id, epoch: 0, first: self.sequence };
+        let entries = payment.entries().map(|entry| entry.text());
+        let batch = transactional(sequence, TIME, &entries);
+        self.hand_in(|node, pass| node.produce(pass, &batch))?;
+        self.sequence += entries.len() as u32;
+        let marker = Marker { producer_id: self.id, producer_epoch: 0, coordinator_epoch: 0, timestamp: TIME, commits };
+        self.hand_in(|node, pass| node.mark(pass, &marker))
+    }
+
+    /// Hands it to whoever leads, until it is acknowledged. Again is safe: of a batch that stands already the leader answers with that
+    /// one's receipt, and a second marker ends no transaction.
+    fn hand_in(&mut self, hand: impl Fn(&mut Node, &mut Pass) -> Result<Receipt, Error>) -> Result<Receipt, Fault> {
+        loop {
+            match self.handed(&hand)? {
+                Some(receipt) if self.is_acknowledged(&receipt)? => return Ok(receipt),
+                _ => self.retries += 1,
+            }
+            self.clock.pause()?;
+        }
+    }
+
+    fn handed(&mut self, hand: &impl Fn(&mut Node, &mut Pass) -> Result<Receipt, Error>) -> Result<Option<Receipt>, Fault> {
+        let Some((leader, _)) = self.pass.record()?.leader else { return Ok(None) };
+        let mut node = self.cluster.node(leader)?;
+        match hand(&mut node, &mut self.pass) {
+            Ok(receipt) => Ok(Some(receipt)),
+            Err(Error::Refused(Refusal::NotLeader | Refusal::Down)) => Ok(None),
+            Err(error) if error.is_memory() => Ok(None),
+            Err(error) => Err(error.into()),
+        }
+    }
+
+    /// Waits until the batch is acknowledged, or it is time to hand it in again.
+    fn is_acknowledged(&mut self, receipt: &Receipt) -> Result<bool, Fault> {
+        let mut pauses = 0;
+        while pauses < PAUSES {
+            let Some((leader, epoch)) = self.pass.record()?.leader else { return Ok(false) };
+            match self.cluster.node(leader)?.acked(&mut self.pass, receipt) {
+                Ok(Ack::Yes) => return Ok(true),
+                Ok(Ack::Lost) => return Ok(false),
+                Ok(Ack::NotYet) | Err(Error::Refused(Refusal::Down)) => {}
+                Err(error) => return Err(error.into()),
+            }
+            self.clock.pause()?;
+            pauses += u32::from(epoch != receipt.epoch);
+        }
+        Ok(false)
+    }
+}
