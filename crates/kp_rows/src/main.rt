@@ -307,10 +307,10 @@ fn perform_each(rt: &HostRuntime, front: &str, lines: &str, back: &str) -> io::R
     let front = fs::read_to_string(rt, front)?;
     let lines = fs::read_to_string(rt, lines)?;
     let back = fs::read_to_string(rt, back)?;
-    let call = run_call(rt)?;
     for line in lines.as_str().split_terminator('\n') {
         println!(rt; "| {line}")?;
         let script = format!(in rt.alloc(); "{front}{line}\n{back}")?;
+        let call = run_call(rt)?;
         run_bytes(rt, &call, script.into_bytes())?;
     }
     Ok(())
