@@ -18,9 +18,10 @@ use crate::call::{Header, call_of, header_of};
 use crate::ended::Ended;
 use crate::lines::{LONGEST_LINE, is_passed_over};
 use crate::reader::LineReader;
-use crate::run::{Work, limits_of, play_line};
+use crate::run::{Lists, limits_of, play_lines};
 use crate::script::Line;
 use crate::trace::push_refusal;
+use kp_batch::Speller;
 use kp_types::{Counted, Folder, NodeId, Refusal};
 use kp_world::World;
 use std::alloc::Global;
@@ -105,7 +106,7 @@ impl Running {
 /// Answers a line that can't stand where it stands: by one refusal.
 fn refuse_line<W: Write>(
     number: u64,
-    work: &mut Work,
+    lists: &mut Lists,
     writer: &mut Counted<W>,
 ) -> Result<u64, Refusal>
     requires { faults_of writer.old + 1 < 2 ^ 64 }
@@ -118,10 +119,10 @@ fn refuse_line<W: Write>(
     ensures only { IfErr result IsDeviceFault }
     ensures counted { CountsFaults result (faults_of writer.old) (faults_of writer.new) }
 {
-    work.text.clear();
-    push_refusal(&mut work.text, &Refusal::BadScript(number))?;
-    work.text.push(b'\n')?;
-    writer.write_all(&work.text)?;
+    lists.text.clear();
+    push_refusal(&mut lists.text, &Refusal::BadScript(number))?;
+    lists.text.push(b'\n')?;
+    writer.write_all(&lists.text)?;
     Ok(1)
 }
 
@@ -131,7 +132,7 @@ fn answer_event<W: Write>(
     number: u64,
     line: &[u8],
     running: &mut Running,
-    work: &mut Work,
+    lists: &mut Lists,
     writer: &mut Counted<W>,
 ) -> Result<u64, Refusal>
     requires nodes { HasNodes (Some running.old) }
@@ -151,21 +152,17 @@ fn answer_event<W: Write>(
 {
     match call_of(line, running.count) {
         Some(call) => {
-            let mut parts = Vec::new(alloc);
-            let line = Line { number, call };
-            work.text.clear();
-            let refused = play_line(
+            let lines = [Line { number, call }];
+            play_lines(
                 alloc,
-                &line,
+                &lines,
                 running.count,
                 &mut running.world,
-                work,
-                &mut parts,
-            )?;
-            writer.write_all(&work.text)?;
-            Ok(refused)
+                lists,
+                writer,
+            )
         }
-        None => refuse_line(number, work, writer),
+        None => refuse_line(number, lists, writer),
     }
 }
 
@@ -175,7 +172,7 @@ fn answer_first<W: Write>(
     number: u64,
     line: &[u8],
     running: &mut Option<Running>,
-    work: &mut Work,
+    lists: &mut Lists,
     writer: &mut Counted<W>,
 ) -> Result<u64, Refusal>
     requires none { running.old ≡ None }
@@ -201,7 +198,7 @@ fn answer_first<W: Write>(
             }
             Err(_) => Err(Refusal::Memory),
         },
-        None => refuse_line(number, work, writer),
+        None => refuse_line(number, lists, writer),
     }
 }
 
@@ -211,7 +208,7 @@ fn answer_line<W: Write>(
     number: u64,
     line: &[u8],
     running: &mut Option<Running>,
-    work: &mut Work,
+    lists: &mut Lists,
     writer: &mut Counted<W>,
 ) -> Result<u64, Refusal>
     requires nodes { HasNodes running.old }
@@ -230,14 +227,14 @@ fn answer_line<W: Write>(
     ensures counted { CountsFaults result (faults_of writer.old) (faults_of writer.new) }
 {
     if line.len() > LONGEST_LINE {
-        return refuse_line(number, work, writer);
+        return refuse_line(number, lists, writer);
     }
     if is_passed_over(line) {
         return Ok(0);
     }
     match running {
-        Some(nodes) => answer_event(alloc, number, line, nodes, work, writer),
-        None => answer_first(alloc, number, line, running, work, writer),
+        Some(nodes) => answer_event(alloc, number, line, nodes, lists, writer),
+        None => answer_first(alloc, number, line, running, lists, writer),
     }
 }
 
@@ -247,7 +244,7 @@ fn answer_next<R: BufRead, W: Write>(
     number: u64,
     reader: &mut LineReader<R>,
     running: &mut Option<Running>,
-    work: &mut Work,
+    lists: &mut Lists,
     writer: &mut Counted<W>,
 ) -> Result<Option<u64>, Refusal>
     requires nodes { HasNodes running.old }
@@ -274,7 +271,7 @@ fn answer_next<R: BufRead, W: Write>(
     if !reader.next_line()? {
         return Ok(None);
     }
-    let refused = answer_line(alloc, number, reader.line(), running, work, writer)?;
+    let refused = answer_line(alloc, number, reader.line(), running, lists, writer)?;
     Ok(Some(refused))
 }
 
@@ -320,11 +317,15 @@ pub fn play_pipe<R: BufRead, W: Write>(
     kp_model::runs_keep_count();
     kp_model::runs_are_safe();
     kp_model::no_delivery_is_refused_oddly();
-    let mut work = Work::new(alloc);
+    let mut lists = Lists {
+        speller: Speller::new(alloc),
+        outcomes: Vec::new(alloc),
+        text: Vec::new(alloc),
+    };
     let mut running = None;
     let mut refused = 0;
     for read in 0..u64::MAX {
-        match answer_next(alloc, read + 1, reader, &mut running, &mut work, writer) {
+        match answer_next(alloc, read + 1, reader, &mut running, &mut lists, writer) {
             Ok(Some(more)) => refused += more,
             Ok(None) => return Ok(left(refused, running)),
             Err(refusal) => return Err(refusal),
