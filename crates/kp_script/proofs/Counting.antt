@@ -1,11 +1,11 @@
 -- How many events were refused, as their answers say it.
-use Rattle.std.proofs.Common.{◌≡◌, ℕ, ◌+◌, Bool, false, cond, List, [], ◌∷◌, Result, Ok, Err, map, refl, sym, ap, ◌∙◌}
-use Rattle.std.specs.Prelude.{count_by, is_err}
+use mir.Val.{bool_byte}
+use Rattle.std.proofs.Common.{◌≡◌, ℕ, ◌+◌, Bool, true, false, cond, [], ◌∷◌, Result, Ok, Err, refl, sym, ap, ◌∙◌}
+use Rattle.std.specs.Prelude.{is_err}
 use Rattle.std.proofs.lemmas.Bool.{cond_both}
-use Rattle.std.proofs.lemmas.List.Sums.{sum_by-cons}
 use Rattle.kp_types.specs.declared.refusal.Refusal.{Refusal}
 use Rattle.kp_model.specs.Calls.{said_reply}
-use Rattle.kp_model.specs.Event.{At, DuplicateOf, Outcome, Reply}
+use Rattle.kp_model.specs.Event.{At, DuplicateOf, Reply}
 use Rattle.kp_model.specs.declared.message.Said.{Said}
 use Rattle.kp_model.specs.declared.message.Said.TheVariants.{AsksFrom}
 use Rattle.kp_replica.specs.Acts.{answer_reply}
@@ -34,10 +34,10 @@ refusal_told (Ok (Sent number said)) = message_told said
 refusal_told (Ok (Answered answer)) = answer_told answer
 refusal_told (Err refusal) = refl
 
-pub refusals_are : (answers : List (Result EventAnswer Refusal)) → count_by is_err answers ≡ refusals_in (map outcome_of answers)
-refusals_are [] = refl
-refusals_are (a ∷ answers) =
-    let f : Result EventAnswer Refusal → ℕ = λ x. cond (is_err x) 1 0 in
-    let g : Outcome → ℕ = λ o. cond (is_refusal o.reply) 1 0 in
-    sum_by-cons f a answers ∙ ap (λ (b : Bool). cond b 1 0 + count_by is_err answers) (sym (refusal_told a)) ∙ ap (λ (n : ℕ). g (outcome_of a) + n) (refusals_are answers)
-    ∙ sym (sum_by-cons g (outcome_of a) (map outcome_of answers))
+-- a flag as a number
+flag_number : (b : Bool) → bool_byte b ≡ 0 + cond b 1 0
+flag_number true = refl
+flag_number false = refl
+
+pub one_refused : (o : Result EventAnswer Refusal) (b : Bool) (n : ℕ) → n ≡ bool_byte b → b ≡ is_err o → n ≡ refusals_in (outcome_of o ∷ [])
+one_refused o b n e f = e ∙ ap bool_byte (f ∙ sym (refusal_told o)) ∙ flag_number (is_refusal (outcome_of o).reply)

@@ -1,11 +1,10 @@
 -- A script that is played some calls at a time.
-use Rattle.std.proofs.Common.{◌≡◌, ◌∙◌, ℕ, ◌+◌, List, [], ◌∷◌, ◌++◌, Option, Some, None, cond, drop, length, map, take, refl, sym, ap, subst, arith, append_assoc, inr}
+use Rattle.std.proofs.Common.{◌≡◌, ◌∙◌, ℕ, ◌+◌, List, [], ◌∷◌, ◌++◌, Option, Some, None, cond, drop, length, map, take, refl, sym, ap, subst, arith, append_assoc, append-nil, length-append, zero-add, inr}
 use Rattle.std.specs.Prelude.{IfSome, Result}
 use Rattle.std.specs.List.{AllByRecursion}
 use Rattle.std.specs.Io.KnownBytes.{Appends}
 use Rattle.std.proofs.KnownBytes.{Appends-nil, Appends-trans}
 use Rattle.std.proofs.lemmas.List.{length-map, length-reverse, map-append, take-append-drop}
-use Rattle.std.proofs.lemmas.Simd.{map-map}
 use Rattle.std.proofs.lemmas.List.Sums.{sum_by-append}
 use Rattle.kp_types.specs.Devices.{AppendsFront, IsDeviceFault}
 use Rattle.kp_types.proofs.Fronts.{front_behind}
@@ -21,25 +20,25 @@ use Rattle.kp_replica.specs.Acts.{plain_act}
 use Rattle.kp_replica.specs.Offers.{BytesAreAnOffer}
 use Rattle.kp_replica.proofs.Told.{plain_asked}
 use Rattle.kp_world.specs.Answers.{outcome_of}
-use Rattle.kp_world.specs.Events.{AreEvents}
+use Rattle.kp_world.specs.Events.{IsEvent}
 use Rattle.kp_world.specs.declared.event.Event.{Event as CodeEvent}
 use Rattle.kp_world.specs.Laws.{MayCome, PlaysGoOn}
 use Rattle.kp_world.specs.Plays.{IsReached, LeadOn, events_of, outcomes_of}
 use Rattle.kp_world.specs.Shown.{IsShown, Stage, log_of}
 use Rattle.kp_world.specs.declared.event.EventAnswer.{EventAnswer}
-use Rattle.kp_world.proofs.Playing.{all_fit, answered, nothing_answered, reached_none}
+use Rattle.kp_world.proofs.Playing.{all_fit, answered, lead_more, lead_none, nothing_answered, reached_none}
 use Rattle.kp_script.specs.Call.{Call, Header, IsCall, IsCallInRange, node_of, Elect, Append, Raw, Acts, Deliver}
 use Rattle.kp_script.specs.Ended.{limits_in, WritesTo}
-use Rattle.kp_script.specs.Playing.{BeginFrom, HasPlayed, LeadTo, PlayTo}
-use Rattle.kp_script.specs.Told.{IsTold, AreTold, TellsAll, offer_of}
-use Rattle.kp_script.specs.Trace.{trace_text}
+use Rattle.kp_script.specs.Playing.{BeginFrom, HasPlayed, LeadTo, PlayTo, PlayedOut, PlaysOne}
+use Rattle.kp_script.specs.Told.{IsTold, AreTold, Tells, offer_of}
+use Rattle.kp_script.specs.Trace.{trace_line, trace_text}
 use Rattle.kp_script.specs.Script.{Script, IsScript}
 use Rattle.kp_script.specs.Transcript.{IsTraceOf, is_refusal, largest_batch, numbered, refusals_in, WritesFirst, WritesFront}
-use Rattle.kp_script.specs.Seen.{seen_call, seen_line}
+use Rattle.kp_script.specs.Seen.{seen_line}
 use Rattle.kp_script.specs.declared.script.Line.{Line}
 use Rattle.kp_script.proofs.Lawful.{lawful_act, lawful_bytes, lawful_values}
 use Rattle.kp_script.proofs.Logs.{shown_logs}
-use Rattle.kp_script.proofs.Telling.{AreTold-length, one_for_each}
+use Rattle.kp_script.proofs.Telling.{AreTold-length}
 use Rattle.kp_script.proofs.Tracing.{trace_append}
 
 -- the calls alone
@@ -71,33 +70,71 @@ as_many count calls es os r told p q =
 
 -- ---- one call of the world
 
--- the events that the calls tell lead on
-pub leads_on : (calls : List (ℕ × Call)) (events shown : List CodeEvent) (answers : List (Result EventAnswer Refusal)) (old new : Stage) → TellsAll largest_batch (asked calls) events → shown ≡ events
-    → ((limits : Limits) (es : List Event) → AreEvents limits.max_batch shown es → LeadOn limits old es answers new) → LeadTo calls old new answers
-leads_on calls events shown answers old new tells same played =
+-- the event that a call tells leads on
+pub led_one : (call : ℕ × Call) (event : CodeEvent) (answer : Result EventAnswer Refusal) (old new : Stage) → Tells largest_batch call.1 event
+    → ((limits : Limits) (e : Event) → IsEvent limits.max_batch event e → LeadOn limits old (e ∷ []) (answer ∷ []) new) → LeadTo (call ∷ []) old new (answer ∷ [])
+led_one call event answer old new t step =
     record {
-      events = tells.es;
-      told = tells.told;
-      reach = λ limits batch.
-          played limits tells.es
-          (subst (λ (max : ℕ). AreEvents max shown tells.es) (sym batch) (subst (λ (all : List CodeEvent). AreEvents largest_batch all tells.es) (sym same) tells.are));
+      events = t.e ∷ [];
+      told = (t.told, tt);
+      reach = λ limits batch. step limits t.e (subst (λ (max : ℕ). IsEvent max event t.e) (sym batch) t.is);
     }
 
--- the text that is written
-pub text_of : (shown text cleared : List ℕ) (lines : List Line) (outs answers : List (Result EventAnswer Refusal)) → shown ≡ text
-    → text ≡ cleared ++ trace_text (map (λ l. (l.number, node_of (seen_call l.call))) lines) (map outcome_of outs) → cleared ≡ [] → outs ≡ answers
-    → shown ≡ trace_text (numbered (map seen_line lines)) (map outcome_of answers)
-text_of shown text cleared lines outs answers same is none outs_are =
-    same ∙ is ∙ ap (λ (front : List ℕ). front ++ trace_text (map (λ l. (l.number, node_of (seen_call l.call))) lines) (map outcome_of outs)) none
-    ∙ ap (λ (os : List (Result EventAnswer Refusal)). trace_text (map (λ l. (l.number, node_of (seen_call l.call))) lines) (map outcome_of os)) outs_are
-    ∙ ap (λ (xs : List (ℕ × ℕ)). trace_text xs (map outcome_of answers)) (sym (map-map (λ (call : ℕ × Call). (call.0, node_of call.1)) seen_line lines))
+leads_more : (calls others : List (ℕ × Call)) (old mid new : Stage) (answers rest : List (Result EventAnswer Refusal)) → LeadTo calls old mid answers → LeadTo others mid new rest
+    → LeadTo (calls ++ others) old new (answers ++ rest)
+leads_more calls others old mid new answers rest p q =
+    record {
+      events = p.events ++ q.events;
+      told =
+          subst (λ (all : List Call). AreTold largest_batch all (p.events ++ q.events)) (sym (map-append (λ (call : ℕ × Call). call.1) calls others))
+          (AreTold-append largest_batch (asked calls) (asked others) p.events q.events p.told q.told);
+      reach = λ limits batch. lead_more limits old mid new p.events q.events answers rest (p.reach limits batch) (q.reach limits batch);
+    }
 
--- as many answers as lines
-pub as_many_answers : (lines : List Line) (events shown : List CodeEvent) (answers outs : List (Result EventAnswer Refusal)) → TellsAll largest_batch (asked (map seen_line lines)) events → shown ≡ events
-    → length answers ≡ length shown → outs ≡ answers → length outs ≡ length lines
-as_many_answers lines events shown answers outs tells same answered_all outs_are =
-    ap length outs_are ∙ answered_all ∙ ap length same ∙ one_for_each largest_batch (asked (map seen_line lines)) events tells
-    ∙ length-map (map seen_line lines) (λ (call : ℕ × Call). call.1) ∙ length-map lines seen_line
+-- ---- calls that are played one after another
+
+pub out_none : (stage : Stage) → PlayedOut [] stage stage 0 []
+out_none stage =
+    record {
+      answers = [];
+      many = refl;
+      lead = record { events = []; told = tt; reach = λ limits batch. lead_none limits stage [] [] refl refl };
+      refused_is = refl;
+      text_is = refl;
+    }
+
+pub out_more : (calls : List (ℕ × Call)) (call : ℕ × Call) (old mid new : Stage) (refused more : ℕ) (text after : List ℕ) → PlayedOut calls old mid refused text → PlaysOne call mid new more text after
+    → PlayedOut (calls ++ call ∷ []) old new (refused + more) after
+out_more calls call old mid new refused more text after p q =
+    let outcomes = map outcome_of p.answers in
+    let line = trace_line call.0 (node_of call.1) (outcome_of q.answer) in
+    let many : length (numbered calls) ≡ length outcomes = length-map calls _ ∙ sym p.many ∙ sym (length-map p.answers outcome_of) in
+    record {
+      answers = p.answers ++ q.answer ∷ [];
+      many = omega (arith, p.many, length-append p.answers (q.answer ∷ []), length-append calls (call ∷ []));
+      lead = leads_more calls (call ∷ []) old mid new p.answers (q.answer ∷ []) p.lead q.lead;
+      refused_is =
+          ap (λ (n : ℕ). n + more) p.refused_is ∙ ap (λ (n : ℕ). refusals_in outcomes + n) q.refused_is
+          ∙ sym (ap refusals_in (map-append outcome_of p.answers (q.answer ∷ [])) ∙ refused_append outcomes (outcome_of q.answer ∷ []));
+      text_is =
+          q.text_is ∙ ap (λ (t : List ℕ). t ++ line) p.text_is ∙ ap (λ (t : List ℕ). trace_text (numbered calls) outcomes ++ t) (sym (append-nil line))
+          ∙ sym (trace_append (numbered calls) (numbered (call ∷ [])) outcomes (outcome_of q.answer ∷ []) many)
+          ∙ sym (ap (λ (xs : List (ℕ × ℕ)). trace_text xs (map outcome_of (p.answers ++ q.answer ∷ []))) (map-append _ calls (call ∷ []))
+          ∙ ap (λ (os : List Outcome). trace_text (numbered calls ++ numbered (call ∷ [])) os) (map-append outcome_of p.answers (q.answer ∷ [])));
+    }
+
+-- and their trace is written, or a beginning of it
+pub out_written : (calls : List (ℕ × Call)) (old new : Stage) (refused : ℕ) (text : List ℕ) (before after : Option (List ℕ)) → PlayedOut calls old new refused text → Appends before after text
+    → PlayTo calls old new refused before after
+out_written calls old new refused text before after p out = record { answers = p.answers; lead = p.lead; refused_is = p.refused_is; written = subst (Appends before after) p.text_is out }
+
+pub out_begun : (calls : List (ℕ × Call)) (old new : Stage) (refused : ℕ) (text : List ℕ) (before after : Option (List ℕ)) → PlayedOut calls old new refused text → AppendsFront before after text
+    → BeginFrom calls old before after
+out_begun calls old new refused text before after p out = record { new = new; answers = p.answers; lead = p.lead; begun = subst (AppendsFront before after) p.text_is out }
+
+-- one call alone
+pub one_out : (call : ℕ × Call) (old new : Stage) (refused : ℕ) (text : List ℕ) → PlaysOne call old new refused [] text → PlayedOut (call ∷ []) old new refused text
+one_out call old new refused text q = subst (λ (n : ℕ). PlayedOut (call ∷ []) old new n text) (zero-add refused) (out_more [] call old old new 0 refused [] text (out_none old) q)
 
 -- ---- parts of the lines
 
@@ -112,6 +149,11 @@ second_part P (x ∷ xs) ys h = second_part P xs ys h.1
 pub same_lawful : (count : ℕ) (all items : List Line) → all ≡ items → AllByRecursion (λ call. IsCall count call.1) (map seen_line items)
     → AllByRecursion (λ call. IsCall count call.1) (map seen_line all)
 same_lawful count all items is h = subst (λ (xs : List Line). AllByRecursion (λ call. IsCall count call.1) (map seen_line xs)) (sym is) h
+
+pub rest_lawful : (count : ℕ) (all done rest : List Line) → all ≡ done ++ rest → AllByRecursion (λ call. IsCall count call.1) (map seen_line all)
+    → AllByRecursion (λ call. IsCall count call.1) (map seen_line rest)
+rest_lawful count all done rest is h =
+    second_part (λ call. IsCall count call.1) done rest (subst (λ (xs : List Line). AllByRecursion (λ call. IsCall count call.1) (map seen_line xs)) is h)
 
 -- Lines that are done, those that come next, and the others behind them.
 pub record Parts (all done rest next others : List Line) : Type 0 where

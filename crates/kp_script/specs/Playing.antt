@@ -1,5 +1,5 @@
 -- What playing some of a script's calls does to the world and to the trace.
-use Rattle.std.specs.Prelude.{◌≡◌, ℕ, List, map, Option, Result}
+use Rattle.std.specs.Prelude.{◌≡◌, ◌++◌, ℕ, List, [], ◌∷◌, length, map, Option, Result}
 use Rattle.std.specs.Io.KnownBytes.{Appends}
 use Rattle.kp_types.specs.declared.limits.Limits.{Limits}
 use Rattle.kp_types.specs.declared.refusal.Refusal.{Refusal}
@@ -9,10 +9,10 @@ use Rattle.kp_world.specs.Answers.{outcome_of}
 use Rattle.kp_world.specs.Plays.{IsReached, LeadOn}
 use Rattle.kp_world.specs.Shown.{Stage}
 use Rattle.kp_world.specs.declared.event.EventAnswer.{EventAnswer}
-use Rattle.kp_script.specs.Call.{Call, Header}
+use Rattle.kp_script.specs.Call.{Call, Header, node_of}
 use Rattle.kp_script.specs.Ended.{limits_in}
 use Rattle.kp_script.specs.Told.{AreTold}
-use Rattle.kp_script.specs.Trace.{trace_text}
+use Rattle.kp_script.specs.Trace.{trace_line, trace_text}
 use Rattle.kp_script.specs.Transcript.{largest_batch, numbered, refusals_in}
 
 -- The calls tell events that lead from a stage to another one with these answers, whatever came before.
@@ -20,6 +20,21 @@ pub record LeadTo (calls : List (ℕ × Call)) (old new : Stage) (answers : List
   pub events : List Event
   pub told : AreTold largest_batch (map (λ call. call.1) calls) events
   pub reach : (limits : Limits) → limits.max_batch ≡ largest_batch → LeadOn limits old events answers new
+
+-- One call led on to a stage, and its line of the trace stands behind the text; so many refusals it answered.
+pub record PlaysOne (call : ℕ × Call) (old new : Stage) (refused : ℕ) (before after : List ℕ) : Type 0 where
+  pub answer : Result EventAnswer Refusal
+  pub lead : LeadTo (call ∷ []) old new (answer ∷ [])
+  pub refused_is : refused ≡ refusals_in (outcome_of answer ∷ [])
+  pub text_is : after ≡ before ++ trace_line call.0 (node_of call.1) (outcome_of answer)
+
+-- These calls led on to a stage, and this text is their trace.
+pub record PlayedOut (calls : List (ℕ × Call)) (old new : Stage) (refused : ℕ) (text : List ℕ) : Type 0 where
+  pub answers : List (Result EventAnswer Refusal)
+  pub many : length answers ≡ length calls
+  pub lead : LeadTo calls old new answers
+  pub refused_is : refused ≡ refusals_in (map outcome_of answers)
+  pub text_is : text ≡ trace_text (numbered calls) (map outcome_of answers)
 
 -- And the known bytes grew by the trace of these calls; so many of the events were refused.
 pub record PlayTo (calls : List (ℕ × Call)) (old new : Stage) (refused : ℕ) (before after : Option (List ℕ)) : Type 0 where

@@ -9,7 +9,7 @@ use Rattle.kp_model.specs.Event as model
 use Rattle.kp_model.specs.Event.{Event, Produce}
 use Rattle.kp_replica.specs.Acts.{plain_act}
 use Rattle.kp_replica.specs.Replies.{IsOffer}
-use Rattle.kp_world.specs.Events.{IsEvent, AreEvents}
+use Rattle.kp_world.specs.Events.{IsEvent}
 use Rattle.kp_world.specs.declared.event.Event.{Event as CodeEvent}
 use Rattle.kp_script.specs.Call.{Call, Sender, Elect, Append, Raw, Acts, Deliver}
 
@@ -62,9 +62,3 @@ pub record Tells (max : ℕ) (call : Call) (event : CodeEvent) : Type 0 where
   pub e : Event
   pub told : IsTold max call e
   pub is : IsEvent max event e
-
--- The code's events are ones that the calls tell.
-pub record TellsAll (max : ℕ) (calls : List Call) (events : List CodeEvent) : Type 0 where
-  pub es : List Event
-  pub told : AreTold max calls es
-  pub are : AreEvents max events es

@@ -1,18 +1,16 @@
 //! The events of a script, as a run takes them.
 
 ghost use Rattle.std.specs.Prelude.{◌≡◌, ℕ, ◌<◌, ◌≤◌, ◌^◌, IfOk, IfErr, OnOk, length, map};
-ghost use Rattle.std.specs.List.{AllByRecursion};
 ghost use Rattle.kp_types.specs.declared.refusal.Refusal.TheVariants.{Memory};
 ghost use Rattle.kp_record.specs.Made.{record_made};
 ghost use Rattle.kp_world.specs.Events.{IsAmong};
 ghost use Rattle.kp_script.specs.Call.{Append, Raw, IsCall, IsSender, pieces};
 ghost use Rattle.kp_script.specs.Hex.{bytes_of};
-ghost use Rattle.kp_script.specs.Told.{plain_record, Tells, TellsAll};
-ghost use Rattle.kp_script.specs.Seen.{seen_call, seen_line, seen_sender};
+ghost use Rattle.kp_script.specs.Told.{plain_record, Tells};
+ghost use Rattle.kp_script.specs.Seen.{seen_call, seen_sender};
 
 use crate::call::{Call, Sender};
 use crate::digits::bytes_of;
-use crate::script::Line;
 use crate::words::split_first_at;
 use bytes::Bytes;
 use kp_batch::{Fields, Handed, Parts, Speller};
@@ -105,8 +103,8 @@ fn raw_event(alloc: Global, node: NodeId, digits: &[u8]) -> Result<Event, Refusa
     })
 }
 
-/// The event that a call tells.
-fn event_of<'a>(
+/// The event that a call tells. Takes time and memory proportional to the call's bytes, but for `parts`, whose room is used again. F33.
+pub(crate) fn event_of<'a>(
     alloc: Global,
     speller: &mut Speller,
     parts: &mut Vec<Parts<'a>>,
@@ -135,25 +133,4 @@ fn event_of<'a>(
         }),
         Call::Deliver { number } => Ok(Event::Deliver { number }),
     }
-}
-
-/// The events of these lines, in their order. Takes time and memory proportional to the lines. F33.
-pub(crate) fn events_of<'a>(
-    alloc: Global,
-    speller: &mut Speller,
-    lines: &[Line<'a>],
-    count: NodeId,
-) -> Result<Vec<Event>, Refusal>
-    requires { AllByRecursion (λ call. IsCall count call.1) (map seen_line lines.now) }
-    ensures told { IfOk result (λ events. (max : ℕ)
-        → TellsAll max (map (λ call. call.1) (map seen_line lines.now)) events.items) }
-    ensures nodes { IfOk result (λ events. AllByRecursion (IsAmong count) events.items) }
-    ensures only { IfErr result (λ refusal. refusal ≡ Memory) }
-{
-    let mut parts = Vec::new(alloc);
-    let mut events = Vec::with_capacity(alloc, lines.len())?;
-    for line in lines {
-        events.push(event_of(alloc, speller, &mut parts, &line.call, count)?)?;
-    }
-    Ok(events)
 }

@@ -18,10 +18,9 @@ use crate::call::{Header, call_of, header_of};
 use crate::ended::Ended;
 use crate::lines::{LONGEST_LINE, is_passed_over};
 use crate::reader::LineReader;
-use crate::run::{Lists, limits_of, play_lines};
+use crate::run::{Work, limits_of, play_line};
 use crate::script::Line;
 use crate::trace::push_refusal;
-use kp_batch::Speller;
 use kp_types::{Counted, Folder, NodeId, Refusal};
 use kp_world::World;
 use std::alloc::Global;
@@ -106,7 +105,7 @@ impl Running {
 /// Answers a line that can't stand where it stands: by one refusal.
 fn refuse_line<W: Write>(
     number: u64,
-    lists: &mut Lists,
+    work: &mut Work,
     writer: &mut Counted<W>,
 ) -> Result<u64, Refusal>
     requires { faults_of writer.old + 1 < 2 ^ 64 }
@@ -119,10 +118,10 @@ fn refuse_line<W: Write>(
     ensures only { IfErr result IsDeviceFault }
     ensures counted { CountsFaults result (faults_of writer.old) (faults_of writer.new) }
 {
-    lists.text.clear();
-    push_refusal(&mut lists.text, &Refusal::BadScript(number))?;
-    lists.text.push(b'\n')?;
-    writer.write_all(&lists.text)?;
+    work.text.clear();
+    push_refusal(&mut work.text, &Refusal::BadScript(number))?;
+    work.text.push(b'\n')?;
+    writer.write_all(&work.text)?;
     Ok(1)
 }
 
@@ -132,7 +131,7 @@ fn answer_event<W: Write>(
     number: u64,
     line: &[u8],
     running: &mut Running,
-    lists: &mut Lists,
+    work: &mut Work,
     writer: &mut Counted<W>,
 ) -> Result<u64, Refusal>
     requires nodes { HasNodes (Some running.old) }
@@ -152,17 +151,21 @@ fn answer_event<W: Write>(
 {
     match call_of(line, running.count) {
         Some(call) => {
-            let lines = [Line { number, call }];
-            play_lines(
+            let mut parts = Vec::new(alloc);
+            let line = Line { number, call };
+            work.text.clear();
+            let refused = play_line(
                 alloc,
-                &lines,
+                &line,
                 running.count,
                 &mut running.world,
-                lists,
-                writer,
-            )
+                work,
+                &mut parts,
+            )?;
+            writer.write_all(&work.text)?;
+            Ok(refused)
         }
-        None => refuse_line(number, lists, writer),
+        None => refuse_line(number, work, writer),
     }
 }
 
@@ -172,7 +175,7 @@ fn answer_first<W: Write>(
     number: u64,
     line: &[u8],
     running: &mut Option<Running>,
-    lists: &mut Lists,
+    work: &mut Work,
     writer: &mut Counted<W>,
 ) -> Result<u64, Refusal>
     requires none { running.old ≡ None }
@@ -198,7 +201,7 @@ fn answer_first<W: Write>(
             }
             Err(_) => Err(Refusal::Memory),
         },
-        None => refuse_line(number, lists, writer),
+        None => refuse_line(number, work, writer),
     }
 }
 
@@ -208,7 +211,7 @@ fn answer_line<W: Write>(
     number: u64,
     line: &[u8],
     running: &mut Option<Running>,
-    lists: &mut Lists,
+    work: &mut Work,
     writer: &mut Counted<W>,
 ) -> Result<u64, Refusal>
     requires nodes { HasNodes running.old }
@@ -227,14 +230,14 @@ fn answer_line<W: Write>(
     ensures counted { CountsFaults result (faults_of writer.old) (faults_of writer.new) }
 {
     if line.len() > LONGEST_LINE {
-        return refuse_line(number, lists, writer);
+        return refuse_line(number, work, writer);
     }
     if is_passed_over(line) {
         return Ok(0);
     }
     match running {
-        Some(nodes) => answer_event(alloc, number, line, nodes, lists, writer),
-        None => answer_first(alloc, number, line, running, lists, writer),
+        Some(nodes) => answer_event(alloc, number, line, nodes, work, writer),
+        None => answer_first(alloc, number, line, running, work, writer),
     }
 }
 
@@ -244,7 +247,7 @@ fn answer_next<R: BufRead, W: Write>(
     number: u64,
     reader: &mut LineReader<R>,
     running: &mut Option<Running>,
-    lists: &mut Lists,
+    work: &mut Work,
     writer: &mut Counted<W>,
 ) -> Result<Option<u64>, Refusal>
     requires nodes { HasNodes running.old }
@@ -271,7 +274,7 @@ fn answer_next<R: BufRead, W: Write>(
     if !reader.next_line()? {
         return Ok(None);
     }
-    let refused = answer_line(alloc, number, reader.line(), running, lists, writer)?;
+    let refused = answer_line(alloc, number, reader.line(), running, work, writer)?;
     Ok(Some(refused))
 }
 
@@ -317,15 +320,11 @@ pub fn play_pipe<R: BufRead, W: Write>(
     kp_model::runs_keep_count();
     kp_model::runs_are_safe();
     kp_model::no_delivery_is_refused_oddly();
-    let mut lists = Lists {
-        speller: Speller::new(alloc),
-        outcomes: Vec::new(alloc),
-        text: Vec::new(alloc),
-    };
+    let mut work = Work::new(alloc);
     let mut running = None;
     let mut refused = 0;
     for read in 0..u64::MAX {
-        match answer_next(alloc, read + 1, reader, &mut running, &mut lists, writer) {
+        match answer_next(alloc, read + 1, reader, &mut running, &mut work, writer) {
             Ok(Some(more)) => refused += more,
             Ok(None) => return Ok(left(refused, running)),
             Err(refusal) => return Err(refusal),

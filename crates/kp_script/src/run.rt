@@ -1,38 +1,53 @@
 //! A script run from its bytes to its trace's bytes.
 
-ghost use Rattle.std.specs.Prelude.{◌≡◌, ◌+◌, ◌<◌, ◌≤◌, ◌^◌, ℕ, IfOk, IfErr, IfSome, OnErr, Err, count_by, is_err, length, map};
+ghost use Rattle.std.specs.Prelude.{◌≡◌, ◌+◌, ◌<◌, ◌≤◌, ◌^◌, ℕ, [], IfOk, IfErr, IfSome, OnErr, Err, length, map, take};
 ghost use Rattle.std.specs.List.{AllByRecursion};
 ghost use Rattle.kp_types.specs.declared.refusal.Refusal.TheVariants.{BadScript, Device as DeviceFault, Memory as WantOfMemory};
 ghost use Rattle.kp_types.specs.Devices.{CountsFaults, CountsOne, IsDeviceFault, device_of, faults_of};
 ghost use Rattle.kp_script.specs.Call.{IsCall};
 ghost use Rattle.kp_script.specs.Ended.{limits_in, AreLimited, WritesTo};
-ghost use Rattle.kp_script.specs.Playing.{BeginFrom, PlayTo};
+ghost use Rattle.kp_script.specs.Playing.{BeginFrom, PlayTo, PlaysOne};
 ghost use Rattle.kp_script.specs.Script.{IsFaultAt};
-ghost use Rattle.kp_script.specs.Seen.{seen_header, seen_line};
+ghost use Rattle.kp_script.specs.Seen.{seen_call, seen_header, seen_line};
 ghost use Rattle.kp_script.specs.Transcript.{IsRunRefusal, Writes, WritesFirst, WritesFront};
 
 use crate::call::Header;
 use crate::ended::Ended;
-use crate::events::events_of;
+use crate::events::event_of;
 use crate::script::{Line, parse};
-use crate::trace::push_trace;
-use kp_batch::Speller;
+use crate::trace::push_event;
+use kp_batch::{Parts, Speller};
 use kp_types::{Counted, Limits, MAX_BATCH, NodeId, Refusal};
-use kp_world::{EventAnswer, World};
+use kp_world::World;
 use std::alloc::Global;
-use std::collections::VecDeque;
 use std::io::{Read, Write};
 
-/// How many events are made and played before their lines are written.
-const EVENTS_AT_ONCE: usize = 512;
+/// From how many bytes of the trace on they are written.
+const TEXT_AT_ONCE: usize = 65_536;
 
-/// What a run uses again and again: what spells its batches, and the lists of the answers to some events, and of the text of
-/// their lines.
+/// What a run uses again and again: what spells its batches, and the text of some lines of its trace.
 #[derive(Drop)]
-pub(crate) struct Lists {
+pub(crate) struct Work {
     pub(crate) speller: Speller,
-    pub(crate) outcomes: Vec<Result<EventAnswer, Refusal>>,
     pub(crate) text: Vec<u8>,
+}
+
+impl Work {
+    pub(crate) fn new(alloc: Global) -> Work
+        ensures { result.text.items ≡ [] }
+    {
+        Work {
+            speller: Speller::new(alloc),
+            text: Vec::new(alloc),
+        }
+    }
+}
+
+/// How many lines were played, and how many of their events were refused.
+#[derive(Clone, Copy)]
+pub(crate) struct Played {
+    pub(crate) lines: usize,
+    pub(crate) refused: u64,
 }
 
 /// The limits of the log that the header asks for.
@@ -46,50 +61,72 @@ pub(crate) fn limits_of(header: &Header) -> Limits
     }
 }
 
-/// How many events were refused.
-fn count_refused(outcomes: &[Result<EventAnswer, Refusal>]) -> u64
-    ensures count { result ≡ count_by is_err outcomes.now }
-    ensures few { result ≤ length outcomes.now }
+/// Makes the line's event happen in the world, and puts its line of the trace behind the text. Answers 1 where it was refused, and
+/// else 0. F33.
+pub(crate) fn play_line<'a>(
+    alloc: Global,
+    line: &Line<'a>,
+    count: NodeId,
+    world: &mut World,
+    work: &mut Work,
+    parts: &mut Vec<Parts<'a>>,
+) -> Result<u64, Refusal>
+    requires call { IsCall count (seen_call line.now.call) }
+    requires nodes { length world.old.nodes ≡ count }
+    ensures played { IfOk result (λ refused.
+        PlaysOne (seen_line line.now) world.old world.new refused work.old.text.items work.new.text.items) }
+    ensures nodes { length world.new.nodes ≡ count }
+    ensures few { IfOk result (λ refused. refused ≤ 1) }
+    ensures only { IfErr result (λ refusal. refusal ≡ WantOfMemory) }
 {
-    let mut refused = 0;
-    for outcome in outcomes {
-        if outcome.is_err() {
-            refused += 1;
-        }
-    }
-    refused
+    let event = event_of(alloc, &mut work.speller, parts, &line.call, count)?;
+    let Ok(outcome) = world.step(alloc, event) else {
+        return Err(Refusal::Memory);
+    };
+    push_event(&mut work.text, line, &outcome)?;
+    Ok(u64::from(outcome.is_err()))
 }
 
-/// Makes the events of these lines, plays them in the world, and writes their lines. Answers how many of them were
-/// refused. F33, and then nothing of these lines is written; F32 where the writer failed, and then a beginning is.
-pub(crate) fn play_lines<W: Write>(
+/// Plays lines from the first one on until their trace has so many bytes that it is written, and writes it. F33, and then nothing is
+/// written; F32 where the writer failed, and then a beginning of their trace is.
+fn play_lines<W: Write>(
     alloc: Global,
     lines: &[Line<'_>],
     count: NodeId,
     world: &mut World,
-    lists: &mut Lists,
+    work: &mut Work,
     writer: &mut Counted<W>,
-) -> Result<u64, Refusal>
+) -> Result<Played, Refusal>
     requires calls { AllByRecursion (λ call. IsCall count call.1) (map seen_line lines.now) }
     requires nodes { length world.old.nodes ≡ count }
     requires writes { faults_of writer.old + 1 < 2 ^ 64 }
-    ensures played { IfOk result (λ refused.
-        PlayTo (map seen_line lines.now) world.old world.new refused
+    ensures played { IfOk result (λ played.
+        PlayTo (map seen_line (take played.lines lines.now)) world.old world.new played.refused
         (W.contents (device_of writer.old)) (W.contents (device_of writer.new))) }
-    ensures begun { result ≡ Err DeviceFault → BeginFrom (map seen_line lines.now) world.old
+    ensures some { IfOk result (λ played. 0 < length lines.now → 0 < played.lines) }
+    ensures within { IfOk result (λ played. played.lines ≤ length lines.now) }
+    ensures few { IfOk result (λ played. played.refused ≤ played.lines) }
+    ensures begun { result ≡ Err DeviceFault → (n : ℕ) × (n ≤ length lines.now)
+        × BeginFrom (map seen_line (take n lines.now)) world.old
         (W.contents (device_of writer.old)) (W.contents (device_of writer.new)) }
     ensures untouched { result ≡ Err WantOfMemory → writer.new ≡ writer.old }
     ensures nodes { length world.new.nodes ≡ count }
-    ensures few { IfOk result (λ refused. refused ≤ length lines.now) }
     ensures only { IfErr result IsDeviceFault }
     ensures counted { CountsFaults result (faults_of writer.old) (faults_of writer.new) }
 {
-    let mut events = VecDeque::from_vec(events_of(alloc, &mut lists.speller, lines, count)?);
-    world.play(alloc, &mut events, &mut lists.outcomes)?;
-    lists.text.clear();
-    push_trace(&mut lists.text, lines, &lists.outcomes)?;
-    writer.write_all(&lists.text)?;
-    Ok(count_refused(&lists.outcomes))
+    let mut parts = Vec::new(alloc);
+    let mut played = 0;
+    let mut refused = 0;
+    work.text.clear();
+    while played < lines.len() && work.text.len() < TEXT_AT_ONCE {
+        refused += play_line(alloc, &lines[played], count, world, work, &mut parts)?;
+        played += 1;
+    }
+    writer.write_all(&work.text)?;
+    Ok(Played {
+        lines: played,
+        refused,
+    })
 }
 
 /// Plays the script that the reader has left, and writes its trace: a line for each event. Answers how many
@@ -129,17 +166,13 @@ pub fn play_script<R: Read, W: Write>(
     let script = parse(alloc, &input)?;
     let header = &script.header;
     let mut world = World::start(alloc, header.count, &limits_of(header))?;
-    let mut lists = Lists {
-        speller: Speller::new(alloc),
-        outcomes: Vec::new(alloc),
-        text: Vec::new(alloc),
-    };
+    let mut work = Work::new(alloc);
     let mut refused = 0;
     let mut rest = script.lines.as_slice();
     while !rest.is_empty() {
-        let (lines, others) = rest.split_at(rest.len().min(EVENTS_AT_ONCE));
-        refused += play_lines(alloc, lines, header.count, &mut world, &mut lists, writer)?;
-        rest = others;
+        let played = play_lines(alloc, rest, header.count, &mut world, &mut work, writer)?;
+        refused += played.refused;
+        (_, rest) = rest.split_at(played.lines);
     }
     Ok(Ended::new(refused, header.count, world))
 }

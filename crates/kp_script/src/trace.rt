@@ -11,7 +11,7 @@ ghost use Rattle.kp_visible.specs.Lines.{line_of};
 ghost use Rattle.kp_world.specs.Answers.{number_in, outcome_of, told_reply};
 ghost use Rattle.kp_script.specs.Call.{node_of};
 ghost use Rattle.kp_script.specs.Seen.{seen_call};
-ghost use Rattle.kp_script.specs.Trace.{end_text, epoch_text, isr_text, leader_text, life_text, line_text, lines_text, nodes_text, record_text, reply_text, outcome_text, trace_text};
+ghost use Rattle.kp_script.specs.Trace.{end_text, epoch_text, isr_text, leader_text, life_text, line_text, lines_text, nodes_text, record_text, reply_text, outcome_text, trace_line, trace_text};
 
 use crate::script::Line;
 use crate::text::{push_hex, push_named, push_number};
@@ -278,6 +278,23 @@ fn push_outcome(
     }
 }
 
+/// Appends an event's line: the number of the script's line, and what was answered. Takes time proportional to the text that it
+/// appends, and fails where memory runs out.
+pub(crate) fn push_event(
+    text: &mut Vec<u8>,
+    line: &Line<'_>,
+    outcome: &Result<EventAnswer, Refusal>,
+) -> Result<(), AllocError>
+    ensures { OnOk result (text.new.items ≡ text.old.items
+        ++ trace_line line.now.number (node_of (seen_call line.now.call)) (outcome_of outcome.now)) }
+{
+    push_number(text, line.number)?;
+    text.push(b' ')?;
+    push_outcome(text, line.call.node(), outcome)?;
+    text.push(b'\n')?;
+    Ok(())
+}
+
 /// Appends a line for each event, in their order. An event's outcome stands at the event's place.
 /// Takes time proportional to the text that it appends, and fails where memory runs out.
 pub fn push_trace(
@@ -291,10 +308,7 @@ pub fn push_trace(
         (map outcome_of outcomes.now)) }
 {
     for (line, outcome) in lines.iter().zip(outcomes) {
-        push_number(text, line.number)?;
-        text.push(b' ')?;
-        push_outcome(text, line.call.node(), outcome)?;
-        text.push(b'\n')?;
+        push_event(text, line, outcome)?;
     }
     Ok(())
 }

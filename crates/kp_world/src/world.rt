@@ -220,8 +220,15 @@ impl World {
         Ok(carry_out(&mut self.messages, outcome))
     }
 
-    /// Makes the event happen. An `Err` gives it back: there was no room for a message, and nothing has happened.
-    fn step(&mut self, alloc: Global, event: Event) -> Result<Result<EventAnswer, Refusal>, Event>
+    /// Makes the event happen, and tells what it answers: a refused event's refusal, after which others may come. An `Err` gives the
+    /// event back: there was no room for one message more, and nothing has happened. The cost doesn't grow with the events before it,
+    /// but for what the calls of `Replica` say of their cost, and for a read, which costs what it reads. Every message stays: a
+    /// request, a proposal and a decision are some numbers, and an answer holds shares of its batches.
+    pub fn step(
+        &mut self,
+        alloc: Global,
+        event: Event,
+    ) -> Result<Result<EventAnswer, Refusal>, Event>
         requires { IsAmong (length self.old.nodes) event }
         ensures step { IfOk result (λ outcome. (limits : LogLimits) (e : ModelEvent)
             → IsEvent limits.max_batch event e
@@ -247,9 +254,7 @@ impl World {
     /// `outcomes`, in place of what stood there; a refused event's refusal stands there, and the events go on. So the events
     /// of one run may come a few at a time, with one list for the answers of each few. An `Err` says that the list of answers,
     /// or room for one message more, couldn't be had: then the events that are left in the list haven't happened, and those
-    /// before them have, with their answers. The cost of an event doesn't grow with the events before it, but for what the
-    /// calls of `Replica` say of their cost, and for a read, which costs what it reads. Every message stays: a request, a proposal
-    /// and a decision are some numbers, and an answer holds shares of its batches.
+    /// before them have, with their answers. The cost is that of [`World::step`] for each of them.
     pub fn play(
         &mut self,
         alloc: Global,

@@ -1,19 +1,38 @@
-use Rattle.std.proofs.Common.{Some, refl}
-use Rattle.kp_types.specs.Devices.{device_of}
+use Rattle.std.proofs.Common.{ℕ, List, [], ◌∷◌, Some, Ok, refl, subst}
+use Rattle.std.specs.Io.KnownBytes.{Appends}
+use Rattle.kp_types.specs.Devices.{AppendsFront, device_of}
+use Rattle.kp_script.specs.Call.{Call}
 use Rattle.kp_script.specs.Piped.{fault_line}
+use Rattle.kp_script.specs.Playing.{PlaysOne}
 use Rattle.kp_script.specs.Seen.{seen_call}
 use Rattle.kp_script.proofs.Answering.{event_begun, event_played, stands_wrong, wrong_answered}
+use Rattle.kp_script.proofs.Played.{one_out, out_begun, out_written}
 use Rattle.kp_script.proofs.pipe.answer_event.Goals as goal
 
-pub returns-in-Some-clause-ok : goal.returns-in-Some-clause-ok
-returns-in-Some-clause-ok g c =
-    event_played c.args.number c.args.line.now (seen_call c.in-Some.call) c.args.running.now (record { count = c.args.running.now.count; world = c.play_lines.new.world }) c.play_lines.result
-    (g.W.Write.contents (device_of c.args.writer.now)) (g.W.Write.contents (device_of c.play_lines.new.writer)) c.requires.counts c.in-Some.ensures.found c.play_lines.ensures.played refl
+pub returns-in_ok-write_all-in-Some-clause-ok : goal.returns-in_ok-write_all-in-Some-clause-ok
+returns-in_ok-write_all-in-Some-clause-ok g c =
+    let call : ℕ × Call = (c.args.number, seen_call c.in-Some.call) in
+    let refused = c.in_ok-refused-in-Some.refused in
+    let before = g.W.Write.contents (device_of c.args.writer.now) in
+    let after = g.W.Write.contents (device_of c.write_all.new.self) in
+    let text : List ℕ = c.play_line.new.work.text.items in
+    let one = one_out call c.args.running.now.world c.play_line.new.world refused text
+    (subst (λ (front : List ℕ). PlaysOne call c.args.running.now.world c.play_line.new.world refused front text) c.clear.ensures.items c.in_ok-refused-in-Some.ensures.played) in
+    event_played c.args.number c.args.line.now (seen_call c.in-Some.call) c.args.running.now (record { count = c.args.running.now.count; world = c.play_line.new.world }) (Ok refused) before after
+    c.requires.counts c.in-Some.ensures.found
+    (out_written (call ∷ []) c.args.running.now.world c.play_line.new.world refused text before after one (subst (Appends before after) c.deref.ensures.value c.in_ok-write_all-in-Some.ensures.ok)) refl
 
-pub returns-in-Some-clause-begun : goal.returns-in-Some-clause-begun
-returns-in-Some-clause-begun g c = λ e.
-    event_begun c.args.number c.args.line.now (seen_call c.in-Some.call) c.args.running.now
-    (g.W.Write.contents (device_of c.args.writer.now)) (g.W.Write.contents (device_of c.play_lines.new.writer)) c.requires.counts c.in-Some.ensures.found (c.play_lines.ensures.begun e)
+pub returns-in_err-write_all-in-Some-clause-begun : goal.returns-in_err-write_all-in-Some-clause-begun
+returns-in_err-write_all-in-Some-clause-begun g c = λ e.
+    let call : ℕ × Call = (c.args.number, seen_call c.in-Some.call) in
+    let refused = c.in_ok-refused-in-Some.refused in
+    let before = g.W.Write.contents (device_of c.args.writer.now) in
+    let after = g.W.Write.contents (device_of c.write_all.new.self) in
+    let text : List ℕ = c.play_line.new.work.text.items in
+    let one = one_out call c.args.running.now.world c.play_line.new.world refused text
+    (subst (λ (front : List ℕ). PlaysOne call c.args.running.now.world c.play_line.new.world refused front text) c.clear.ensures.items c.in_ok-refused-in-Some.ensures.played) in
+    event_begun c.args.number c.args.line.now (seen_call c.in-Some.call) c.args.running.now before after c.requires.counts c.in-Some.ensures.found
+    (out_begun (call ∷ []) c.args.running.now.world c.play_line.new.world refused text before after one (subst (AppendsFront before after) c.deref.ensures.value c.in_err-write_all-in-Some.ensures.err))
 
 pub returns-in-None-clause-ok : goal.returns-in-None-clause-ok
 returns-in-None-clause-ok g c =

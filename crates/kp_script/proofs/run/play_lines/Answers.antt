@@ -1,54 +1,43 @@
-use Rattle.std.proofs.Common.{◌∙◌, List, map, ap, subst, arith}
-use Rattle.std.specs.Prelude.{Result}
+use Rattle.std.proofs.Common.{◌≡◌, ◌∙◌, ℕ, ◌+◌, List, ◌∷◌, ◌++◌, [], Option, take, map, refl, sym, ap, subst, arith}
 use Rattle.std.specs.Io.KnownBytes.{Appends}
-use Rattle.kp_types.specs.Devices.{AppendsFront, device_of}
-use Rattle.kp_types.specs.declared.refusal.Refusal.{Refusal}
-use Rattle.kp_world.specs.Answers.{outcome_of}
-use Rattle.kp_world.specs.declared.event.EventAnswer.{EventAnswer}
-use Rattle.kp_world.proofs.Playing.{all_played}
-use Rattle.kp_script.specs.Seen.{seen_line}
-use Rattle.kp_script.specs.Transcript.{largest_batch, refusals_in}
-use Rattle.kp_script.proofs.Played.{as_many_answers, leads_on, text_of}
-use Rattle.kp_script.proofs.Counting.{refusals_are}
+use Rattle.std.proofs.lemmas.List.{map-append, take_more}
+use Rattle.kp_types.specs.Devices.{device_of}
+use Rattle.kp_script.specs.Call.{Call, IsCall}
+use Rattle.kp_script.specs.Seen.{seen_call, seen_line}
+use Rattle.kp_script.specs.Playing.{PlayedOut}
+use Rattle.kp_script.specs.declared.script.Line.{Line}
+use Rattle.kp_script.proofs.Played.{out_begun, out_more, out_none, out_written}
+use Rattle.kp_script.proofs.Telling.{each_at_line}
 use Rattle.kp_script.proofs.run.play_lines.Goals as goal
 
-pub push_trace-requires : goal.push_trace-requires
-push_trace-requires g c =
-    as_many_answers c.args.lines.now c.in_ok-events_of.field-0.items c.from_vec-events.result.items c.play.new.outcomes.items c.deref.result.now (c.in_ok-events_of.ensures.told largest_batch)
-    c.from_vec-events.ensures.items
-    (let all = all_played c.args.world.now c.play.new.self c.from_vec-events.result.items c.play.new.events.items c.play.new.outcomes.items c.play.ensures.played c.in_ok-play.ensures.all in all.answered) c.deref.ensures.value
-
-pub returns-in_err-write_all-clause-begun : goal.returns-in_err-write_all-clause-begun
-returns-in_err-write_all-clause-begun g c = λ e. record {
-  new = c.play.new.self;
-  answers = c.play.new.outcomes.items;
-  lead =
-      leads_on (map seen_line c.args.lines.now) c.in_ok-events_of.field-0.items c.from_vec-events.result.items c.play.new.outcomes.items c.args.world.now c.play.new.self
-      (c.in_ok-events_of.ensures.told largest_batch) c.from_vec-events.ensures.items
-      (let all = all_played c.args.world.now c.play.new.self c.from_vec-events.result.items c.play.new.events.items c.play.new.outcomes.items c.play.ensures.played c.in_ok-play.ensures.all in all.lead);
-  begun =
-      subst (AppendsFront (g.W.Write.contents (device_of c.args.writer.now)) (g.W.Write.contents (device_of c.write_all.new.self)))
-      (text_of c.deref-2.result.now c.push_trace.new.text.items c.clear.new.self.items c.args.lines.now c.deref.result.now c.play.new.outcomes.items c.deref-2.ensures.value
-      c.in_ok-push_trace.ensures c.clear.ensures.items c.deref.ensures.value) c.in_err-write_all.ensures.err;
+pub loop-played-init : goal.loop-played-init
+loop-played-init g c = record {
+  within = omega arith;
+  out = subst (PlayedOut [] c.args.world.now c.args.world.now 0) (sym c.clear.ensures.items) (out_none c.args.world.now);
+  nodes = c.requires.nodes;
+  few = omega arith;
 }
 
-pub returns-clause-played : goal.returns-clause-played
-returns-clause-played g c = record {
-  answers = c.play.new.outcomes.items;
-  lead =
-      leads_on (map seen_line c.args.lines.now) c.in_ok-events_of.field-0.items c.from_vec-events.result.items c.play.new.outcomes.items c.args.world.now c.play.new.self
-      (c.in_ok-events_of.ensures.told largest_batch) c.from_vec-events.ensures.items
-      (let all = all_played c.args.world.now c.play.new.self c.from_vec-events.result.items c.play.new.events.items c.play.new.outcomes.items c.play.ensures.played c.in_ok-play.ensures.all in all.lead);
-  refused_is = c.count_refused.ensures.count ∙ refusals_are c.deref-3.result.now ∙ ap (λ (os : List (Result EventAnswer Refusal)). refusals_in (map outcome_of os)) c.deref-3.ensures.value;
-  written =
-      subst (Appends (g.W.Write.contents (device_of c.args.writer.now)) (g.W.Write.contents (device_of c.write_all.new.self)))
-      (text_of c.deref-2.result.now c.push_trace.new.text.items c.clear.new.self.items c.args.lines.now c.deref.result.now c.play.new.outcomes.items c.deref-2.ensures.value
-      c.in_ok-push_trace.ensures c.clear.ensures.items c.deref.ensures.value) c.in_ok-write_all.ensures.ok;
-}
+pub play_line-requires-clause-call : goal.play_line-requires-clause-call
+play_line-requires-clause-call g c =
+    let line = c.index-lines-played.result in
+    subst (λ (l : Line). IsCall c.args.count (seen_call l.call)) (sym c.index-lines-played.is)
+    (each_at_line c.args.count c.args.lines.now c.loop-played.played line c.requires.calls (omega (arith, c.loop-played-test.true)))
 
-pub returns-clause-few : goal.returns-clause-few
-returns-clause-few g c =
-    let all = as_many_answers c.args.lines.now c.in_ok-events_of.field-0.items c.from_vec-events.result.items c.play.new.outcomes.items c.deref-3.result.now (c.in_ok-events_of.ensures.told largest_batch)
-    c.from_vec-events.ensures.items
-    (let all = all_played c.args.world.now c.play.new.self c.from_vec-events.result.items c.play.new.events.items c.play.new.outcomes.items c.play.ensures.played c.in_ok-play.ensures.all in all.answered) c.deref-3.ensures.value in
-    omega (arith, all, c.count_refused.ensures.few)
+pub loop-played-preserved : goal.loop-played-preserved
+loop-played-preserved g c =
+    let k = c.loop-played.played in
+    let lines : List Line = c.args.lines.now in
+    let line = c.index-lines-played.result in
+    let more : map seen_line (take (k + 1) lines) ≡ map seen_line (take k lines) ++ seen_line line ∷ [] =
+    ap (map seen_line) (take_more lines k line (omega (arith, c.loop-played-test.true)) ∙ ap (λ (l : Line). take k lines ++ l ∷ []) (sym c.index-lines-played.is))
+    ∙ map-append seen_line (take k lines) (line ∷ []) in
+    record {
+      within = omega (arith, c.loop-played-test.true);
+      out =
+          subst (λ (calls : List (ℕ × Call)). PlayedOut calls c.args.world.now c.play_line.new.world (c.loop-played.refused + c.in_ok-refused.field-0) c.play_line.new.work.text.items) (sym more)
+          (out_more (map seen_line (take k lines)) (seen_line line) c.args.world.now c.loop-played.world c.play_line.new.world c.loop-played.refused c.in_ok-refused.field-0 c.loop-played.work.text.items
+          c.play_line.new.work.text.items c.loop-played.invariant.out c.in_ok-refused.ensures.played);
+      nodes = c.in_ok-refused.ensures.nodes;
+      few = omega (arith, c.loop-played.invariant.few, c.in_ok-refused.ensures.few);
+    }

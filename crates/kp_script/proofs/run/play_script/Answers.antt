@@ -1,4 +1,4 @@
-use Rattle.std.proofs.Common.{◌≡◌, ◌∙◌, ℕ, ◌+◌, List, [], ◌++◌, Option, Err, IfSome, length, length-append, map, refl, sym, ap, subst, rules, tests, arith, append_assoc, append-nil}
+use Rattle.std.proofs.Common.{◌≡◌, ◌∙◌, ℕ, ◌+◌, List, [], ◌++◌, Option, Err, IfSome, drop, length, length-append, length-take-le, map, take, refl, sym, ap, subst, rules, tests, arith, append_assoc, append-nil}
 use Rattle.std.proofs.lemmas.Result.{err_from_is_err_and}
 use Rattle.std.proofs.lemmas.List.{map-append}
 use Rattle.kp_types.specs.Devices.{device_of}
@@ -13,7 +13,7 @@ use Rattle.kp_script.specs.Seen.{seen_header, seen_line, seen_script}
 use Rattle.kp_script.specs.Playing.{HasPlayed}
 use Rattle.kp_script.specs.Transcript.{WritesFirst}
 use Rattle.kp_script.specs.declared.script.Line.{Line}
-use Rattle.kp_script.proofs.Played.{Front, begun_lines, by_fault, calls_are, next_lawful, nothing_left, others_lawful, parts, played_more, played_none, rest_calls_lawful, same_lawful, traced, whole_lines, writes_first, writes_front, writes_to}
+use Rattle.kp_script.proofs.Played.{Front, begun_lines, by_fault, calls_are, nothing_left, others_lawful, parts, played_more, played_none, rest_lawful, same_lawful, traced, whole_lines, writes_first, writes_front, writes_to}
 use Rattle.kp_script.proofs.run.play_script.Goals as goal
 use Rattle.kp_types.proofs.Causes.{always}
 
@@ -36,16 +36,15 @@ pub play_lines-requires-clause-calls : goal.play_lines-requires-clause-calls
 play_lines-requires-clause-calls g c =
     let played = c.loop-rest.invariant.played in
     let all : List Line = c.as_slice-rest.result.now in
-    let p = parts all played.0 c.loop-rest.rest.now c.split_at.result.0.now c.split_at.result.1.now c.min.result played.1.0 c.split_at.ensures.front c.split_at.ensures.back in
-    next_lawful c.in_ok-script.script.header.count all played.0 c.loop-rest.rest.now c.split_at.result.0.now c.split_at.result.1.now p
+    rest_lawful c.in_ok-script.script.header.count all played.0 c.loop-rest.rest.now played.1.0
     (same_lawful c.in_ok-script.script.header.count all c.in_ok-script.script.lines.items c.as_slice-rest.ensures.value c.in_ok-script.ensures.found.calls)
 
-pub returns-in_err-refused-clause-first : goal.returns-in_err-refused-clause-first
-returns-in_err-refused-clause-first g c = λ e.
-    let r = c.in_err-refused.field-0.0 in
-    let q = err_from_is_err_and c.from_residual-in_err-refused.result c.from_residual-in_err-refused.ensures.1 in
+pub returns-in_err-played-clause-first : goal.returns-in_err-played-clause-first
+returns-in_err-played-clause-first g c = λ e.
+    let r = c.in_err-played.field-0.0 in
+    let q = err_from_is_err_and c.from_residual-in_err-played.result c.from_residual-in_err-played.ensures.1 in
     let memory : r ≡ refusals.Memory = sym q.2 ∙ cc in
-    let same : c.play_lines.new.writer ≡ c.loop-rest.writer = c.in_err-refused.ensures.untouched (ap Err memory) in
+    let same : c.play_lines.new.writer ≡ c.loop-rest.writer = c.in_err-played.ensures.untouched (ap Err memory) in
     let played = c.loop-rest.invariant.played in
     let script = seen_script c.in_ok-script.script in
     let old = g.W.Write.contents (device_of c.args.writer.now) in
@@ -62,14 +61,12 @@ returns-in_err-refused-clause-first g c = λ e.
     (traced c.runs_are_safe.ensures c.no_delivery_is_refused_oddly.ensures script.header (map seen_line played.0) c.loop-rest.world c.loop-rest.refused old (g.W.Write.contents (device_of c.loop-rest.writer)) played.1.1)
     played.1.1.written)
 
-pub returns-in_err-refused-clause-front : goal.returns-in_err-refused-clause-front
-returns-in_err-refused-clause-front g c =
-    let r = c.in_err-refused.field-0.0 in
+pub returns-in_err-played-clause-front : goal.returns-in_err-played-clause-front
+returns-in_err-played-clause-front g c =
+    let r = c.in_err-played.field-0.0 in
     let played = c.loop-rest.invariant.played in
     let done = played.0 in
     let rest : List Line = c.loop-rest.rest.now in
-    let next : List Line = c.split_at.result.0.now in
-    let others : List Line = c.split_at.result.1.now in
     let all : List Line = c.as_slice-rest.result.now in
     let script = seen_script c.in_ok-script.script in
     let count = script.header.count in
@@ -79,50 +76,58 @@ returns-in_err-refused-clause-front g c =
     let input = g.R.Read.remaining (device_of c.args.reader.now) in
     let bytes : IfSome input (λ xs. c.deref.result.now ≡ xs) =
     subst (λ (xs : List ℕ). IfSome input (λ ys. xs ≡ ys)) (sym c.deref.ensures.value) c.in_ok-input.ensures.bytes in
-    let p = parts all done rest next others c.min.result played.1.0 c.split_at.ensures.front c.split_at.ensures.back in
     let lawful = same_lawful count all c.in_ok-script.script.lines.items c.as_slice-rest.ensures.value c.in_ok-script.ensures.found.calls in
+    let front : Front count script.calls old now =
+    by_fault r (Front count script.calls old now) c.in_err-played.ensures.only
+    (λ device.
+    let b = c.in_err-played.ensures.begun (ap Err device) in
+    let next : List Line = take b.0 rest in
+    let others : List Line = drop b.0 rest in
+    let p = parts all done rest next others b.0 played.1.0 refl refl in
     let whole : script.calls ≡ map seen_line done ++ (map seen_line next ++ map seen_line others) =
     ap (map seen_line) (sym c.as_slice-rest.ensures.value) ∙ calls_are all done rest next others p in
-    let rest_lawful = rest_calls_lawful count all done rest next others p lawful in
-    let front : Front count script.calls old now =
-    by_fault r (Front count script.calls old now) c.in_err-refused.ensures.only
-    (λ device. begun_lines c.runs_are_safe.ensures c.no_delivery_is_refused_oddly.ensures c.plays_go_on.ensures c.bytes_are_an_offer.ensures.some script.header script.calls (map seen_line done) (map seen_line next) (map seen_line others)
-    c.loop-rest.world c.loop-rest.refused old mid now whole (others_lawful count all done rest next others p lawful) played.1.1 (c.in_err-refused.ensures.begun (ap Err device)))
+    begun_lines c.runs_are_safe.ensures c.no_delivery_is_refused_oddly.ensures c.plays_go_on.ensures c.bytes_are_an_offer.ensures.some script.header script.calls (map seen_line done) (map seen_line next) (map seen_line others)
+    c.loop-rest.world c.loop-rest.refused old mid now whole (others_lawful count all done rest next others p lawful) played.1.1 b.2)
     (λ memory.
-    let same : c.play_lines.new.writer ≡ c.loop-rest.writer = c.in_err-refused.ensures.untouched (ap Err memory) in
+    let same : c.play_lines.new.writer ≡ c.loop-rest.writer = c.in_err-played.ensures.untouched (ap Err memory) in
     let kept : now ≡ mid = ap (λ w. g.W.Write.contents (device_of w)) same in
+    let whole : script.calls ≡ map seen_line done ++ map seen_line rest =
+    ap (map seen_line) (sym c.as_slice-rest.ensures.value ∙ played.1.0) ∙ map-append seen_line done rest in
     subst (λ (known : Option (List ℕ)). Front count script.calls old known) (sym kept)
-    (whole_lines c.plays_go_on.ensures c.bytes_are_an_offer.ensures.some count script.calls (map seen_line done) (map seen_line next ++ map seen_line others) _ c.loop-rest.refused old mid whole
-    rest_lawful (traced c.runs_are_safe.ensures c.no_delivery_is_refused_oddly.ensures script.header (map seen_line done) c.loop-rest.world c.loop-rest.refused old mid played.1.1) played.1.1.written)) in
-    always c.from_residual-in_err-refused.result (writes_front input c.deref.result.now script old now bytes c.in_ok-script.ensures.found front)
+    (whole_lines c.plays_go_on.ensures c.bytes_are_an_offer.ensures.some count script.calls (map seen_line done) (map seen_line rest) _ c.loop-rest.refused old mid whole
+    (rest_lawful count all done rest played.1.0 lawful) (traced c.runs_are_safe.ensures c.no_delivery_is_refused_oddly.ensures script.header (map seen_line done) c.loop-rest.world c.loop-rest.refused old mid played.1.1)
+    played.1.1.written)) in
+    always c.from_residual-in_err-played.result (writes_front input c.deref.result.now script old now bytes c.in_ok-script.ensures.found front)
 
 pub loop-rest-preserved : goal.loop-rest-preserved
 loop-rest-preserved g c =
     let played = c.loop-rest.invariant.played in
     let done = played.0 in
     let rest : List Line = c.loop-rest.rest.now in
-    let next : List Line = c.split_at.result.0.now in
+    let n : ℕ = c.in_ok-played.played.lines in
+    let next : List Line = take n rest in
     let others : List Line = c.split_at.result.1.now in
     let all : List Line = c.as_slice-rest.result.now in
     let header = seen_header c.in_ok-script.script.header in
     let old = g.W.Write.contents (device_of c.args.writer.now) in
     let mid = g.W.Write.contents (device_of c.loop-rest.writer) in
     let now = g.W.Write.contents (device_of c.play_lines.new.writer) in
-    let p = parts all done rest next others c.min.result played.1.0 c.split_at.ensures.front c.split_at.ensures.back in
+    let p = parts all done rest next others n played.1.0 refl c.split_at.ensures.back in
     let long : length rest ≡ length next + length others = ap length p.rest_is ∙ length-append next others in
+    let front : length next ≡ n = length-take-le n rest c.in_ok-played.ensures.within in
     record {
       played = (
         done ++ next,
         (
           p.lines_are ∙ sym (append_assoc done next others),
-          subst (λ (calls : List (ℕ × Call)). HasPlayed header calls c.play_lines.new.world (c.loop-rest.refused + c.in_ok-refused.field-0) old now) (sym (map-append seen_line done next))
-              (played_more header (map seen_line done) (map seen_line next) c.loop-rest.world c.play_lines.new.world c.loop-rest.refused c.in_ok-refused.field-0 old mid now played.1.1
-              c.in_ok-refused.ensures.played),
+          subst (λ (calls : List (ℕ × Call)). HasPlayed header calls c.play_lines.new.world (c.loop-rest.refused + c.in_ok-played.played.refused) old now) (sym (map-append seen_line done next))
+              (played_more header (map seen_line done) (map seen_line next) c.loop-rest.world c.play_lines.new.world c.loop-rest.refused c.in_ok-played.played.refused old mid now played.1.1
+              c.in_ok-played.ensures.played),
         ),
       );
-      nodes = c.in_ok-refused.ensures.nodes;
-      few = omega (arith, long, c.loop-rest.invariant.few, c.in_ok-refused.ensures.few);
-      faults = c.in_ok-refused.ensures.counted ∙ c.loop-rest.invariant.faults;
+      nodes = c.in_ok-played.ensures.nodes;
+      few = omega (arith, long, front, c.loop-rest.invariant.few, c.in_ok-played.ensures.few);
+      faults = c.in_ok-played.ensures.counted ∙ c.loop-rest.invariant.faults;
     }
 
 pub returns-clause-played : goal.returns-clause-played
@@ -139,13 +144,13 @@ returns-clause-played g c =
     ap (map seen_line) (sym (append-nil played.0) ∙ sym (ap (λ (xs : List Line). played.0 ++ xs) (nothing_left c.loop-rest.rest.now none)) ∙ sym played.1.0 ∙ c.as_slice-rest.ensures.value) in
     let all : HasPlayed script.header script.calls c.loop-rest.world c.loop-rest.refused old now =
     subst (λ (calls : List (ℕ × Call)). HasPlayed script.header calls c.loop-rest.world c.loop-rest.refused old now) whole played.1.1 in
-    subst (λ (ended : RunEnd). WritesTo input old now ended) (sym c.new-4.ensures)
+    subst (λ (ended : RunEnd). WritesTo input old now ended) (sym c.new.ensures)
     (writes_to c.runs_are_safe.ensures c.no_delivery_is_refused_oddly.ensures input c.deref.result.now script c.loop-rest.world c.loop-rest.refused old now bytes c.in_ok-script.ensures.found
     c.loop-rest.invariant.nodes all)
 
 pub returns-clause-limited : goal.returns-clause-limited
 returns-clause-limited g c =
     let played = c.loop-rest.invariant.played in
-    subst (λ (ended : RunEnd). AreLimited ended.logs) (sym c.new-4.ensures)
+    subst (λ (ended : RunEnd). AreLimited ended.logs) (sym c.new.ensures)
     (limited c.batches_keep_their_size.ensures (seen_header c.in_ok-script.script.header) (map seen_line played.0) c.loop-rest.world c.loop-rest.refused
     (g.W.Write.contents (device_of c.args.writer.now)) (g.W.Write.contents (device_of c.loop-rest.writer)) c.loop-rest.invariant.nodes played.1.1)

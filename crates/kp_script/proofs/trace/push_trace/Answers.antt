@@ -1,7 +1,7 @@
 use Rattle.std.proofs.Common.{rules, ◌≡◌, ◌++◌, length}
 use Rattle.kp_world.specs.Answers.{outcome_of}
 use Rattle.kp_script.specs.Trace.{trace_line}
-use Rattle.kp_script.proofs.Tracing.{grown, traced_more, line_pushed}
+use Rattle.kp_script.proofs.Tracing.{grown, traced_more}
 use Rattle.kp_script.proofs.trace.push_trace.Goals as goal
 use Rattle.std.proofs.lemmas.Slice.Zip.{zip_turn}
 use Rattle.kp_script.specs.Call.{node_of}
@@ -19,6 +19,6 @@ loop-line-preserved c =
     first second c.loop-line.yielded_by (c.in-Some.line, c.in-Some.outcome) c.in-Some.is c.next.ensures.steps in
     let more = traced_more (λ (l : Line). (l.number, node_of (seen_call l.call))) outcome_of c.args.lines.now c.args.outcomes.now (length c.loop-line.yielded)
     c.in-Some.line.now c.in-Some.outcome.now turn.0 turn.1 (turn.2 c.in-Some.line.now) (turn.3 c.in-Some.outcome.now) in
-    let line : c.push-in-loop-line.new.self.items ≡ c.loop-line.text.items ++ trace_line c.in-Some.line.now.number (node_of (seen_call c.in-Some.line.now.call)) (outcome_of c.in-Some.outcome.now) =
-    line_pushed _ _ _ _ _ _ _ c.in_ok-push_number.ensures c.in_ok-push.ensures.items (rw c.node.ensures at c.in_ok-push_outcome.ensures.ok) c.in_ok-push-2.ensures.items in
+    let line : c.push_event.new.text.items ≡ c.loop-line.text.items ++ trace_line c.in-Some.line.now.number (node_of (seen_call c.in-Some.line.now.call)) (outcome_of c.in-Some.outcome.now) =
+    c.in_ok-push_event.ensures in
     rw length_push (grown _ _ _ _ _ _ line c.loop-line.invariant more)
