@@ -6,9 +6,10 @@ ghost use Rattle.kp_model.specs.Beginning.{find_map};
 ghost use Rattle.kp_model.specs.Log.{carry_cause};
 
 use crate::record::{LeaderAndIsr, NodeSet};
-use kp_batch::{Batch, share_all};
+use kp_batch::Batch;
 use kp_types::{Epoch, GREATEST_OFFSET, NodeId, Offset, Refusal};
 use std::alloc::Global;
+use std::sync::Arc;
 
 /// A follower asks for the batches that come after its log. (Kafka protocol guide, 'Fetch'; KIP-320 for the epoch;
 /// own: the last epoch and the life.)
@@ -31,11 +32,12 @@ pub struct FetchRequest {
 /// Batches that a leader hands over, with its high watermark.
 #[derive(Drop)]
 pub struct Fetched {
-    /// The batches from the asked offset on, shared with the leader's log: no byte is copied.
-    pub batches: Vec<Batch>,
+    /// The batches from the asked offset on, shared with the leader's log, so that no byte is copied; and the list itself with
+    /// all answers that have the same one.
+    pub batches: Arc<Vec<Batch>, Global>,
     /// The leader's high watermark.
     pub watermark: Offset,
-    pub ghost carried: { IsFalse (is_some (find_map carry_cause batches.items)) },
+    pub ghost carried: { IsFalse (is_some (find_map carry_cause batches.value.items)) },
 }
 
 /// Where a leader epoch ends in a leader's log.
@@ -127,8 +129,8 @@ impl Fetched {
     /// that no leader has stamped, `OffsetsExhausted` (F25) for one whose last offset is above 2^62 - 1. Whether the
     /// batches follow one another, and the follower's log, the taking node tests. One pass over the batches, which copies
     /// none of their bytes; no memory.
-    pub fn new(batches: Vec<Batch>, watermark: Offset) -> Result<Fetched, Refusal>
-        ensures refused { IsRefusedOnlyBy (find_map carry_cause batches.items) result }
+    pub fn new(batches: Arc<Vec<Batch>, Global>, watermark: Offset) -> Result<Fetched, Refusal>
+        ensures refused { IsRefusedOnlyBy (find_map carry_cause batches.value.items) result }
         ensures made { IfOk result (λ f. (f.batches ≡ batches) × (f.watermark ≡ watermark)) }
     {
         test_batches(&batches)?;
@@ -205,9 +207,9 @@ impl MessageBody {
         }
     }
 
-    /// The message once more, as one that a carrier repeats: it says the same, and an answer's batches are shared, so
-    /// that no byte is copied. F33 is the only refusal, of an answer with batches alone; O(n) in its batches.
-    pub fn share(&self, alloc: Global) -> Result<MessageBody, Refusal>
+    /// The message once more, as one that a carrier repeats: it says the same, and an answer's list of batches is shared. F33
+    /// is the only refusal, of an answer with batches alone, where the list's count of owners is full; O(1), and no memory.
+    pub fn share(&self) -> Result<MessageBody, Refusal>
         ensures same { IfOk result (λ body. letter body ≡ letter self.now) }
         ensures only { IfErr result (λ refusal. refusal ≡ Memory) }
         ensures plain { OnErr result (HasBatches (letter self.now)) }
@@ -217,7 +219,7 @@ impl MessageBody {
             MessageBody::FetchAnswer(answer) => {
                 let answered = match &answer.answered {
                     Answered::Batches(fetched) => Answered::Batches(Fetched {
-                        batches: share_all(alloc, &fetched.batches)?,
+                        batches: Arc::try_clone(&fetched.batches)?,
                         watermark: fetched.watermark,
                     }),
                     Answered::Diverging(end) => Answered::Diverging(*end),

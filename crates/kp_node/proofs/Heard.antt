@@ -58,7 +58,7 @@ answers_so : (b : Answer) (a : FetchAnswer) → answered_letter b ≡ fetch_answ
 answers_so b a e = some_is (answering_of b) (answering a.answered) (ap (λ (k : FetchLetter). k.answering) e)
 
 pub has_batches : (b : Answer) (a : FetchAnswer) (f : Fetched) → answered_letter b ≡ fetch_answer a → a.answered ≡ answers.Batches f → is_covered b.log b.request ≡ true
-has_batches b a f e is = (hands b (map logged f.batches.items) f.watermark (answers_so b a e ∙ ap answering is)).covered
+has_batches b a f e is = (hands b (map logged f.batches.value.items) f.watermark (answers_so b a e ∙ ap answering is)).covered
 
 pub has_none : (b : Answer) (a : FetchAnswer) (end : Option EpochEnd) → answered_letter b ≡ fetch_answer a → a.answered ≡ answers.Diverging end → is_covered b.log b.request ≡ false
 has_none b a end e is = (tells b (told_end end) (answers_so b a e ∙ ap answering is)).covered

@@ -1,9 +1,11 @@
 -- What it is that a call does which sends a message.
-use Rattle.std.specs.Prelude.{◌≡◌, None}
+use Rattle.std.specs.Prelude.{◌≡◌, ℕ, true, List, map, None}
+use Rattle.kp_batch.specs.Batch.{Written}
 use Rattle.kp_model.specs.World.{Leading, Leads}
 use Rattle.kp_model.specs.Event.{Act}
 use Rattle.kp_model.specs.Letter.{FetchLetter, Letter}
-use Rattle.kp_model.specs.Fetching.{serve_cause_for}
+use Rattle.kp_model.specs.Log.{Batch, is_boundary, logged}
+use Rattle.kp_model.specs.Fetching.{piece_from, serve_cause_for}
 use Rattle.kp_model.specs.Calls.{DoesSending as NodeDoesSending, served, answer_letter}
 use Rattle.kp_replica.specs.NumberedNode.{NumberedNode, IsSameNode}
 
@@ -20,3 +22,7 @@ pub record IsServed (old new : NumberedNode) (asked sent : FetchLetter) : Type 0
   pub new_is : new.state ≡ served old.state leading asked
   pub sent_is : sent ≡ answer_letter old.state asked
   pub same : IsSameNode old new
+
+-- the log hands over these batches from this offset on, which is a boundary of it
+abbrev pub IsPieceAt : List Batch → ℕ → List Written → Type 0
+IsPieceAt log offset batches = (is_boundary log offset ≡ true) × (map logged batches ≡ piece_from offset log)

@@ -62,6 +62,7 @@ impl Replica {
                 life: life + 1,
                 kept_epoch,
                 mode: Mode::Idle,
+                served: None,
             }),
             Err((kept, refusal)) => {
                 let node = KeptNode {

@@ -12,6 +12,7 @@ use kp_model::{
 use kp_replica::{Act, Answer, Broker, Effect, IsrChange, PlainAct, Role};
 use kp_types::{Epoch, NodeId, Offset, Refusal};
 use std::alloc::{AllocError, Global};
+use std::sync::Arc;
 
 /// Batches of these base offsets, leader epochs and words.
 type Batches = &'static [(Offset, Epoch, &'static str)];
@@ -358,7 +359,7 @@ impl Play {
         batches: Batches,
         watermark: Offset,
     ) -> Result<(), Refusal> {
-        let fetched = Fetched::new(forge(alloc, batches)?, watermark)?;
+        let fetched = Fetched::new(Arc::new(alloc, forge(alloc, batches)?)?, watermark)?;
         let request = fetch_request(asked, 0);
         self.hear(alloc, text, request, Answered::Batches(fetched))
     }

@@ -82,7 +82,6 @@ impl<B: BoardName> Plan<B> {
 #[derive(Drop)]
 pub struct Rough<B: BoardName, C, R> {
     rt: R,
-    alloc: Global,
     board: Arc<Board<B>, Global>,
     inner: C,
     choices: Vec<Choice>,
@@ -90,15 +89,11 @@ pub struct Rough<B: BoardName, C, R> {
 }
 
 // The message once more: it has the same letter, and its pass shows the same message. F33 is the only refusal.
-fn repeated<B: BoardName>(
-    alloc: Global,
-    board: &Board<B>,
-    message: &mut Message<B>,
-) -> Result<Message<B>, Refusal>
+fn repeated<B: BoardName>(board: &Board<B>, message: &mut Message<B>) -> Result<Message<B>, Refusal>
     ensures same { IfOk result (λ m. (m.pass ≡ message.old.pass) × (letter m.body ≡ letter message.old.body)) }
     ensures only { IfErr result (λ refusal. refusal ≡ refusals.Memory) }
 {
-    let body = message.body.share(alloc)?;
+    let body = message.body.share()?;
     let pass = board.repeat(&mut message.pass);
     Ok(Message { body, pass })
 }
@@ -114,7 +109,6 @@ impl<B: BoardName, C: Carry<Parcel<B>>, R> Rough<B, C, R> {
     ) -> Rough<B, C, R> {
         Rough {
             rt,
-            alloc,
             board,
             inner,
             choices,
@@ -129,7 +123,7 @@ impl<B: BoardName, C: Carry<Parcel<B>>, R> Rough<B, C, R> {
     fn send_twice(&self, place: NodeId, mut message: Message<B>) -> Result<(), Refusal>
         ensures { IfErr result (λ refusal. refusal ≡ refusals.Memory) }
     {
-        let second = repeated(self.alloc, &self.board, &mut message);
+        let second = repeated(&self.board, &mut message);
         self.inner.send(place, Parcel::Message(message))?;
         match second {
             Ok(second) => self.inner.send(place, Parcel::Message(second)),
