@@ -27,7 +27,7 @@ all_taken P xs zero h = tt
 all_taken P [] (suc n) h = tt
 all_taken P (x ∷ xs) (suc n) h = (h 0 x (omega arith) (omega arith), all_taken P xs n (λ k d from upto. h (suc k) d (omega arith) (omega arith)))
 
-cut_hides : (list : List Aborted) (offset start producer : ℕ) → AllWithin (λ a. leb a.marker offset ≡ true) list 0 start → hides (drop start list) producer offset ≡ hides list producer offset
+pub cut_hides : (list : List Aborted) (offset start producer : ℕ) → AllWithin (λ a. leb a.marker offset ≡ true) list 0 start → hides (drop start list) producer offset ≡ hides list producer offset
 cut_hides list offset start producer cut =
     let below : (a : Aborted) → leb a.marker offset ≡ true → decides producer offset a ≡ false = λ a e.
     let no : ltb offset a.marker ≡ false = le-ltb offset a.marker (leb-true a.marker offset e) in
@@ -38,7 +38,7 @@ cut_hides list offset start producer cut =
     ap (λ (o : Option Aborted). option_map_or (covers producer offset) o false) found
 
 -- the same of what is shown
-shows_same : (near list : List Aborted) (b : Batch) → ((producer : ℕ) → hides near producer b.base ≡ hides list producer b.base) → shows near b ≡ shows list b
+pub shows_same : (near list : List Aborted) (b : Batch) → ((producer : ℕ) → hides near producer b.base ≡ hides list producer b.base) → shows near b ≡ shows list b
 shows_same near list b same = go (content_of b)
   where
     go : (content : Content) → shows_at near b.base content ≡ shows_at list b.base content

@@ -12,5 +12,7 @@ pub mod Showing
 pub mod Consumers
 pub mod Growing
 pub mod Passing
+pub mod Keys
+pub mod Needed
 pub mod LineLists
 pub mod Spans

@@ -5,15 +5,15 @@ ghost use Rattle.std.specs.List.{All, AllByRecursion};
 ghost use Rattle.kp_model.specs.Log.{logged, next_offset};
 ghost use Rattle.kp_model.specs.Visible.{records_in};
 
-use crate::near::Nearby;
+use crate::by_producer::ByProducer;
 use crate::placed::PlacedRecords;
 use crate::searched::Searched;
 use kp_batch::{Batch, Record};
 use kp_types::Offset;
 
 /// The records of batches that a read-committed consumer sees, in their order, each with its offset and lent from its
-/// batch's bytes.
-#[derive(Clone, Copy)]
+/// batch's bytes. It holds the memory that [`committed_records`](crate::committed_records) took.
+#[derive(Drop)]
 pub struct CommittedRecords<'a> {
     searched: Searched<'a>,
     batches: &'a [Batch],
@@ -51,14 +51,14 @@ impl<'a> CommittedRecords<'a> {
     ghost use Rattle.kp_visible.specs.Near.{shown_from};
     ghost use Rattle.kp_visible.specs.Lent.{committed_left};
 
-    // Those of these batches, by the aborted transactions near this place.
-    pub(crate) fn of(batches: &'a [Batch], near: Nearby<'a>) -> CommittedRecords<'a>
+    // Those of these batches, by these aborted transactions.
+    pub(crate) fn of(batches: &'a [Batch], index: ByProducer<'a>) -> CommittedRecords<'a>
         requires { AllByRecursion (λ w. next_offset (logged w) ≤ 2 ^ 62) batches.now }
-        ensures { committed_left result ≡ records_in
-            (shown_from near.entry.aborted.now near.entry.place (map logged batches.now)) }
+        ensures { committed_left result
+            ≡ records_in (shown_from index.entry.aborted.now 0 (map logged batches.now)) }
     {
         CommittedRecords {
-            searched: Searched::of(near),
+            searched: Searched::of(index),
             batches,
             current: PlacedRecords::none(),
         }

@@ -1,34 +1,64 @@
-//! Which batches a consumer shows, by the list of aborted transactions.
+//! Which aborted transactions decide for batches.
 
-ghost use Rattle.std.specs.Prelude.{◌≡◌, ◌≤◌, drop};
-ghost use Rattle.std.specs.List.{find, slice_get};
-ghost use Rattle.kp_visible.specs.Filter.{decides};
-ghost use Rattle.kp_visible.specs.Searched.{NoneDecides};
+ghost use Rattle.std.specs.Prelude.{◌≡◌, ◌≤◌, map};
+ghost use Rattle.std.specs.List.{All, filter};
+ghost use Rattle.std.specs.List.Sorted.{IsNonDecreasingBy};
+ghost use Rattle.kp_model.specs.Log.{logged};
+ghost use Rattle.kp_visible.specs.Filter.{shows};
+ghost use Rattle.kp_visible.specs.Searched.{IsFirstFrom, stops};
 
+use kp_batch::Batch;
 use kp_txns::AbortedTransaction;
 use kp_types::Offset;
 
-// From a place on, the first of the transactions that end above the offset that is the producer's, or at whose marker
-// nothing that began at or below the offset was open any more; the end of the list, where there is none. O(1), and the
-// transactions in front of that one.
-pub(crate) fn first_deciding(
-    aborted: &[AbortedTransaction],
-    from: usize,
-    producer: u64,
-    offset: Offset,
-) -> usize
-    ensures on { from ≤ result }
-    ensures passed { NoneDecides aborted.now producer offset from result }
-    ensures found { find (decides producer offset) (drop from aborted.now)
-        ≡ slice_get aborted.now result }
+// From a place on, the first transaction that ends above the offset, and at whose marker nothing that began at or below the
+// offset was open any more; the end of the list, where there is none. O(1), and the transactions in front of that one.
+pub(crate) fn first_stopping(aborted: &[AbortedTransaction], from: usize, offset: Offset) -> usize
+    ensures { IsFirstFrom (stops offset) aborted.now from result }
 {
     let mut place = from;
     while place < aborted.len() {
         let ended = &aborted[place];
-        if (ended.producer == producer || ended.stable > offset) && ended.marker > offset {
+        if ended.stable > offset && ended.marker > offset {
             return place;
         }
         place += 1;
     }
     place
+}
+
+// The lowest and the highest base offset of batches. O(n) in the batches.
+fn base_offsets(batches: &[Batch]) -> (Offset, Offset)
+    ensures { All (λ w. (result.0 ≤ (logged w).base) × ((logged w).base ≤ result.1)) batches.now }
+{
+    let mut lowest = Offset::MAX;
+    let mut highest = 0;
+    for batch in batches {
+        let offset = batch.base_offset();
+        lowest = lowest.min(offset);
+        highest = highest.max(offset);
+    }
+    (lowest, highest)
+}
+
+// Of a list that rises by marker, those that decide for these batches: from the first on that ends above one of them, up to the
+// first that decides for each of them. O(b + log n + m) in the b batches and the n transactions, of which m are those.
+pub(crate) fn deciding<'a>(
+    batches: &[Batch],
+    aborted: &'a [AbortedTransaction],
+) -> &'a [AbortedTransaction]
+    ensures rising { IsNonDecreasingBy (λ a. a.marker) aborted.now
+        → IsNonDecreasingBy (λ a. a.marker) result.now }
+    ensures same { IsNonDecreasingBy (λ a. a.marker) aborted.now
+        → filter (shows result.now) (map logged batches.now)
+        ≡ filter (shows aborted.now) (map logged batches.now) }
+{
+    let (lowest, highest) = base_offsets(batches);
+    let (_, ending) = aborted.split_at(aborted.partition_point(|ended| ended.marker <= lowest));
+    let last = first_stopping(ending, 0, highest);
+    if last < ending.len() {
+        &ending[..last + 1]
+    } else {
+        ending
+    }
 }

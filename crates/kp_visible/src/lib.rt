@@ -3,6 +3,7 @@
 //! The layer above gets, of batches below the last stable offset, the visible records of the log, each with its offset.
 #![tactic(auto)]
 
+mod by_producer;
 mod committed;
 mod filter;
 mod lines;
@@ -10,7 +11,7 @@ mod near;
 mod placed;
 mod searched;
 
-ghost use Rattle.std.specs.Prelude.{◌≡◌, ◌≤◌, ◌^◌, ℕ, List, Contains, map};
+ghost use Rattle.std.specs.Prelude.{◌≡◌, ◌≤◌, ◌^◌, ℕ, List, Contains, IfOk, map};
 ghost use Rattle.std.specs.List.{AllByRecursion, filter};
 ghost use Rattle.std.specs.List.Sorted.{IsNonDecreasingBy};
 ghost use Rattle.kp_model.specs.Log.{Batch as LogBatch, IsLog, below, logged, next_offset};
@@ -20,11 +21,13 @@ ghost use Rattle.kp_visible.specs.Filter.{shows};
 ghost use Rattle.kp_visible.specs.Lent.{committed_left};
 ghost use Rattle.kp_visible.specs.Laws.{AbortedRecordsAreHidden, AbortedRecordsWereHidden, CommittedRecordsAreVisible, VisibleOffsetsRise, VisibleRecordsStay};
 
-use crate::near::Nearby;
+use crate::by_producer::ByProducer;
+use crate::filter::deciding;
 pub use committed::CommittedRecords;
 use kp_batch::Batch;
 use kp_txns::AbortedTransaction;
 pub use lines::{ReadRecord, ReadRecords, push_committed, push_lines};
+use std::alloc::{AllocError, Global};
 
 /// What a read-committed consumer sees of these batches, by a list of aborted transactions (KIP-98). Control batches are
 /// passed over. Data that isn't transactional is shown. For a transactional batch, of the transactions that end above its
@@ -32,30 +35,32 @@ pub use lines::{ReadRecord, ReadRecords, push_committed, push_lines};
 /// open any more: it hides the batch, where it is the producer's and began at or below the offset.
 /// Each batch lies below offset 2^62. The list rises by marker, as a log's does: so of batches below the last stable
 /// offset, the log's list shows those that are visible.
-/// O(log n) in the n aborted transactions. Then a batch costs O(1), and the transactions that end between it and the batch
-/// in front of it. A transactional one costs those too that end behind it, up to the one that decides: each of them ended
-/// while a transaction that began at or below the batch's base offset was open. Where batches rise by offset, those that the
-/// search for the producer's batch in front passed over cost nothing again, unless a batch between the two is of another
-/// producer whose number has the same rest by 128. The iterator takes 1.6 KB; nothing is allocated, and no bytes are copied.
+/// It fails only where memory runs out (F33). O(b + log n + m log m) in the b batches and the n aborted transactions, of which m
+/// can decide for one of them: from the first on that ends above the lowest batch, up to the first that decides for all up to
+/// the highest. It takes at most 32 bytes for each of the m, and none where none ends above a batch. Then a batch costs O(1),
+/// and the transactions that end between it and the batch in front of it. A transactional one costs O(log m) besides, and O(1)
+/// where no producer whose number has the same rest by m, at its next power of two, had a batch since this one's last; and
+/// where batches rise by offset, all of them together the m. No bytes are copied.
 pub fn committed_records<'a>(
+    alloc: Global,
     batches: &'a [Batch],
     aborted: &'a [AbortedTransaction],
-) -> CommittedRecords<'a>
+) -> Result<CommittedRecords<'a>, AllocError>
     requires { AllByRecursion (λ w. next_offset (logged w) ≤ 2 ^ 62) batches.now }
-    ensures by_list { IsNonDecreasingBy (λ a. a.marker) aborted.now
-        → committed_left result ≡ records_in (filter (shows aborted.now) (map logged batches.now)) }
-    ensures committed { (log : List LogBatch) → (high_watermark : ℕ) → IsLog log
+    ensures by_list { IfOk result (λ records. IsNonDecreasingBy (λ a. a.marker) aborted.now
+        → committed_left records ≡ records_in (filter (shows aborted.now) (map logged batches.now))) }
+    ensures committed { IfOk result (λ records. (log : List LogBatch) → (high_watermark : ℕ) → IsLog log
         → aborted.now ≡ aborted_in log
         → AllByRecursion (λ b. Contains log b
         × (next_offset b ≤ stable log high_watermark)) (map logged batches.now)
-        → committed_left result ≡ records_in (filter (is_visible log) (map logged batches.now)) }
-    ensures whole { (log : List LogBatch) → (high_watermark : ℕ) → IsLog log
+        → committed_left records ≡ records_in (filter (is_visible log) (map logged batches.now))) }
+    ensures whole { IfOk result (λ records. (log : List LogBatch) → (high_watermark : ℕ) → IsLog log
         → aborted.now ≡ aborted_in log
         → map logged batches.now ≡ below (stable log high_watermark) log
-        → committed_left result ≡ visible log high_watermark }
+        → committed_left records ≡ visible log high_watermark) }
 {
-    let offset = batches.first().map_or(0, |batch| batch.base_offset());
-    CommittedRecords::of(batches, Nearby::search(aborted, offset))
+    let index = ByProducer::of(alloc, deciding(batches, aborted))?;
+    Ok(CommittedRecords::of(batches, index))
 }
 
 /// No record of an aborted transaction is visible at any high watermark: not once the log has the

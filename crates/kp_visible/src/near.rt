@@ -1,44 +1,20 @@
 //! Where in the list of aborted transactions the search for a batch begins.
 
-ghost use Rattle.std.specs.Prelude.{◌≡◌, ◌<◌, ◌≤◌, length};
-ghost use Rattle.std.specs.List.Sorted.{IsNonDecreasingBy, IsPartitionPoint};
+ghost use Rattle.std.specs.Prelude.{◌≡◌, ◌≤◌, length};
 ghost use Rattle.kp_visible.specs.Near.{back_from, on_from, place_from};
 
 use kp_txns::AbortedTransaction;
 use kp_types::Offset;
 
-// A place in the list of aborted transactions.
-#[derive(Clone, Copy)]
-pub(crate) struct Nearby<'a> {
-    pub(crate) aborted: &'a [AbortedTransaction],
-    pub(crate) place: usize,
-    ghost within: { place ≤ length aborted.now },
-}
-
-impl<'a> Nearby<'a> {
-    // In a list that rises by marker, at the first transaction that ends above the offset. O(log n), by binary search.
-    pub(crate) fn search(aborted: &'a [AbortedTransaction], offset: Offset) -> Nearby<'a>
-        ensures list { result.aborted.now ≡ aborted.now }
-        ensures found { IsNonDecreasingBy (λ a. a.marker) aborted.now
-            → IsPartitionPoint (λ a. a.marker ≤ offset) (λ a.
-            offset < a.marker) aborted.now result.place }
-    {
-        let place = aborted.partition_point(|ended| ended.marker <= offset);
-        Nearby { aborted, place }
-    }
-
-    // In a list that rises by marker, at the first transaction that ends above the offset, from any place. O(1), and the
-    // transactions that lie between the two places.
-    pub(crate) fn moved_to(self, offset: Offset) -> Nearby<'a>
-        ensures list { result.aborted.now ≡ self.entry.aborted.now }
-        ensures moved { result.place ≡ place_from self.entry.aborted.now offset self.entry.place }
-    {
-        let back = go_back(self.aborted, self.place, offset);
-        Nearby {
-            aborted: self.aborted,
-            place: go_on(self.aborted, back, offset),
-        }
-    }
+// In a list that rises by marker, the first transaction that ends above the offset, from any place. O(1), and the
+// transactions that lie between the two places.
+pub(crate) fn place_near(aborted: &[AbortedTransaction], place: usize, offset: Offset) -> usize
+    requires { place ≤ length aborted.now }
+    ensures same { result ≡ place_from aborted.now offset place }
+    ensures within { result ≤ length aborted.now }
+{
+    let back = go_back(aborted, place, offset);
+    go_on(aborted, back, offset)
 }
 
 // Back from the place over the transactions that end above the offset.

@@ -1,53 +1,52 @@
-//! The search for a batch in the list of aborted transactions, and what earlier ones passed over there.
+//! The search for a batch in the list of aborted transactions.
 
-ghost use Rattle.std.specs.Prelude.{◌≡◌, ◌<◌, ◌≤◌, drop};
-ghost use Rattle.std.specs.List.{find, slice_get};
+ghost use Rattle.std.specs.Prelude.{◌≡◌, ◌≤◌, false, drop, length};
+ghost use Rattle.std.specs.List.{AllWithin, find, slice_get};
 ghost use Rattle.kp_model.specs.Log.{logged};
 ghost use Rattle.kp_visible.specs.Filter.{decides, hides, shows};
 ghost use Rattle.kp_visible.specs.Near.{place_from};
-ghost use Rattle.kp_visible.specs.Searched.{HavePassed, NoneDecides};
+ghost use Rattle.kp_visible.specs.Searched.{stops};
 
-use crate::filter::first_deciding;
-use crate::near::Nearby;
+use crate::by_producer::ByProducer;
+use crate::filter::first_stopping;
+use crate::near::place_near;
 use kp_batch::Batch;
 use kp_txns::AbortedTransaction;
 use kp_types::Offset;
 
-// How many producers' searches are remembered.
-const SLOTS: usize = 128;
-
-// A batch's place in the list, its base offset, and for each slot a producer, with the place from there on up to which
-// nothing decides for a batch of its at this offset or above. Which producer has a slot is up to the last search.
-#[derive(Clone, Copy)]
+// A batch's base offset, its place in the list, and the place up to which none from there on stops a search at this offset.
+#[derive(Drop)]
 pub(crate) struct Searched<'a> {
-    near: Nearby<'a>,
+    index: ByProducer<'a>,
     offset: Offset,
-    producers: [u64; SLOTS],
-    places: [u32; SLOTS],
-    ghost passed: { HavePassed near.aborted.now offset near.place producers places },
+    place: usize,
+    stopping: usize,
+    ghost within: { place ≤ length index.aborted.now },
+    ghost passed: { AllWithin (λ a. stops offset a ≡ false) index.aborted.now place stopping },
 }
 
 impl<'a> Searched<'a> {
-    // From this place on, with nothing passed over. It costs clearing the slots.
-    pub(crate) fn of(near: Nearby<'a>) -> Searched<'a>
-        ensures { result.near ≡ near.entry }
+    // At the list's beginning.
+    pub(crate) fn of(index: ByProducer<'a>) -> Searched<'a>
+        ensures list { result.index.aborted.now ≡ index.entry.aborted.now }
+        ensures first { result.place ≡ 0 }
     {
         Searched {
-            near,
+            index,
             offset: 0,
-            producers: [0; SLOTS],
-            places: [0; SLOTS],
+            place: 0,
+            stopping: 0,
         }
     }
 
     // Whether a consumer shows the batch: no control batch, and no batch of an aborted transaction. It costs what the way
     // to the batch's place does, and `is_aborted`.
     pub(crate) fn is_shown(&mut self, batch: &Batch) -> bool
-        ensures list { self.new.near.aborted.now ≡ self.old.near.aborted.now }
-        ensures moved { self.new.near.place
-            ≡ place_from self.old.near.aborted.now (logged batch.now).base self.old.near.place }
+        ensures list { self.new.index.aborted.now ≡ self.old.index.aborted.now }
+        ensures moved { self.new.place
+            ≡ place_from self.old.index.aborted.now (logged batch.now).base self.old.place }
         ensures shown { result
-            ≡ shows (drop self.new.near.place self.new.near.aborted.now) (logged batch.now) }
+            ≡ shows (drop self.new.place self.new.index.aborted.now) (logged batch.now) }
     {
         self.move_to(batch.base_offset());
         match batch.producer_id() {
@@ -56,83 +55,61 @@ impl<'a> Searched<'a> {
         }
     }
 
-    // To the place of a batch at this offset. What was passed over stays so at a higher one, and is forgotten at a lower.
+    // To the place of a batch at this offset. It costs the way there.
     fn move_to(&mut self, offset: Offset)
-        ensures list { self.new.near.aborted.now ≡ self.old.near.aborted.now }
-        ensures moved { self.new.near.place
-            ≡ place_from self.old.near.aborted.now offset self.old.near.place }
+        ensures list { self.new.index.aborted.now ≡ self.old.index.aborted.now }
+        ensures moved { self.new.place ≡ place_from self.old.index.aborted.now offset self.old.place }
         ensures here { self.new.offset ≡ offset }
     {
-        let near = self.near.moved_to(offset);
-        let further = self.offset <= offset && self.near.place <= near.place;
-        self.near = near;
+        let place = place_near(self.index.aborted, self.place, offset);
+        self.stopping = self.stopping_from(place, offset);
+        self.place = place;
         self.offset = offset;
-        if !further {
-            self.places = [0; SLOTS];
+    }
+
+    // From a place on, up to where none stops a search at an offset: as far as is known at a higher offset and from a place
+    // further on, since what doesn't stop one doesn't at a higher offset either. O(1).
+    #[tactic(auto, using(crate::proofs::Passing::passed_later))]
+    fn stopping_from(&self, place: usize, offset: Offset) -> usize
+        ensures { AllWithin (λ a. stops offset a ≡ false) self.now.index.aborted.now place result }
+    {
+        if self.offset <= offset && self.place <= place {
+            self.stopping
+        } else {
+            place
         }
     }
 
     // Whether the list says that this producer's transactional batch here was aborted. It costs the search.
     fn is_aborted(&mut self, producer: u64) -> bool
-        ensures near { self.new.near ≡ self.old.near }
+        ensures list { self.new.index.aborted.now ≡ self.old.index.aborted.now }
+        ensures place { self.new.place ≡ self.old.place }
         ensures hidden { result
-            ≡ hides (drop self.old.near.place self.old.near.aborted.now) producer self.old.offset }
+            ≡ hides (drop self.old.place self.old.index.aborted.now) producer self.old.offset }
     {
         let place = self.search(producer);
-        match self.near.aborted.get(place) {
+        match self.index.aborted.get(place) {
             Some(ended) => ended.producer == producer && ended.first <= self.offset,
             None => false,
         }
     }
 
-    // The place of the transaction that decides for this producer's batch here, or the end of the list. O(1), and the
-    // transactions in front of it that no earlier search of the producer's passed over.
+    // The place of the transaction that decides for this producer's batch here, or the end of the list. It costs `first_own`,
+    // and the transactions that the search for one that stops goes on over.
     fn search(&mut self, producer: u64) -> usize
-        ensures near { self.new.near ≡ self.old.near }
+        ensures list { self.new.index.aborted.now ≡ self.old.index.aborted.now }
+        ensures place { self.new.place ≡ self.old.place }
         ensures offset { self.new.offset ≡ self.old.offset }
         ensures found { find
-            (decides producer self.old.offset) (drop self.old.near.place self.old.near.aborted.now)
-            ≡ slice_get self.old.near.aborted.now result }
+            (decides producer self.old.offset) (drop self.old.place self.old.index.aborted.now)
+            ≡ slice_get self.old.index.aborted.now result }
     {
-        let from = self.start(producer);
-        let place = first_deciding(self.near.aborted, from, producer, self.offset);
-        if place > from {
-            self.note(producer, place);
+        let from = self.stopping.max(self.place);
+        self.stopping = first_stopping(self.index.aborted, from, self.offset);
+        if self.stopping == self.place {
+            return self.place;
         }
-        place
+        let own = self.index.first_own(self.place, producer, self.offset);
+        own.min(self.stopping)
     }
-
-    // Where the producer's search begins: at the batch's place, or behind what was passed over.
-    fn start(&self, producer: u64) -> usize
-        ensures on { self.now.near.place ≤ result }
-        ensures passed { NoneDecides self.now.near.aborted.now producer self.now.offset
-            self.now.near.place result }
-    {
-        let slot = slot_of(producer);
-        let place = self.places[slot] as usize;
-        if self.producers[slot] == producer && place > self.near.place {
-            place
-        } else {
-            self.near.place
-        }
-    }
-
-    // Up to where the producer's search came; of places from 2^32 on, less than that.
-    fn note(&mut self, producer: u64, place: usize)
-        requires { NoneDecides self.old.near.aborted.now producer self.old.offset
-            self.old.near.place place }
-        ensures near { self.new.near ≡ self.old.near }
-        ensures offset { self.new.offset ≡ self.old.offset }
-    {
-        let slot = slot_of(producer);
-        self.producers[slot] = producer;
-        self.places[slot] = place.min(u32::MAX as usize) as u32;
-    }
-}
-
-// The slot of a producer, which others have too.
-fn slot_of(producer: u64) -> usize
-    ensures { result < SLOTS }
-{
-    (producer % SLOTS as u64) as usize
 }

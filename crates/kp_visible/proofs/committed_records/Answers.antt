@@ -1,4 +1,4 @@
-use Rattle.std.proofs.Common.{List, ap, ◌∙◌, sym, subst}
+use Rattle.std.proofs.Common.{List, ap, ◌∙◌, sym, subst, arith}
 use Rattle.std.specs.Prelude.{map}
 use Rattle.std.specs.List.{filter}
 use Rattle.std.specs.List.Sorted.{IsNonDecreasingBy}
@@ -6,17 +6,17 @@ use Rattle.kp_model.specs.Log.{Batch, logged}
 use Rattle.kp_model.specs.Transactions.{Aborted, aborted_in}
 use Rattle.kp_model.specs.Visible.{records_in}
 use Rattle.kp_visible.specs.Filter.{shows}
+use Rattle.kp_visible.specs.Near.{shown_from}
 use Rattle.kp_visible.proofs.Cutting.{aborted_rise, shown_whole}
 use Rattle.kp_visible.proofs.Showing.{shown_is, whole_is}
 use Rattle.kp_visible.proofs.committed_records.Goals as goal
 
 pub returns-clause-by_list : goal.returns-clause-by_list
 returns-clause-by_list c = λ rises.
-    let near = c.search.result in
-    let list = c.search.ensures.list in
-    let rising : IsNonDecreasingBy (λ a. a.marker) near.aborted.now = subst (IsNonDecreasingBy (λ a. a.marker)) (sym list) rises in
-    c.of.ensures ∙ ap records_in (shown_whole near.aborted.now near.place (map logged c.args.batches.now) rising near.within)
-    ∙ ap (λ (entries : List Aborted). records_in (filter (shows entries) (map logged c.args.batches.now))) list
+    let needed = c.deciding.result.now in
+    let batches = map logged c.args.batches.now in
+    c.of-2.ensures ∙ ap (λ (entries : List Aborted). records_in (shown_from entries 0 batches)) c.in_ok-index.ensures
+    ∙ ap records_in (shown_whole needed 0 batches (c.deciding.ensures.rising rises) (omega arith) ∙ c.deciding.ensures.same rises)
 
 pub returns-clause-committed : goal.returns-clause-committed
 returns-clause-committed c = λ log high_watermark lawful list all.

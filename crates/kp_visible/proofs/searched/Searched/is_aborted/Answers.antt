@@ -11,8 +11,8 @@ use Rattle.kp_visible.proofs.searched.Searched.is_aborted.Goals as goal
 pub returns-then-ended-producer-clause-hidden : goal.returns-then-ended-producer-clause-hidden
 returns-then-ended-producer-clause-hidden c =
     let covering = covers c.args.producer c.args.self.now.offset in
-    let list : c.search-place.new.self.near.aborted.now ≡ c.args.self.now.near.aborted.now = cc in
-    let here : slice_get c.search-place.new.self.near.aborted.now c.search-place.result ≡ Some c.in-Some.ended.now = grind (arith, common_steps, gets, c.in-Some.ensures) in
+    let list : c.search-place.new.self.index.aborted.now ≡ c.args.self.now.index.aborted.now = cc in
+    let here : slice_get c.search-place.new.self.index.aborted.now c.search-place.result ≡ Some c.in-Some.ended.now = grind (arith, common_steps, gets, c.in-Some.ensures) in
     let is = c.search-place.ensures.found ∙ sym (ap (λ (l : List Aborted). slice_get l c.search-place.result) list) ∙ here in
     ap (λ n. leb c.ended.inside.first n) c.search-place.ensures.offset
     ∙ sym (ap (λ (own : Bool). own && leb c.ended.inside.first c.args.self.now.offset) (eq-eqb c.ended.inside.producer c.args.producer c.if-ended-producer.true))
@@ -21,8 +21,8 @@ returns-then-ended-producer-clause-hidden c =
 pub returns-else-ended-producer-clause-hidden : goal.returns-else-ended-producer-clause-hidden
 returns-else-ended-producer-clause-hidden c =
     let covering = covers c.args.producer c.args.self.now.offset in
-    let list : c.search-place.new.self.near.aborted.now ≡ c.args.self.now.near.aborted.now = cc in
-    let here : slice_get c.search-place.new.self.near.aborted.now c.search-place.result ≡ Some c.in-Some.ended.now = grind (arith, common_steps, gets, c.in-Some.ensures) in
+    let list : c.search-place.new.self.index.aborted.now ≡ c.args.self.now.index.aborted.now = cc in
+    let here : slice_get c.search-place.new.self.index.aborted.now c.search-place.result ≡ Some c.in-Some.ended.now = grind (arith, common_steps, gets, c.in-Some.ensures) in
     let is = c.search-place.ensures.found ∙ sym (ap (λ (l : List Aborted). slice_get l c.search-place.result) list) ∙ here in
     let other = ne_eqb c.ended.inside.producer c.args.producer c.if-ended-producer.false in
     other ∙ sym (ap (λ (own : Bool). own && leb c.ended.inside.first c.args.self.now.offset) other)
@@ -31,7 +31,7 @@ returns-else-ended-producer-clause-hidden c =
 pub returns-in-None-clause-hidden : goal.returns-in-None-clause-hidden
 returns-in-None-clause-hidden c =
     let covering = covers c.args.producer c.args.self.now.offset in
-    let list : c.search-place.new.self.near.aborted.now ≡ c.args.self.now.near.aborted.now = cc in
-    let here : slice_get c.search-place.new.self.near.aborted.now c.search-place.result ≡ None = slice_get_past c.search-place.new.self.near.aborted.now c.search-place.result c.in-None.ensures.lookup.3 in
+    let list : c.search-place.new.self.index.aborted.now ≡ c.args.self.now.index.aborted.now = cc in
+    let here : slice_get c.search-place.new.self.index.aborted.now c.search-place.result ≡ None = slice_get_past c.search-place.new.self.index.aborted.now c.search-place.result c.in-None.ensures.lookup.3 in
     let is = c.search-place.ensures.found ∙ sym (ap (λ (l : List Aborted). slice_get l c.search-place.result) list) ∙ here in
     sym (ap (λ (o : Option Aborted). option_map_or covering o false) is)
