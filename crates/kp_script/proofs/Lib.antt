@@ -1,6 +1,7 @@
 pub mod Options
 pub mod Splitting
 pub mod Numbers
+pub mod DigitPairs
 pub mod LineLaws
 pub mod Pieces
 pub mod Reading

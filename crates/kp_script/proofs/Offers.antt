@@ -1,5 +1,5 @@
 -- What the bytes of a batch hand in that a line asks for.
-use Rattle.std.proofs.Common.{◌≡◌, ℕ, ◌+◌, ◌≤◌, ◌^◌, ltb, Bool, true, false, List, length, map, Option, Some, None, Ok, Err, refl, ap, ◌∙◌, arith, subst}
+use Rattle.std.proofs.Common.{◌≡◌, ℕ, ◌+◌, ◌<◌, ◌≤◌, ◌^◌, ltb, Bool, true, false, List, length, map, Option, Some, None, Ok, Err, refl, ap, ◌∙◌, arith, subst}
 use Rattle.std.proofs.lemmas.Bool.{cond_both, lt-ltb, ltb-true, ltb-false}
 use Rattle.std.specs.Prelude.{if◌then◌else◌}
 use Rattle.std.specs.Option.{ok_or, option_map}
@@ -15,6 +15,7 @@ use Rattle.kp_batch.specs.Spelling.{IsSpelled}
 use Rattle.kp_replica.specs.Replies.{IsOffer}
 use Rattle.kp_script.specs.Call.{Sender, IsSender}
 use Rattle.kp_script.specs.Told.{plain_record, said_of, body_at, offer_of}
+use Rattle.kp_script.specs.Transcript.{largest_batch}
 use Rattle.kp_script.proofs.Appending.{fields_at, plain_is, produced_is, body_is}
 
 -- the fields of a sender
@@ -73,3 +74,9 @@ offers max bytes time sender transactional values parts range same spelled =
       agreed = spelled.agreed (omega (arith, size, small));
       disagreeing = spelled.disagreeing (omega (arith, size, small));
     }))
+
+-- And bytes that are too large hand in that fault, where the batch would be too large.
+pub large_offer : (bytes : List ℕ) (time : ℕ) (sender : Sender) (transactional : Bool) (values : List (List ℕ)) → IsFirstFault largest_batch bytes TooLarge →
+    largest_batch < 61 + length (records_spelling time 0 (map (plain_record time) values)) → IsOffer largest_batch bytes (offer_of largest_batch time sender transactional values)
+large_offer bytes time sender transactional values first large =
+    rw (lt-ltb largest_batch (61 + length (records_spelling time 0 (map (plain_record time) values))) large) first

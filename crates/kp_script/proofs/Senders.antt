@@ -1,12 +1,20 @@
--- Laws of a producer's fields and of a batch's kind: each stands before a space in one way.
+-- Laws of a producer's fields and of a batch's kind: how a field is kept, and that each stands before a space in one way.
 use Rattle.std.proofs.Common.{◌≡◌, ◌≢◌, ℕ, ◌<◌, ◌≤◌, ◌^◌, Bool, true, false, List, ◌∷◌, ◌++◌, Option, Some, None, IfSome, get_or, refl, sym, ap, ◌∙◌, arith, codes}
+use Rattle.std.proofs.lemmas.Bool.{eq-eqb, ne_eqb}
 use Rattle.std.proofs.lemmas.Fmt.{decimal_injective}
+use Rattle.std.specs.Prelude.{unwrap_or}
 use Rattle.std.specs.Fmt.{decimal}
 use Rattle.std.specs.Int.{IsInRange}
 use Rattle.kp_script.specs.Call.{Sender, IsSender, signed_text, kind_text}
 use Rattle.kp_script.specs.Read.{Lacks, sender_front}
+use Rattle.kp_script.specs.Seen.{field_below}
 use Rattle.kp_script.proofs.Numbers.{decimal_lacks, each_digit, some_digit}
 use Rattle.kp_script.proofs.Splitting.{one_parting}
+
+-- a field that is kept as a number is that field again
+pub held : (greatest limit kept : ℕ) (field : Option ℕ) → limit ≤ greatest → IfSome field (λ n. n < limit) → kept ≡ unwrap_or field greatest → field_below greatest kept ≡ field
+held greatest limit kept None fits below e = rw (eq-eqb kept greatest e) refl
+held greatest limit kept (Some n) fits below e = rw e (rw (ne_eqb n greatest (λ e. omega (arith, e, below, fits))) refl)
 
 -- a field has no space
 signed_lacks : (field : Option ℕ) → IfSome field (λ n. n < 2 ^ 64) → Lacks 32 (signed_text field)
@@ -38,7 +46,7 @@ same_signed limit bytes a b x y fits p q e f =
     let parts = one_parting 32 (signed_text a) (signed_text b) x y (signed_lacks a first) (signed_lacks b second) (sym e ∙ f) in
     (one_field a b first second parts.0, parts.1)
 
-same_fields : (a b : Sender) → a.producer ≡ b.producer → a.epoch ≡ b.epoch → a.sequence ≡ b.sequence → a ≡ b
+pub same_fields : (a b : Sender) → a.producer ≡ b.producer → a.epoch ≡ b.epoch → a.sequence ≡ b.sequence → a ≡ b
 same_fields a b p q r =
     ap (λ (f : Option ℕ). let s : Sender = record { producer = f; epoch = a.epoch; sequence = a.sequence } in s) p
     ∙ ap (λ (f : Option ℕ). let s : Sender = record { producer = b.producer; epoch = f; sequence = a.sequence } in s) q

@@ -1,5 +1,5 @@
 -- What the parser's values say, apart from where they lie in memory.
-use Rattle.std.specs.Prelude.{ℕ, map}
+use Rattle.std.specs.Prelude.{ℕ, ◌-◌, ◌^◌, ◌==◌, map, Option, Some, None, if◌then◌else◌}
 use Rattle.kp_script.specs.Call.{Call, Header, Sender, Elect, Append, Raw, Acts, Deliver, pieces}
 use Rattle.kp_script.specs.Hex.{bytes_of}
 use Rattle.kp_script.specs.declared.call.Call.{Call as ParsedCall}
@@ -13,12 +13,21 @@ use Rattle.kp_script.specs.declared.script.Script.{Script as ParsedScript}
 abbrev pub seen_header : ParsedHeader → Header
 seen_header header = record { count = header.count; segment = header.segment; interval = header.interval }
 
+-- a producer field, which is absent where it is the greatest number of its type
+abbrev pub field_below : (greatest : ℕ) → ℕ → Option ℕ
+field_below greatest n = if n == greatest then None else Some n
+
 abbrev pub seen_sender : ParsedSender → Sender
-seen_sender sender = record { producer = sender.producer; epoch = sender.epoch; sequence = sender.sequence }
+seen_sender sender =
+    record {
+      producer = field_below (2 ^ 64 - 1) sender.producer;
+      epoch = field_below (2 ^ 16 - 1) sender.epoch;
+      sequence = field_below (2 ^ 32 - 1) sender.sequence;
+    }
 
 abbrev pub seen_call : ParsedCall → Call
 seen_call (parsed.Elect node) = Elect node
-seen_call (parsed.Append node time sender transactional values) = Append node time (seen_sender sender) transactional (pieces values.now)
+seen_call (parsed.Append node transactional time sender values) = Append node time (seen_sender sender) transactional (pieces values.now)
 seen_call (parsed.Raw node digits) = Raw node (bytes_of digits.now)
 seen_call (parsed.Acts node act) = Acts node act
 seen_call (parsed.Deliver number) = Deliver number

@@ -32,15 +32,66 @@ pub struct Header {
     pub interval: u32,
 }
 
-/// What an append says of its producer (KIP-98). Each field may be absent without the others.
+/// What an append says of its producer (KIP-98). Each field may be absent without the others: then it is -1, the greatest number
+/// of its type, as in a batch.
 #[derive(Clone, Copy, Debug, PartialEq, Eq)]
 pub struct Sender {
+    epoch: u16,
+    sequence: u32,
+    producer: u64,
+}
+
+impl Sender {
+    ghost use Rattle.std.specs.Prelude.{◌≡◌, ◌<◌, ◌^◌, IfSome};
+    ghost use Rattle.kp_script.specs.Seen.{seen_sender};
+
+    /// These fields.
+    pub(crate) fn new(producer: Option<u64>, epoch: Option<u64>, sequence: Option<u64>) -> Sender
+        requires producer { IfSome producer (λ producer. producer < 2 ^ 63) }
+        requires epoch { IfSome epoch (λ epoch. epoch < 2 ^ 15) }
+        requires sequence { IfSome sequence (λ sequence. sequence < 2 ^ 31) }
+        ensures { seen_sender result
+            ≡ record { producer = producer; epoch = epoch; sequence = sequence } }
+    {
+        Sender {
+            epoch: epoch.unwrap_or(65_535) as u16,
+            sequence: sequence.unwrap_or(4_294_967_295) as u32,
+            producer: producer.unwrap_or(u64::MAX),
+        }
+    }
+
     /// The producer, below 2^63.
-    pub producer: Option<u64>,
+    pub fn producer(&self) -> Option<u64>
+        ensures { result ≡ (seen_sender self.now).producer }
+    {
+        if self.producer == u64::MAX {
+            None
+        } else {
+            Some(self.producer)
+        }
+    }
+
     /// The producer's epoch, below 2^15.
-    pub epoch: Option<u16>,
+    pub fn epoch(&self) -> Option<u16>
+        ensures { result ≡ (seen_sender self.now).epoch }
+    {
+        if self.epoch == u16::MAX {
+            None
+        } else {
+            Some(self.epoch)
+        }
+    }
+
     /// The producer's sequence number of the first record, below 2^31.
-    pub sequence: Option<u32>,
+    pub fn sequence(&self) -> Option<u32>
+        ensures { result ≡ (seen_sender self.now).sequence }
+    {
+        if self.sequence == u32::MAX {
+            None
+        } else {
+            Some(self.sequence)
+        }
+    }
 }
 
 /// What an event's line asks for.
@@ -54,11 +105,11 @@ pub enum Call<'a> {
     /// each two. Each record has this time in milliseconds.
     Append {
         node: NodeId,
+        /// Whether the batch is of a transaction.
+        transactional: bool,
         time: u64,
         /// What the batch says of its producer, whether or not that agrees with the kind.
         sender: Sender,
-        /// Whether the batch is of a transaction.
-        transactional: bool,
         values: &'a [u8],
     },
     /// A client hands the node the bytes that these hexadecimal digits spell.

@@ -1,12 +1,16 @@
 //! The events of a script, as a run takes them.
 
-ghost use Rattle.std.specs.Prelude.{◌≡◌, ℕ, ◌<◌, ◌≤◌, ◌^◌, IfOk, IfErr, OnOk, length, map};
-ghost use Rattle.kp_types.specs.declared.refusal.Refusal.TheVariants.{Memory};
+ghost use Rattle.std.specs.Prelude.{◌≡◌, ℕ, ◌+◌, ◌<◌, ◌≤◌, ◌^◌, ◌==◌, true, IfOk, IfErr, OnOk, length, map};
+ghost use Rattle.std.specs.List.{count_by};
+ghost use Rattle.kp_types.specs.declared.refusal.Refusal.TheVariants.{Memory, TooLarge};
+ghost use Rattle.kp_batch.specs.Reading.{IsFirstFault};
 ghost use Rattle.kp_record.specs.Made.{record_made};
+ghost use Rattle.kp_record.specs.Record.{records_spelling};
 ghost use Rattle.kp_world.specs.Events.{IsAmong};
 ghost use Rattle.kp_script.specs.Call.{Append, Raw, IsCall, IsSender, pieces};
 ghost use Rattle.kp_script.specs.Hex.{bytes_of};
 ghost use Rattle.kp_script.specs.Told.{plain_record, Tells};
+ghost use Rattle.kp_script.specs.Transcript.{largest_batch};
 ghost use Rattle.kp_script.specs.Seen.{seen_call, seen_sender};
 
 use crate::call::{Call, Sender};
@@ -15,9 +19,14 @@ use crate::words::split_first_at;
 use bytes::Bytes;
 use kp_batch::{Fields, Handed, Parts, Speller};
 use kp_replica::Act;
-use kp_types::{NodeId, Refusal};
+use kp_types::{MAX_BATCH, NodeId, Refusal};
 use kp_world::Event;
 use std::alloc::{AllocError, Global};
+
+/// A batch is never too large for the number of its records where its values have so few bytes.
+const FEW_BYTES: usize = 131_072;
+/// Bytes that are too large by their length field, as a batch of some 2 GB is.
+static LARGE_FRONT: [u8; 61] = [127; 61];
 
 /// The record at this time in milliseconds with this value.
 fn part_of(time: u64, value: &[u8]) -> Parts<'_>
@@ -47,9 +56,41 @@ fn put_parts<'a>(parts: &mut Vec<Parts<'a>>, time: u64, values: &'a [u8]) -> Res
     Ok(())
 }
 
+/// How many commas there are.
+fn commas_in(values: &[u8]) -> usize
+    ensures count { result ≡ count_by (λ byte. byte == 44) values.now }
+    ensures most { result ≤ length values.now }
+{
+    let mut commas = 0;
+    for byte in values {
+        if *byte == b',' {
+            commas += 1;
+        }
+    }
+    commas
+}
+
+/// Whether there are so many values, or bytes of them, that no node takes a batch with a record for each: its head has 61 bytes,
+/// and each record has seven besides its value. Takes time proportional to the bytes, and no memory.
+fn are_too_many(values: &[u8]) -> bool
+    requires { length values.now ≤ 2100000 }
+    ensures { result ≡ true → (time : ℕ) → largest_batch
+        < 61 + length (records_spelling time 0 (map (plain_record time) (pieces values.now))) }
+{
+    values.len() > FEW_BYTES && 68 + values.len() + 6 * commas_in(values) > MAX_BATCH as usize
+}
+
+/// Bytes that stand for a batch that no node takes. No memory is taken.
+fn too_large() -> Handed
+    ensures { IsFirstFault largest_batch result TooLarge }
+{
+    Handed::raw(Bytes::from_static(&LARGE_FRONT))
+}
+
 /// A batch with a record for each piece between the commas, each at this time in milliseconds, handed to the node.
 /// What it says of its producer and its kind need not agree, and it has any size: a node refuses what doesn't agree, and
-/// what is above its own limit. Takes time and memory proportional to the bytes, and is refused only where memory runs
+/// what is above its own limit. Takes time proportional to the bytes, and memory to those of a batch that a node may take;
+/// where they are too many for one, none, as then only bytes with the same fault are handed in. Is refused only where memory runs
 /// out.
 fn append_event<'a>(
     speller: &mut Speller,
@@ -63,17 +104,22 @@ fn append_event<'a>(
     requires early { time < 2 ^ 62 }
     requires sender { IsSender (seen_sender sender) }
     requires short { length values.now ≤ 2100000 }
-    ensures told { IfOk result (λ event. (max : ℕ)
-        → Tells max (Append node time (seen_sender sender) transactional (pieces values.now))
-        event) }
+    ensures told { IfOk result (Tells largest_batch
+        (Append node time (seen_sender sender) transactional (pieces values.now))) }
     ensures node { IfOk result (λ event. (count : ℕ) → node < count → IsAmong count event) }
     ensures only { IfErr result (λ refusal. refusal ≡ Memory) }
 {
+    if are_too_many(values) {
+        return Ok(Event::Acts {
+            node,
+            act: Act::Produce { bytes: too_large() },
+        });
+    }
     let fields = Fields {
         base_timestamp: time,
-        producer_id: sender.producer,
-        producer_epoch: sender.epoch,
-        base_sequence: sender.sequence,
+        producer_id: sender.producer(),
+        producer_epoch: sender.epoch(),
+        base_sequence: sender.sequence(),
         transactional,
         control: false,
     };
@@ -88,8 +134,7 @@ fn append_event<'a>(
 /// The bytes that the digits spell, handed to the node. Takes time and memory proportional to their number, and is
 /// refused only where memory runs out.
 fn raw_event(alloc: Global, node: NodeId, digits: &[u8]) -> Result<Event, Refusal>
-    ensures told { IfOk result (λ event. (max : ℕ)
-        → Tells max (Raw node (bytes_of digits.now)) event) }
+    ensures told { IfOk result (Tells largest_batch (Raw node (bytes_of digits.now))) }
     ensures node { IfOk result (λ event. (count : ℕ) → node < count → IsAmong count event) }
     ensures only { IfErr result (λ refusal. refusal ≡ Memory) }
 {
@@ -112,7 +157,7 @@ pub(crate) fn event_of<'a>(
     count: NodeId,
 ) -> Result<Event, Refusal>
     requires { IsCall count (seen_call call.now) }
-    ensures told { IfOk result (λ event. (max : ℕ) → Tells max (seen_call call.now) event) }
+    ensures told { IfOk result (Tells largest_batch (seen_call call.now)) }
     ensures node { IfOk result (IsAmong count) }
     ensures only { IfErr result (λ refusal. refusal ≡ Memory) }
 {
@@ -121,9 +166,9 @@ pub(crate) fn event_of<'a>(
         Call::Elect { node } => Ok(Event::Elect { node }),
         Call::Append {
             node,
+            transactional,
             time,
             sender,
-            transactional,
             values,
         } => append_event(speller, parts, node, time, sender, transactional, values),
         Call::Raw { node, digits } => raw_event(alloc, node, digits),

@@ -129,12 +129,7 @@ fn sender_then(bytes: &[u8]) -> Option<(Sender, &[u8])>
     let Some((sequence, rest)) = signed_then(rest, GREATEST_SEQUENCE + 1) else {
         return None;
     };
-    let sender = Sender {
-        producer,
-        epoch: epoch.map(|epoch| epoch as u16),
-        sequence: sequence.map(|sequence| sequence as u32),
-    };
-    Some((sender, rest))
+    Some((Sender::new(producer, epoch, sequence), rest))
 }
 
 /// The kind of a batch, `t` of a transaction or `d`, in front of a space, and what follows the space.
@@ -176,9 +171,9 @@ pub fn append_of(fields: &[u8], count: NodeId) -> Option<Call<'_>>
     }
     Some(Call::Append {
         node,
+        transactional,
         time,
         sender,
-        transactional,
         values,
     })
 }

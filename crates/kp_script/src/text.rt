@@ -1,16 +1,81 @@
 //! The words of a text that grows: numbers in decimal digits, and bytes in hexadecimal ones.
 
-ghost use Rattle.std.specs.Prelude.{◌≡◌, ◌++◌, OnOk};
+ghost use Rattle.std.specs.Prelude.{◌≡◌, ◌+◌, ◌/◌, ◌%◌, ◌<◌, ◌≤◌, [], ◌∷◌, ◌++◌, OnOk, vec_capacity, vec_len};
 ghost use Rattle.std.specs.Fmt.{decimal};
 ghost use Rattle.kp_script.specs.Hex.{hex_text};
 
 use itoa::Buffer;
 use std::alloc::AllocError;
 
+/// Numbers below this one are short: they have at most [`SHORT_DIGITS`].
+const SHORT: u64 = 1_000_000;
+
+/// How many digits a short number has at most.
+const SHORT_DIGITS: usize = 6;
+
+/// The numbers below 100, two digits for each.
+static PAIRS: [u8; 200] =
+    *b"00010203040506070809101112131415161718192021222324252627282930313233343536373839404142434445464748495051525354555657585960616263646566676869707172737475767778798081828384858687888990919293949596979899";
+
+/// Appends two digits, for which there is room.
+#[inline(always)]
+fn put_pair(text: &mut Vec<u8>, pair: u64)
+    requires small { pair < 100 }
+    requires room { vec_len text.old + 2 ≤ vec_capacity text.old }
+    ensures items { text.new.items ≡ text.old.items ++ (48 + pair / 10) ∷ (48 + pair % 10) ∷ [] }
+    ensures len { vec_len text.new ≡ vec_len text.old + 2 }
+    ensures capacity { vec_capacity text.new ≡ vec_capacity text.old }
+{
+    let from = 2 * pair as usize;
+    let (tens, ones) = (PAIRS[from], PAIRS[from + 1]);
+    text.push_reserved(tens);
+    text.push_reserved(ones);
+}
+
+/// Appends a number of one digit or two, for which there is room.
+#[inline(always)]
+fn put_first(text: &mut Vec<u8>, number: u64)
+    requires small { number < 100 }
+    requires room { vec_len text.old + 2 ≤ vec_capacity text.old }
+    ensures items { text.new.items ≡ text.old.items ++ decimal number }
+    ensures len { vec_len text.new ≤ vec_len text.old + 2 }
+    ensures capacity { vec_capacity text.new ≡ vec_capacity text.old }
+{
+    if number < 10 {
+        text.push_reserved(b'0' + number as u8);
+    } else {
+        put_pair(text, number);
+    }
+}
+
+/// Appends a number of up to six digits, for which there is room.
+#[inline(always)]
+fn put_short(text: &mut Vec<u8>, number: u64)
+    requires small { number < 1000000 }
+    requires room { vec_len text.old + 6 ≤ vec_capacity text.old }
+    ensures { text.new.items ≡ text.old.items ++ decimal number }
+{
+    if number < 100 {
+        put_first(text, number);
+    } else if number < 10_000 {
+        put_first(text, number / 100);
+        put_pair(text, number % 100);
+    } else {
+        put_first(text, number / 10_000);
+        put_pair(text, number % 10_000 / 100);
+        put_pair(text, number % 100);
+    }
+}
+
 /// Appends the number in decimal digits. It takes no memory but the text's.
 pub(crate) fn push_number(text: &mut Vec<u8>, number: u64) -> Result<(), AllocError>
     ensures { OnOk result (text.new.items ≡ text.old.items ++ decimal number) }
 {
+    if number < SHORT {
+        text.reserve(SHORT_DIGITS)?;
+        put_short(text, number);
+        return Ok(());
+    }
     let mut buffer = Buffer::new();
     text.extend_from_slice(buffer.format(number).as_bytes())
 }

@@ -1,12 +1,10 @@
-use Rattle.std.proofs.Common.{◌≡◌, ◌∙◌, ℕ, ◌+◌, List, ◌∷◌, ◌++◌, [], Option, take, map, refl, sym, ap, subst, arith}
-use Rattle.std.specs.Io.KnownBytes.{Appends}
+use Rattle.std.proofs.Common.{◌≡◌, ◌∙◌, ℕ, ◌+◌, List, ◌∷◌, ◌++◌, [], take, map, sym, ap, subst, arith}
 use Rattle.std.proofs.lemmas.List.{map-append, take_more}
-use Rattle.kp_types.specs.Devices.{device_of}
 use Rattle.kp_script.specs.Call.{Call, IsCall}
 use Rattle.kp_script.specs.Seen.{seen_call, seen_line}
 use Rattle.kp_script.specs.Playing.{PlayedOut}
 use Rattle.kp_script.specs.declared.script.Line.{Line}
-use Rattle.kp_script.proofs.Played.{out_begun, out_more, out_none, out_written}
+use Rattle.kp_script.proofs.Played.{out_more, out_none}
 use Rattle.kp_script.proofs.Telling.{each_at_line}
 use Rattle.kp_script.proofs.run.play_lines.Goals as goal
 

@@ -1,0 +1,24 @@
+-- The digits of numbers below a hundred.
+use Rattle.std.proofs.Common.{◌≡◌, ◌∙◌, ℕ, zero, suc, ◌+◌, ◌-◌, ◌*◌, ◌/◌, ◌%◌, ◌<◌, Bool, true, ◌&&◌, T, eqb, List, [], ◌∷◌, ◌++◌, get_or, append_assoc, ap, inl, inr, arith, eq-zero-or-pos, eqb→eq}
+use lib.Ieee.Fits.{and_l, and_r}
+use Rattle.kp_script.specs.declared.text.TheConstants.{PAIRS}
+
+abbrev are_pairs : ℕ → Bool
+are_pairs zero = true
+are_pairs (suc p) = (eqb (get_or PAIRS (2 * p) 0) (48 + p / 10) && eqb (get_or PAIRS (2 * p + 1) 0) (48 + p % 10)) && are_pairs p
+
+below : (n p : ℕ) → T (are_pairs n) → p < n → (get_or PAIRS (2 * p) 0 ≡ 48 + p / 10) × (get_or PAIRS (2 * p + 1) 0 ≡ 48 + p % 10)
+below zero p t h = absurd (omega arith)
+below (suc n) p t h =
+    elim (eq-zero-or-pos (n - p)) [
+      | inl z ↦ let e : p ≡ n = omega arith in let a = and_l _ (are_pairs n) t in rw e (eqb→eq _ _ (and_l _ _ a), eqb→eq _ _ (and_r _ _ a))
+      | inr g ↦ below n p (and_r _ (are_pairs n) t) (omega arith)
+    ]
+
+pub pair_at : (p : ℕ) → p < 100 → (get_or PAIRS (2 * p) 0 ≡ 48 + p / 10) × (get_or PAIRS (2 * p + 1) 0 ≡ 48 + p % 10)
+pair_at p h = below 100 p tt h
+
+-- two bytes behind others
+pub two_more : (old one two : List ℕ) (a b x y : ℕ) → one ≡ old ++ a ∷ [] → two ≡ one ++ b ∷ [] → a ≡ x → b ≡ y → two ≡ old ++ x ∷ y ∷ []
+two_more old one two a b x y first second p q =
+    second ∙ ap (λ (l : List ℕ). l ++ b ∷ []) first ∙ append_assoc old (a ∷ []) (b ∷ []) ∙ ap (λ (n : ℕ). old ++ n ∷ b ∷ []) p ∙ ap (λ (n : ℕ). old ++ x ∷ n ∷ []) q
