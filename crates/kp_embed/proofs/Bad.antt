@@ -1,16 +1,19 @@
 -- Why calls aren't made.
-use Rattle.std.proofs.Common.{◌≡◌, ◌⊎◌, ℕ, List, sym, ap, subst, ◌∙◌}
+use Rattle.std.proofs.Common.{◌≡◌, ◌⊎◌, ℕ, List, refl, sym, ap, subst, ◌∙◌}
 use mathlib.Core.Logic.{inl, inr}
-use Rattle.std.specs.Prelude.{Option, Some, None}
+use Rattle.std.specs.Prelude.{Option, Some, None, Result, Ok, Err}
 use Rattle.kp_model.specs.World.{Message as ModelMessage}
 use Rattle.kp_model.specs.declared.message.MessageBody.{MessageBody}
 use Rattle.kp_board.specs.Views.{CallerView}
 use Rattle.kp_node.specs.Seated.{SeatedNode}
-use Rattle.kp_embed.specs.Called.{BadNode, BadOut, BadPair}
+use Rattle.kp_types.specs.declared.refusal.Refusal.{Refusal}
+use Rattle.kp_embed.specs.Called.{BadNode, BadOut, BadPair, NoReason, PairCalled}
+use Rattle.kp_embed.specs.Handing.{BadCopy, BadHand, BadHanded, IsFree}
 use Rattle.kp_embed.specs.Holding.{BadCount, BadLetter, BadPart, BadPartOf}
 use Rattle.kp_embed.specs.Messages.{BadDecide, BadStep}
-use Rattle.kp_embed.specs.Objects.{ObjectView, caller, cluster, message, node, segments}
+use Rattle.kp_embed.specs.Objects.{ObjectView, caller, cluster, handed, message, node, segments}
 use Rattle.kp_embed.specs.Opening.{BadCluster, BadOpening, NoneLeft}
+use Rattle.kp_embed.specs.PairCalls.{BadBytes}
 use Rattle.kp_embed.specs.Segments.{BadSegment, name_size}
 use Rattle.kp_embed.specs.declared.misuse.Misuse.{Misuse}
 use Rattle.kp_embed.specs.declared.misuse.Misuse.TheVariants.{Closed, OtherKind, InUse, NoRoom, OutOfRange, BadLength}
@@ -24,8 +27,8 @@ unfolding unwrap
 same_object o p x e f = ap (unwrap o) (sym e ∙ f)
 
 module _ (why : Misuse) (n m : Option ObjectView) where
-  pub pair_closed : why ≡ Closed → (n ≡ None) ⊎ (m ≡ None) → BadPair n m why
-  pair_closed e none = subst (BadPair n m) (sym e) none
+  pub pair_closed : (Own : Misuse → Type 0) → why ≡ Closed → (n ≡ None) ⊎ (m ≡ None) → BadPair Own n m why
+  pair_closed Own e none = subst (BadPair Own n m) (sym e) none
 
   pub step_closed : why ≡ Closed → (n ≡ None) ⊎ (m ≡ None) → BadStep n m why
   step_closed e none = subst (BadStep n m) (sym e) none
@@ -42,9 +45,78 @@ module _ (why : Misuse) (n m : Option ObjectView) where
   pub out_kind : why ≡ OtherKind → BadOut n why
   out_kind e = subst (BadOut n) (sym e) tt
 
+-- one that has no reason of its own has any
+pub pair_any : {X : Type 0} (Own : Misuse → Type 0) (old new other then : Option ObjectView) (answer : Result (Result X Refusal) Misuse)
+    (P : SeatedNode → SeatedNode → CallerView → CallerView → Result X Refusal → Type 0)
+    → PairCalled NoReason old new other then answer P → PairCalled Own old new other then answer P
+pair_any Own old new other then (Ok answer) P called = called
+pair_any Own old new other then (Err Closed) P called = called
+pair_any Own old new other then (Err OtherKind) P called = called
+pair_any Own old new other then (Err InUse) P (same, kept, bad) = absurd bad
+pair_any Own old new other then (Err NoRoom) P (same, kept, bad) = absurd bad
+pair_any Own old new other then (Err OutOfRange) P (same, kept, bad) = absurd bad
+pair_any Own old new other then (Err BadLength) P (same, kept, bad) = absurd bad
+
+-- ---- of bytes
+
+none_is_closed : (o : ObjectView) → Some o ≡ None → ⊥
+none_is_closed o e = absurd cc
+
+module _ (n m : Option ObjectView) (count : ℕ) where
+  pub pair_copy : (why : Misuse) → BadCopy count m why → BadPair (BadBytes count) n m why
+  pair_copy Closed none = inr none
+  pair_copy OtherKind never = λ x k c e f. never k c f
+  pair_copy InUse bad = bad
+  pair_copy NoRoom bad = bad
+  pair_copy OutOfRange bad = bad
+  pair_copy BadLength bad = bad
+
+  pub copy_bytes : (why : Misuse) → BadBytes count why → BadCopy count n why
+  copy_bytes Closed bad = absurd bad
+  copy_bytes OtherKind bad = absurd bad
+  copy_bytes InUse bad = bad
+  copy_bytes NoRoom bad = bad
+  copy_bytes OutOfRange bad = bad
+  copy_bytes BadLength bad = bad
+
+  pub copy_closed : (why : Misuse) → why ≡ Closed → n ≡ None → BadCopy count n why
+  copy_closed why e none = subst (BadCopy count n) (sym e) none
+
+  pub copy_bad : (o : ObjectView) (why : Misuse) → n ≡ Some o → BadCopy count (Some o) why → BadCopy count n why
+  copy_bad o why e bad = subst (λ (x : Option ObjectView). BadCopy count x why) (sym e) bad
+
+  pub hand_bytes : (why : Misuse) → BadBytes count why → BadHand count n why
+  hand_bytes Closed bad = bad
+  hand_bytes OtherKind bad = bad
+  hand_bytes InUse bad = absurd bad
+  hand_bytes NoRoom bad = bad
+  hand_bytes OutOfRange bad = bad
+  hand_bytes BadLength bad = bad
+
+  pub hand_room : (why : Misuse) → why ≡ NoRoom → BadHand count n why
+  hand_room why e = subst (BadHand count n) (sym e) tt
+
+  pub hand_bad : (o : ObjectView) (why : Misuse) → n ≡ Some o → BadHand count (Some o) why → BadHand count n why
+  hand_bad o why e bad = subst (λ (x : Option ObjectView). BadHand count x why) (sym e) bad
+
+module _ (n : Option ObjectView) (o : ObjectView) where
+  pub is_free : n ≡ Some o → IsFree (Some o) → IsFree n
+  is_free e free = subst IsFree (sym e) free
+
+  pub hand_used : ((was : List ℕ) → o ≡ handed was → ⊥) → IsFree (Some o) → ⊥
+  hand_used never (inl none) = none_is_closed o none
+  hand_used never (inr (was, e)) = never was (same_object o (handed was) (Some o) refl e)
+
+module _ (held : Option ObjectView) where
+  pub handed_closed : (why : Misuse) → why ≡ Closed → held ≡ None → BadHanded held why
+  handed_closed why e none = subst (BadHanded held) (sym e) none
+
+  pub handed_bad : (o : ObjectView) (why : Misuse) → held ≡ Some o → BadHanded (Some o) why → BadHanded held why
+  handed_bad o why e bad = subst (λ (x : Option ObjectView). BadHanded x why) (sym e) bad
+
 module _ (why : Misuse) (n m : Option ObjectView) (o l : ObjectView) (is : why ≡ OtherKind) (en : n ≡ Some o) (em : m ≡ Some l) where
-  pub pair_kind : ((x : SeatedNode) → (k : ℕ) → (c : CallerView) → o ≡ node x → l ≡ caller k c → ⊥) → BadPair n m why
-  pair_kind never = subst (BadPair n m) (sym is) (λ x k c e f. never x k c (same_object o (node x) n en e) (same_object l (caller k c) m em f))
+  pub pair_kind : (Own : Misuse → Type 0) → ((x : SeatedNode) → (k : ℕ) → (c : CallerView) → o ≡ node x → l ≡ caller k c → ⊥) → BadPair Own n m why
+  pair_kind Own never = subst (BadPair Own n m) (sym is) (λ x k c e f. never x k c (same_object o (node x) n en e) (same_object l (caller k c) m em f))
 
   pub step_kind : ((x : SeatedNode) → (b : MessageBody) → (p : ModelMessage) → o ≡ node x → l ≡ message b p → ⊥) → BadStep n m why
   step_kind never = subst (BadStep n m) (sym is) (λ x b p e f. never x b p (same_object o (node x) n en e) (same_object l (message b p) m em f))

@@ -1,5 +1,6 @@
 pub mod Bad
 pub mod Handles
+pub mod Names
 pub mod Naming
 pub mod OneCluster
 pub mod Parts

@@ -37,11 +37,15 @@ PairMet old new other then (Ok answer) P =
 PairMet old new other then (Err why) P =
     (why ≡ OtherKind) × (new ≡ old) × (then ≡ other) × ((x : SeatedNode) → (n : ℕ) → (c : CallerView) → old ≡ node x → other ≡ caller n c → ⊥)
 
--- Why a call of a node and a pass wasn't made, so far as it is for what the handles hold.
-abbrev pub BadPair : Option ObjectView → Option ObjectView → Misuse → Type 0
-BadPair old other Closed = (old ≡ None) ⊎ (other ≡ None)
-BadPair old other OtherKind = (x : SeatedNode) → (n : ℕ) → (c : CallerView) → old ≡ Some (node x) → other ≡ Some (caller n c) → ⊥
-BadPair old other _ = Unit {0}
+-- Why a call of a node and a pass wasn't made: for what their handles hold, or for a reason of the call's own.
+abbrev pub BadPair : (Misuse → Type 0) → Option ObjectView → Option ObjectView → Misuse → Type 0
+BadPair Own old other Closed = (old ≡ None) ⊎ (other ≡ None)
+BadPair Own old other OtherKind = (x : SeatedNode) → (n : ℕ) → (c : CallerView) → old ≡ Some (node x) → other ≡ Some (caller n c) → ⊥
+BadPair Own old other why = Own why
+
+-- it has none
+abbrev pub NoReason : Misuse → Type 0
+NoReason why = ⊥
 
 -- The same of a node alone.
 abbrev pub BadNode : Option ObjectView → Misuse → Type 0
@@ -56,12 +60,18 @@ abbrev pub BadOut : Option ObjectView → Misuse → Type 0
 BadOut out InUse = is_open out ≡ true
 BadOut out _ = Unit {0}
 
+-- it was open, or there was no room for what it was to hold
+abbrev pub BadRoom : Option ObjectView → Misuse → Type 0
+BadRoom out InUse = is_open out ≡ true
+BadRoom out NoRoom = Unit {0}
+BadRoom out _ = ⊥
+
 -- The same of two handles' objects.
-abbrev pub PairCalled : {X : Type 0} → (old new other then : Option ObjectView) → Result (Result X Refusal) Misuse → (SeatedNode → SeatedNode → CallerView → CallerView → Result X Refusal → Type 0) → Type 0
-PairCalled old new other then (Ok answer) P =
+abbrev pub PairCalled : {X : Type 0} → (Misuse → Type 0) → (old new other then : Option ObjectView) → Result (Result X Refusal) Misuse → (SeatedNode → SeatedNode → CallerView → CallerView → Result X Refusal → Type 0) → Type 0
+PairCalled Own old new other then (Ok answer) P =
     (x : SeatedNode) × (y : SeatedNode) × (n : ℕ) × (c : CallerView) × (d : CallerView)
     × (old ≡ Some (node x)) × (new ≡ Some (node y)) × (other ≡ Some (caller n c)) × (then ≡ Some (caller n d)) × P x y c d answer
-PairCalled old new other then (Err why) P = (new ≡ old) × (then ≡ other) × BadPair old other why
+PairCalled Own old new other then (Err why) P = (new ≡ old) × (then ≡ other) × BadPair Own old other why
 
 -- The handles' two objects are of one cluster, where both are open.
 abbrev pub AreOfOne : Option ObjectView → TableId → Option ObjectView → TableId → Type 0

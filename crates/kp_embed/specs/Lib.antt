@@ -1,5 +1,6 @@
 pub mod Called
 pub mod CallerCalls
+pub mod Handing
 pub mod Holding
 pub mod Messages
 pub mod NodeCalls

@@ -1,5 +1,6 @@
 -- The numbers that calls answer (own rule).
-use Rattle.std.specs.Prelude.{◌≡◌, ◌⊎◌, ◌<◌, ℕ, Option, Some, None, Result, Ok, Err}
+use Rattle.std.specs.Prelude.{◌≡◌, ◌≢◌, ◌⊎◌, ◌<◌, ◌++◌, ℕ, List, [], codes, Option, Some, None, Result, Ok, Err}
+use Rattle.kp_types.specs.Texts.{place_of, place_text, refusal_text}
 use Rattle.kp_types.specs.declared.refusal.Refusal.{Refusal}
 use Rattle.kp_types.specs.declared.refusal.Refusal.TheVariants as refusals
 use Rattle.kp_embed.specs.declared.misuse.Misuse.{Misuse}
@@ -63,9 +64,33 @@ mark_number (Ok (Ok (Some x))) = 0
 mark_number (Ok (Err refusal)) = refusal_number refusal
 mark_number (Err why) = misuse_number why
 
--- the number is no refusal's
+-- the number is no refusal's, and no misuse's
 abbrev pub IsNoRefusal : ℕ → Type 0
 IsNoRefusal number = (number ≡ 0) ⊎ (34 < number)
+
+abbrev pub IsNoMisuse : ℕ → Type 0
+IsNoMisuse number = (number < 65) ⊎ (70 < number)
+
+abbrev pub misuse_name : Misuse → List ℕ
+misuse_name Closed = codes "F65 Closed"
+misuse_name OtherKind = codes "F66 OtherKind"
+misuse_name InUse = codes "F67 InUse"
+misuse_name NoRoom = codes "F68 NoRoom"
+misuse_name OutOfRange = codes "F69 OutOfRange"
+misuse_name BadLength = codes "F70 BadLength"
+
+-- the refusal of this number has this name, which its text begins with
+abbrev pub IsRefusalsName : ℕ → List ℕ → Type 0
+IsRefusalsName number name = (f : Refusal) × (refusal_number f ≡ number) × (refusal_text f ≡ name ++ place_text (place_of f))
+
+abbrev pub IsMisusesName : ℕ → List ℕ → Type 0
+IsMisusesName number name = (why : Misuse) × (misuse_number why ≡ number) × (name ≡ misuse_name why)
+
+-- What a call that answers this number says; nothing for a number that none answers.
+unfoldable pub IsName : ℕ → List ℕ → Type 0
+IsName number name =
+    ((number ≡ 0) × (name ≡ codes "F0 Done")) ⊎ (IsRefusalsName number name ⊎ (IsMisusesName number name
+    ⊎ ((number ≢ 0) × IsNoRefusal number × IsNoMisuse number × (name ≡ []))))
 
 -- what a call that can't be refused answers
 abbrev pub done_number : {X : Type 0} → Result X Misuse → ℕ

@@ -11,11 +11,11 @@ use Rattle.kp_board.specs.declared.passes.BoardName.{Ghosts}
 use Rattle.kp_node.specs.Seated.{SeatedNode}
 use Rattle.kp_embed.specs.declared.object.Cluster.{Cluster as ClusterOf}
 use Rattle.kp_embed.specs.declared.object.Kind.{Kind}
-use Rattle.kp_embed.specs.declared.object.Kind.TheVariants.{Empty, Cluster, Node, Caller, Message, Batches, Records, Segments}
+use Rattle.kp_embed.specs.declared.object.Kind.TheVariants.{Empty, Cluster, Node, Caller, Message, Batches, Records, Segments, Handed}
 
 -- nothing; a board of so many nodes, with the passes of those that aren't open yet and the sizes of their logs; a node with its
 -- pass; a caller's pass of a board of so many nodes; a message with its pass; batches, as a node answered them to a read; records, as
--- a read-committed consumer gets them; a log's segments, each by its name with its batches
+-- a read-committed consumer gets them; a log's segments, each by its name with its batches; the bytes that a client hands in
 pub data ObjectView : Type 0 where
   empty : ObjectView
   cluster : (nodes : ℕ) → (waiting : List NodeView) → Limits → ObjectView
@@ -25,6 +25,7 @@ pub data ObjectView : Type 0 where
   batches : List Written → ObjectView
   records : List Line → ObjectView
   segments : List (SegmentName × List Written) → ObjectView
+  handed : List ℕ → ObjectView
 
 abbrev pub cluster_view : {X : Type 0} {g : Ghosts X} → ClusterOf X g → ObjectView
 cluster_view c = cluster c.board.value (map (λ f. f.pass) c.waiting.items) c.limits
@@ -38,6 +39,7 @@ object_view (Message m) = message m.body m.pass
 object_view (Batches b) = batches b.items
 object_view (Records r) = records r
 object_view (Segments s) = segments s.items
+object_view (Handed bytes) = handed bytes
 
 -- a handle's word
 abbrev pub word_of : Option ObjectView → ℕ

@@ -1,5 +1,5 @@
 -- What calls read from their caller's memory, and write there (own rule).
-use Rattle.std.specs.Prelude.{ℕ, Bool, true, false, List, Option, Some, None, unwrap_or}
+use Rattle.std.specs.Prelude.{◌≡◌, ℕ, Bool, true, false, List, Option, Some, None, Result, Ok, Err, unwrap_or}
 use Rattle.kp_types.specs.declared.limits.Limits.{Limits}
 use Rattle.kp_types.specs.Texts.{place_of}
 use Rattle.kp_types.specs.declared.refusal.Refusal.{Refusal}
@@ -17,6 +17,7 @@ use Rattle.kp_replica.specs.declared.altering.IsrChange.TheVariants.{Join, Leave
 use Rattle.kp_replica.specs.declared.producing.Receipt.{Receipt}
 use Rattle.kp_replica.specs.declared.adopting.Role.{Role}
 use Rattle.kp_replica.specs.declared.adopting.Role.TheVariants.{Leads, Follows}
+use Rattle.kp_embed.specs.declared.misuse.Misuse.{Misuse}
 use Rattle.kp_embed.specs.declared.outs.LimitsIn.{LimitsIn}
 use Rattle.kp_embed.specs.declared.outs.MarkerIn.{MarkerIn}
 use Rattle.kp_embed.specs.declared.outs.ReceiptOut.{ReceiptOut}
@@ -73,3 +74,24 @@ ack_out Lost = 2
 abbrev pub change_in : Bool → ℕ → IsrChange
 change_in true node = Join node
 change_in false node = Leave node
+
+-- ---- what stands behind a parameter then
+
+-- what was answered, in the caller's words; a call that was refused or not made leaves it as it was
+abbrev pub WritesOut : {X Y : Type 0} → (X → Y) → Result (Result X Refusal) Misuse → (old new : Y) → Type 0
+WritesOut out (Ok (Ok x)) old new = new ≡ out x
+WritesOut out (Ok (Err refusal)) old new = new ≡ old
+WritesOut out (Err why) old new = new ≡ old
+
+-- a node's watermark, where there is such a node
+abbrev pub WritesMark : Result (Result (Option ℕ) Refusal) Misuse → (old new : ℕ) → Type 0
+WritesMark (Ok (Ok (Some mark))) old new = new ≡ mark
+WritesMark (Ok (Ok None)) old new = new ≡ old
+WritesMark (Ok (Err refusal)) old new = new ≡ old
+WritesMark (Err why) old new = new ≡ old
+
+-- a receipt, or the place that a refusal names
+abbrev pub WritesReceipt : Result (Result Receipt Refusal) Misuse → (old new : ReceiptOut) → Type 0
+WritesReceipt (Ok (Ok r)) old new = new ≡ receipt_out r
+WritesReceipt (Ok (Err refusal)) old new = new ≡ refused_at refusal old
+WritesReceipt (Err why) old new = new ≡ old

@@ -1,9 +1,10 @@
 -- What each call of a node for a caller's pass does, as kp_node's contracts say it.
-use Rattle.std.specs.Prelude.{◌≡◌, ◌≢◌, ◌⊎◌, ℕ, ◌∷◌, List, map, false, true, None, Some, Result, Ok, Err, IfOk, IfErr, OnOk, OnErr, Contains}
+use Rattle.std.specs.Prelude.{◌≡◌, ◌≢◌, ◌⊎◌, ◌<◌, ℕ, ◌∷◌, List, map, false, true, None, Some, Result, Ok, Err, IfOk, IfErr, OnOk, OnErr, Contains}
 use Rattle.kp_types.specs.declared.refusal.Refusal.{Refusal}
 use Rattle.kp_types.specs.declared.refusal.Refusal.TheVariants.{Down, Memory}
 use Rattle.kp_batch.specs.Batch.{Body, Written}
 use Rattle.kp_log.specs.Logged.{reaching}
+use Rattle.kp_marker.specs.Ranges.{IsInRange}
 use Rattle.kp_marker.specs.declared.parts.Marker.{Marker}
 use Rattle.kp_model.specs.Admission.{admit, Duplicate}
 use Rattle.kp_model.specs.Event.{Committed, Line, Produce}
@@ -19,6 +20,19 @@ use Rattle.kp_node.specs.Acks.{ack_of, HasAnother, HasIt, IsKept, IsMarkerKept, 
 use Rattle.kp_node.specs.Seated.{SeatedNode}
 use Rattle.kp_node.specs.declared.ack.Ack.{Ack}
 use Rattle.kp_node.specs.declared.ack.Ack.TheVariants.{Yes, Lost}
+use Rattle.kp_embed.specs.declared.misuse.Misuse.{Misuse}
+use Rattle.kp_embed.specs.declared.misuse.Misuse.TheVariants.{NoRoom, OutOfRange, BadLength}
+
+-- why bytes weren't copied, so many of them: no batch has as many, or there was no room
+abbrev pub BadBytes : ℕ → Misuse → Type 0
+BadBytes n BadLength = 2147483659 < n
+BadBytes n NoRoom = Unit {0}
+BadBytes n _ = ⊥
+
+-- a field of the marker lies out of its range
+abbrev pub BadMarker : Marker → Misuse → Type 0
+BadMarker marker OutOfRange = ¬ IsInRange marker
+BadMarker marker _ = ⊥
 
 -- the node, which was x and is y now, did with the batch that these bytes are what `Node::produce` says
 abbrev pub Produces : List ℕ → SeatedNode → SeatedNode → CallerView → CallerView → Result Receipt Refusal → Type 0

@@ -5,7 +5,7 @@ use Rattle.kp_types.specs.declared.refusal.Refusal.{Refusal}
 use Rattle.kp_batch.specs.Batch.{Written}
 use Rattle.kp_board.specs.Views.{CallerView}
 use Rattle.kp_node.specs.Seated.{SeatedNode}
-use Rattle.kp_embed.specs.Called.{BadOut, BadPair}
+use Rattle.kp_embed.specs.Called.{BadPair, BadRoom}
 use Rattle.kp_embed.specs.Objects.{ObjectView, batches, caller, node, records}
 use Rattle.kp_embed.specs.PairCalls.{Reads, ReadsCommitted}
 use Rattle.kp_embed.specs.declared.misuse.Misuse.{Misuse}
@@ -28,7 +28,7 @@ GiveCalled hold P old new other then out wrote (Ok (Err refusal)) =
     (x : SeatedNode) × (y : SeatedNode) × (n : ℕ) × (c : CallerView) × (d : CallerView)
     × (old ≡ Some (node x)) × (new ≡ Some (node y)) × (other ≡ Some (caller n c)) × (then ≡ Some (caller n d))
     × (wrote ≡ out) × P x y c d (Err refusal)
-GiveCalled hold P old new other then out wrote (Err why) = (new ≡ old) × (then ≡ other) × (wrote ≡ out) × BadPair old other why × BadOut out why
+GiveCalled hold P old new other then out wrote (Err why) = (new ≡ old) × (then ≡ other) × (wrote ≡ out) × BadPair (BadRoom out) old other why
 
 abbrev pub ReadCalled : ℕ → (old new other then out wrote : Option ObjectView) → Result (Result (Unit {0}) Refusal) Misuse → Type 0
 ReadCalled from old new other then out wrote done = GiveCalled batches (Reads from) old new other then out wrote done

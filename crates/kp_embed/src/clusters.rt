@@ -9,6 +9,7 @@ ghost use Rattle.kp_embed.specs.Opening.{BadCluster, BadOpening, IsCluster, None
 use crate::handle::{Handle, Unnamed, fill, is_open, put, take};
 use crate::misuse::Misuse;
 use crate::object::{Caller, Cluster, Kind, Object, room};
+use bytes::BytesMut;
 use kp_board::{Board, BoardName, FreshPass, Opened};
 use kp_node::Node;
 use kp_types::Limits;
@@ -100,27 +101,28 @@ fn next_node<B: BoardName>(alloc: Global, object: &mut Object<B>) -> Result<Obje
     }
 }
 
-fn caller_of<B: BoardName>(cluster: &Cluster<B>) -> Result<Caller<B>, Misuse>
+fn caller_of<B: BoardName>(alloc: Global, cluster: &Cluster<B>) -> Result<Caller<B>, Misuse>
     ensures made { IfOk result (λ c. (c.board.value ≡ cluster.now.board.value) × (c.pass ≡ new_caller cluster.now.board.value)) }
     ensures only { IfErr result (λ why. why ≡ NoRoom) }
 {
     match Arc::try_clone(&cluster.board) {
         Ok(board) => {
             let pass = board.pass();
-            Ok(Caller { board, pass })
+            let block = BytesMut::new(alloc);
+            Ok(Caller { board, pass, block })
         }
         Err(_) => Err(Misuse::NoRoom),
     }
 }
 
 #[tactic(auto, using(crate::proofs::Bad::bad_cluster, crate::proofs::Bad::no_room))]
-fn new_caller<B: BoardName>(object: &mut Object<B>) -> Result<Object<B>, Misuse>
+fn new_caller<B: BoardName>(alloc: Global, object: &mut Object<B>) -> Result<Object<B>, Misuse>
     ensures opened { IfOk result (λ o. OpensCaller (Some object.old) (Some object.new) (Some o)) }
     ensures same { OnErr result (object.new ≡ object.old) }
     ensures only { IfErr result (BadCluster object.old) }
 {
     match &mut object.kind {
-        Kind::Cluster(cluster) => match caller_of(cluster) {
+        Kind::Cluster(cluster) => match caller_of(alloc, cluster) {
             Ok(caller) => Ok(Object {
                 kind: Kind::Caller(caller),
             }),
@@ -177,7 +179,7 @@ pub(crate) fn open_caller<B: BoardName + Unnamed>(
     }
     let made = room::<B>(alloc)?;
     let mut object = take::<B>(alloc, cluster)?;
-    let next = new_caller(&mut object);
+    let next = new_caller(alloc, &mut object);
     put(cluster, object);
     match next {
         Ok(next) => {

@@ -6,6 +6,7 @@
 mod callers;
 mod clusters;
 mod exports;
+mod handing;
 mod handle;
 mod holding;
 mod loose;

@@ -1,6 +1,6 @@
 //! The numbers that calls answer.
 ghost use Rattle.std.specs.Prelude.{◌≡◌, IfSome, IfNone};
-ghost use Rattle.kp_embed.specs.Numbers.{IsNoRefusal, refusal_number, misuse_number};
+ghost use Rattle.kp_embed.specs.Numbers.{IsName, IsNoMisuse, IsNoRefusal, misuse_name, misuse_number, refusal_number};
 
 use crate::misuse::Misuse;
 use kp_types::Refusal;
@@ -105,19 +105,49 @@ pub(crate) fn refusal_of(number: u32) -> Option<Refusal>
     }
 }
 
+/// The misuse of this number. O(1).
+fn misuse_of(number: u32) -> Option<Misuse>
+    ensures some { IfSome result (λ why. misuse_number why ≡ number) }
+    ensures none { IfNone result (IsNoMisuse number) }
+{
+    match number {
+        65 => Some(Misuse::Closed),
+        66 => Some(Misuse::OtherKind),
+        67 => Some(Misuse::InUse),
+        68 => Some(Misuse::NoRoom),
+        69 => Some(Misuse::OutOfRange),
+        70 => Some(Misuse::BadLength),
+        _ => None,
+    }
+}
+
+/// A misuse's number and name, as `F65 Closed`. O(1).
+fn misuse_name(misuse: &Misuse) -> &'static str
+    ensures { result.now ≡ misuse_name misuse.now }
+{
+    match misuse {
+        Misuse::Closed => "F65 Closed",
+        Misuse::OtherKind => "F66 OtherKind",
+        Misuse::InUse => "F67 InUse",
+        Misuse::NoRoom => "F68 NoRoom",
+        Misuse::OutOfRange => "F69 OutOfRange",
+        Misuse::BadLength => "F70 BadLength",
+    }
+}
+
 /// The name of what a call answered, as `F22 StaleRecord`; empty for a number that none answers. O(1).
-pub(crate) fn name_of(number: u32) -> &'static str {
-    match refusal_of(number) {
-        Some(refusal) => refusal.name(),
-        None => match number {
-            0 => "F0 Done",
-            65 => "F65 Closed",
-            66 => "F66 OtherKind",
-            67 => "F67 InUse",
-            68 => "F68 NoRoom",
-            69 => "F69 OutOfRange",
-            70 => "F70 BadLength",
-            _ => "",
-        },
+#[tactic(auto, using(crate::proofs::Names::of_done, crate::proofs::Names::of_refusal, crate::proofs::Names::of_misuse, crate::proofs::Names::of_none))]
+pub(crate) fn name_of(number: u32) -> &'static str
+    ensures { IsName number result.now }
+{
+    if number == 0 {
+        return "F0 Done";
+    }
+    if let Some(refusal) = refusal_of(number) {
+        return refusal.name();
+    }
+    match misuse_of(number) {
+        Some(misuse) => misuse_name(&misuse),
+        None => "",
     }
 }

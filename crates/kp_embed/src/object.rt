@@ -6,7 +6,8 @@ ghost use Rattle.kp_embed.specs.declared.misuse.Misuse.TheVariants.{NoRoom};
 
 use crate::misuse::Misuse;
 use crate::segments::SegmentShare;
-use kp_batch::Batch;
+use bytes::BytesMut;
+use kp_batch::{Batch, Handed};
 use kp_board::{Board, BoardName, FreshPass, Message, Pass};
 use kp_node::Node;
 use kp_types::Limits;
@@ -23,11 +24,27 @@ pub struct Cluster<B: BoardName> {
     pub(crate) limits: Limits,
 }
 
-/// A caller's pass, with its board.
+/// A caller's pass, with its board, and the block to which the bytes that it hands in are copied.
 #[derive(Drop)]
 pub struct Caller<B: BoardName> {
     pub(crate) board: Arc<Board<B>, Global>,
     pub(crate) pass: Pass<B>,
+    pub(crate) block: BytesMut,
+}
+
+/// Bytes that a client hands in, and the block to which the next ones are copied.
+#[derive(Drop)]
+pub struct InHand {
+    pub(crate) bytes: Handed,
+    pub(crate) block: BytesMut,
+}
+
+impl Model for InHand {
+    ghost use Rattle.std.specs.Prelude.{ℕ, List};
+
+    ghost Value = { List ℕ };
+
+    ghost view = { λ hand. hand.bytes };
 }
 
 /// What a handle holds, by its kind.
@@ -41,6 +58,7 @@ pub enum Kind<B: BoardName> {
     Batches(Vec<Batch>),
     Records(ReadRecords),
     Segments(Vec<SegmentShare>),
+    Handed(InHand),
 }
 
 /// What a handle holds. A clause sees no name of a board.

@@ -1,14 +1,14 @@
 //! Calls of a node for a caller's pass.
 
-ghost use Rattle.std.specs.Prelude.{◌≡◌, IfSome};
-ghost use Rattle.kp_embed.specs.Called.{PairCalled, PairMet};
-ghost use Rattle.kp_embed.specs.PairCalls.{Acks, Marks, Produces};
+ghost use Rattle.std.specs.Prelude.{◌≡◌, length, IfSome};
+ghost use Rattle.kp_embed.specs.Called.{NoReason, PairCalled, PairMet};
+ghost use Rattle.kp_embed.specs.PairCalls.{Acks, BadBytes, BadMarker, Marks, Produces};
 
+use crate::handing::copied_by;
 use crate::handle::{Handle, Unnamed, put, take_two};
 use crate::misuse::Misuse;
 use crate::nodes::Called;
 use crate::object::{Kind, Object};
-use bytes::Bytes;
 use kp_batch::Handed;
 use kp_board::{BoardName, Pass};
 use kp_marker::{HandedMarker, Marker};
@@ -16,9 +16,6 @@ use kp_node::{Ack, Node};
 use kp_replica::Receipt;
 use kp_types::Refusal;
 use std::alloc::Global;
-
-// The most bytes of a batch: its length field, a signed one of four bytes, doesn't count the first twelve.
-const MOST_BYTES: usize = 2_147_483_659;
 
 fn produce_objects<B: BoardName>(
     one: &mut Object<B>,
@@ -36,8 +33,9 @@ fn produce_objects<B: BoardName>(
     }
 }
 
+/// Hands the node the batch that the bytes are, as `Node::produce` does.
 #[tactic(auto, using(crate::proofs::Bad::pair_closed, crate::proofs::Bad::pair_kind))]
-fn produce_handed<B: BoardName + Unnamed>(
+pub(crate) fn produce_handed<B: BoardName + Unnamed>(
     alloc: Global,
     node: &mut Handle,
     caller: &mut Handle,
@@ -45,7 +43,7 @@ fn produce_handed<B: BoardName + Unnamed>(
 ) -> Called<Receipt>
     requires node { IfSome node.old.object (λ _. node.old.table ≡ B.table) }
     requires caller { IfSome caller.old.object (λ _. caller.old.table ≡ B.table) }
-    ensures called { PairCalled node.old.object node.new.object caller.old.object caller.new.object result (Produces bytes) }
+    ensures called { PairCalled NoReason node.old.object node.new.object caller.old.object caller.new.object result (Produces bytes) }
     ensures cluster { (node.new.table ≡ node.old.table) × (caller.new.table ≡ caller.old.table) }
 {
     let (mut first, mut second) = take_two::<B>(alloc, node, caller)?;
@@ -56,6 +54,7 @@ fn produce_handed<B: BoardName + Unnamed>(
 }
 
 /// Hands the node the batch that the bytes are, which are copied once, as `Node::produce` does.
+#[tactic(auto, using(crate::proofs::Bad::pair_copy))]
 pub(crate) fn produce<B: BoardName + Unnamed>(
     alloc: Global,
     node: &mut Handle,
@@ -64,16 +63,11 @@ pub(crate) fn produce<B: BoardName + Unnamed>(
 ) -> Called<Receipt>
     requires node { IfSome node.old.object (λ _. node.old.table ≡ B.table) }
     requires caller { IfSome caller.old.object (λ _. caller.old.table ≡ B.table) }
-    ensures called { PairCalled node.old.object node.new.object caller.old.object caller.new.object result (Produces bytes.now) }
+    ensures called { PairCalled (BadBytes (length bytes.now)) node.old.object node.new.object caller.old.object caller.new.object result (Produces bytes.now) }
     ensures cluster { (node.new.table ≡ node.old.table) × (caller.new.table ≡ caller.old.table) }
 {
-    if bytes.len() > MOST_BYTES {
-        return Err(Misuse::BadLength);
-    }
-    let Ok(copied) = Bytes::copy_from_slice(alloc, bytes) else {
-        return Err(Misuse::NoRoom);
-    };
-    produce_handed::<B>(alloc, node, caller, Handed::raw(copied))
+    let copy = copied_by::<B>(alloc, caller, bytes)?;
+    produce_handed::<B>(alloc, node, caller, copy)
 }
 
 fn mark_objects<B: BoardName>(
@@ -102,7 +96,7 @@ fn mark<B: BoardName + Unnamed>(
 ) -> Called<Receipt>
     requires node { IfSome node.old.object (λ _. node.old.table ≡ B.table) }
     requires caller { IfSome caller.old.object (λ _. caller.old.table ≡ B.table) }
-    ensures called { PairCalled node.old.object node.new.object caller.old.object caller.new.object result (Marks marker.now.marker) }
+    ensures called { PairCalled NoReason node.old.object node.new.object caller.old.object caller.new.object result (Marks marker.now.marker) }
     ensures cluster { (node.new.table ≡ node.old.table) × (caller.new.table ≡ caller.old.table) }
 {
     let (mut first, mut second) = take_two::<B>(alloc, node, caller)?;
@@ -121,7 +115,7 @@ pub(crate) fn mark_in<B: BoardName + Unnamed>(
 ) -> Called<Receipt>
     requires node { IfSome node.old.object (λ _. node.old.table ≡ B.table) }
     requires caller { IfSome caller.old.object (λ _. caller.old.table ≡ B.table) }
-    ensures called { PairCalled node.old.object node.new.object caller.old.object caller.new.object result (Marks marker) }
+    ensures called { PairCalled (BadMarker marker) node.old.object node.new.object caller.old.object caller.new.object result (Marks marker) }
     ensures cluster { (node.new.table ≡ node.old.table) × (caller.new.table ≡ caller.old.table) }
 {
     let Some(handed) = HandedMarker::new(marker) else {
@@ -167,7 +161,7 @@ pub(crate) fn acked<B: BoardName + Unnamed>(
 ) -> Called<Ack>
     requires node { IfSome node.old.object (λ _. node.old.table ≡ B.table) }
     requires caller { IfSome caller.old.object (λ _. caller.old.table ≡ B.table) }
-    ensures called { PairCalled node.old.object node.new.object caller.old.object caller.new.object result (Acks receipt.now) }
+    ensures called { PairCalled NoReason node.old.object node.new.object caller.old.object caller.new.object result (Acks receipt.now) }
     ensures cluster { (node.new.table ≡ node.old.table) × (caller.new.table ≡ caller.old.table) }
 {
     let (mut first, mut second) = take_two::<B>(alloc, node, caller)?;

@@ -1,12 +1,12 @@
 //! Calls of a caller's pass alone.
-ghost use Rattle.std.specs.Prelude.{◌≡◌, ℕ, Result, Ok, IfOk, Option, Some};
+ghost use Rattle.std.specs.Prelude.{◌≡◌, ℕ, Result, Option};
 ghost use Rattle.kp_types.specs.declared.refusal.Refusal.{Refusal};
 ghost use Rattle.kp_model.specs.declared.record.LeaderAndIsr.{LeaderAndIsr};
 ghost use Rattle.kp_embed.specs.declared.misuse.Misuse.{Misuse};
 ghost use Rattle.kp_embed.specs.Called.{CallerCalled};
 ghost use Rattle.kp_embed.specs.CallerCalls.{Elects, Looks, LearnsMark};
 ghost use Rattle.kp_embed.specs.Numbers.{answer_number, mark_number};
-ghost use Rattle.kp_embed.specs.Outs.{record_out};
+ghost use Rattle.kp_embed.specs.Outs.{WritesMark, WritesOut, record_out};
 
 use crate::callers::{elect, record, watermark};
 use crate::handle::Handle;
@@ -21,7 +21,7 @@ use std::marker::Brand;
 pub extern "C" fn kp_elect(alloc: Global, pass: &mut Handle, node: u8, found: &mut RecordOut) -> u32
     ensures called { (answer : Result (Result LeaderAndIsr Refusal) Misuse) × (result ≡ answer_number answer)
         × CallerCalled pass.old.object pass.new.object answer (Elects node)
-        × IfOk answer (λ a. IfOk a (λ r. found.new ≡ record_out r)) }
+        × WritesOut record_out answer found.old found.new }
     ensures cluster { pass.new.table ≡ pass.old.table }
 {
     match elect::<Brand>(alloc, pass, node) {
@@ -39,7 +39,7 @@ pub extern "C" fn kp_elect(alloc: Global, pass: &mut Handle, node: u8, found: &m
 pub extern "C" fn kp_record(alloc: Global, pass: &mut Handle, found: &mut RecordOut) -> u32
     ensures called { (answer : Result (Result LeaderAndIsr Refusal) Misuse) × (result ≡ answer_number answer)
         × CallerCalled pass.old.object pass.new.object answer Looks
-        × IfOk answer (λ a. IfOk a (λ r. found.new ≡ record_out r)) }
+        × WritesOut record_out answer found.old found.new }
     ensures cluster { pass.new.table ≡ pass.old.table }
 {
     match record::<Brand>(alloc, pass) {
@@ -57,7 +57,7 @@ pub extern "C" fn kp_record(alloc: Global, pass: &mut Handle, found: &mut Record
 pub extern "C" fn kp_watermark(alloc: Global, pass: &mut Handle, node: u8, offset: &mut u64) -> u32
     ensures called { (answer : Result (Result (Option ℕ) Refusal) Misuse) × (result ≡ mark_number answer)
         × CallerCalled pass.old.object pass.new.object answer (LearnsMark node)
-        × ((w : ℕ) → answer ≡ Ok (Ok (Some w)) → offset.new ≡ w) }
+        × WritesMark answer offset.old offset.new }
     ensures cluster { pass.new.table ≡ pass.old.table }
 {
     match watermark::<Brand>(alloc, pass, node) {

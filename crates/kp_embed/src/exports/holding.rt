@@ -17,7 +17,7 @@ use std::marker::Brand;
 pub extern "C" fn kp_count(alloc: Global, handle: &mut Handle, found: &mut usize) -> u32
     ensures called { (answer : Result ℕ Misuse) × (result ≡ done_number answer)
         × IfOk answer (λ n. (found.new ≡ n) × HasCount handle.old.object n)
-        × IfErr answer (BadCount handle.old.object) }
+        × IfErr answer (BadCount handle.old.object) × OnErr answer (found.new ≡ found.old) }
     ensures same { handle.new.object ≡ handle.old.object }
 {
     match count::<Brand>(alloc, handle) {
@@ -39,7 +39,7 @@ pub extern "C" fn kp_batch_size(
 ) -> u32
     ensures called { (answer : Result ℕ Misuse) × (result ≡ done_number answer)
         × IfOk answer (λ n. (size.new ≡ n) × HasSize batches.old.object index n)
-        × IfErr answer (NoBatch index batches.old.object) }
+        × IfErr answer (NoBatch index batches.old.object) × OnErr answer (size.new ≡ size.old) }
     ensures same { batches.new.object ≡ batches.old.object }
 {
     match batch_size::<Brand>(alloc, batches, index) {
@@ -74,7 +74,7 @@ pub extern "C" fn kp_committed(
 ) -> u32
     ensures called { (answer : Result ValueOut Misuse) × (result ≡ done_number answer)
         × IfOk answer (λ seen. (found.new ≡ seen) × HasRecord records.old.object index seen)
-        × IfErr answer (NoRecord index records.old.object) }
+        × IfErr answer (NoRecord index records.old.object) × OnErr answer (found.new ≡ found.old) }
     ensures same { records.new.object ≡ records.old.object }
 {
     match record_at::<Brand>(alloc, records, index) {
@@ -104,7 +104,7 @@ pub extern "C" fn kp_value(alloc: Global, records: &mut Handle, index: usize, to
 pub extern "C" fn kp_addressee(alloc: Global, message: &mut Handle, found: &mut u8) -> u32
     ensures called { (answer : Result ℕ Misuse) × (result ≡ done_number answer)
         × IfOk answer (λ n. (found.new ≡ n) × HasAddressee message.old.object n)
-        × IfErr answer (BadLetter message.old.object) }
+        × IfErr answer (BadLetter message.old.object) × OnErr answer (found.new ≡ found.old) }
     ensures same { message.new.object ≡ message.old.object }
     ensures cluster { message.new.table ≡ message.old.table }
 {

@@ -1,5 +1,5 @@
 //! Calls of a node alone.
-ghost use Rattle.std.specs.Prelude.{◌≡◌, ℕ, Result, IfOk};
+ghost use Rattle.std.specs.Prelude.{◌≡◌, ℕ, Result};
 ghost use Rattle.kp_types.specs.declared.refusal.Refusal.{Refusal};
 ghost use Rattle.kp_replica.specs.declared.act.Answer.{Answer};
 ghost use Rattle.kp_replica.specs.declared.adopting.Role.{Role};
@@ -7,7 +7,7 @@ ghost use Rattle.kp_embed.specs.declared.misuse.Misuse.{Misuse};
 ghost use Rattle.kp_embed.specs.Called.{NodeCalled};
 ghost use Rattle.kp_embed.specs.NodeCalls.{Adopts, Raises, Checkpoints, Stops, Restarts};
 ghost use Rattle.kp_embed.specs.Numbers.{answer_number};
-ghost use Rattle.kp_embed.specs.Outs.{restart_out, role_out};
+ghost use Rattle.kp_embed.specs.Outs.{WritesOut, restart_out, role_out};
 
 use crate::handle::Handle;
 use crate::nodes::{adopt, checkpoint, raise, restart, stop};
@@ -19,9 +19,9 @@ use std::marker::Brand;
 /// Takes up the controller's record.
 #[unsafe(no_mangle)]
 pub extern "C" fn kp_adopt(alloc: Global, node: &mut Handle, role: &mut RoleOut) -> u32
-    ensures called { (answer : Result (Result (Role) Refusal) Misuse) × (result ≡ answer_number answer)
+    ensures called { (answer : Result (Result Role Refusal) Misuse) × (result ≡ answer_number answer)
         × NodeCalled node.old.object node.new.object answer Adopts
-        × IfOk answer (λ a. IfOk a (λ r. role.new ≡ role_out r)) }
+        × WritesOut role_out answer role.old role.new }
     ensures cluster { node.new.table ≡ node.old.table }
 {
     match adopt::<Brand>(alloc, node) {
@@ -37,9 +37,9 @@ pub extern "C" fn kp_adopt(alloc: Global, node: &mut Handle, role: &mut RoleOut)
 /// Raises the high watermark.
 #[unsafe(no_mangle)]
 pub extern "C" fn kp_raise(alloc: Global, node: &mut Handle, offset: &mut u64) -> u32
-    ensures called { (answer : Result (Result (ℕ) Refusal) Misuse) × (result ≡ answer_number answer)
+    ensures called { (answer : Result (Result ℕ Refusal) Misuse) × (result ≡ answer_number answer)
         × NodeCalled node.old.object node.new.object answer Raises
-        × IfOk answer (λ a. IfOk a (λ r. offset.new ≡ r)) }
+        × WritesOut (λ mark. mark) answer offset.old offset.new }
     ensures cluster { node.new.table ≡ node.old.table }
 {
     match raise::<Brand>(alloc, node) {
@@ -55,9 +55,9 @@ pub extern "C" fn kp_raise(alloc: Global, node: &mut Handle, offset: &mut u64) -
 /// Notes the high watermark as the checkpoint.
 #[unsafe(no_mangle)]
 pub extern "C" fn kp_checkpoint(alloc: Global, node: &mut Handle, offset: &mut u64) -> u32
-    ensures called { (answer : Result (Result (ℕ) Refusal) Misuse) × (result ≡ answer_number answer)
+    ensures called { (answer : Result (Result ℕ Refusal) Misuse) × (result ≡ answer_number answer)
         × NodeCalled node.old.object node.new.object answer Checkpoints
-        × IfOk answer (λ a. IfOk a (λ r. offset.new ≡ r)) }
+        × WritesOut (λ mark. mark) answer offset.old offset.new }
     ensures cluster { node.new.table ≡ node.old.table }
 {
     match checkpoint::<Brand>(alloc, node) {
@@ -87,9 +87,9 @@ pub extern "C" fn kp_stop(alloc: Global, node: &mut Handle) -> u32
 /// Starts the node again.
 #[unsafe(no_mangle)]
 pub extern "C" fn kp_restart(alloc: Global, node: &mut Handle, restarted: &mut RestartOut) -> u32
-    ensures called { (answer : Result (Result (Answer) Refusal) Misuse) × (result ≡ answer_number answer)
+    ensures called { (answer : Result (Result Answer Refusal) Misuse) × (result ≡ answer_number answer)
         × NodeCalled node.old.object node.new.object answer Restarts
-        × IfOk answer (λ a. IfOk a (λ r. restarted.new ≡ restart_out r)) }
+        × WritesOut restart_out answer restarted.old restarted.new }
     ensures cluster { node.new.table ≡ node.old.table }
 {
     match restart::<Brand>(alloc, node) {

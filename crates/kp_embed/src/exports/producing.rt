@@ -1,20 +1,43 @@
 //! Calls of a node for a caller's pass.
-ghost use Rattle.std.specs.Prelude.{◌≡◌, Result, IfOk, IfErr};
+ghost use Rattle.std.specs.Prelude.{◌≡◌, Some, length, Result, IfErr, OnOk, OnErr};
 ghost use Rattle.kp_types.specs.declared.refusal.Refusal.{Refusal};
 ghost use Rattle.kp_node.specs.declared.ack.Ack.{Ack};
 ghost use Rattle.kp_replica.specs.declared.producing.Receipt.{Receipt};
-ghost use Rattle.kp_embed.specs.Called.{AreOfOne, PairCalled};
-ghost use Rattle.kp_embed.specs.Numbers.{answer_number};
-ghost use Rattle.kp_embed.specs.Outs.{ack_out, marker_in, receipt_in, receipt_out, refused_at};
-ghost use Rattle.kp_embed.specs.PairCalls.{Acks, Marks, Produces};
+ghost use Rattle.kp_embed.specs.Called.{AreOfOne, NoReason, PairCalled};
+ghost use Rattle.kp_embed.specs.Handing.{BadHand, HandedCalled, IsFree};
+ghost use Rattle.kp_embed.specs.Numbers.{answer_number, done_number};
+ghost use Rattle.kp_embed.specs.Objects.{handed as HandedBytes};
+ghost use Rattle.kp_embed.specs.Outs.{WritesOut, WritesReceipt, ack_out, marker_in, receipt_in, receipt_out};
+ghost use Rattle.kp_embed.specs.PairCalls.{Acks, BadBytes, BadMarker, Marks, Produces};
 ghost use Rattle.kp_embed.specs.declared.misuse.Misuse.{Misuse};
 
+use crate::handing::{hand, shared};
 use crate::handle::Handle;
+use crate::nodes::Called;
 use crate::numbers::{misuse_number, refusal_number};
 use crate::outs::{MarkerIn, ReceiptOut, ack_out};
-use crate::producing::{acked, mark_in, produce};
+use crate::producing::{acked, mark_in, produce, produce_handed};
+use kp_replica::Receipt;
 use std::alloc::Global;
 use std::marker::Brand;
+
+// The number of what was answered, whose receipt, or the place that it names, goes to the caller.
+fn told(answer: Called<Receipt>, receipt: &mut ReceiptOut) -> u32
+    ensures number { result ≡ answer_number answer }
+    ensures receipt { WritesReceipt answer receipt.old receipt.new }
+{
+    match answer {
+        Ok(Ok(kept)) => {
+            *receipt = ReceiptOut::of(&kept);
+            0
+        }
+        Ok(Err(refusal)) => {
+            receipt.place = refusal.place().unwrap_or(0);
+            refusal_number(&refusal)
+        }
+        Err(misuse) => misuse_number(&misuse),
+    }
+}
 
 /// Hands a node the bytes of a batch.
 #[tactic(auto, using(crate::proofs::OneCluster::first_is, crate::proofs::OneCluster::second_is))]
@@ -28,22 +51,62 @@ pub extern "C" fn kp_produce(
 ) -> u32
     requires { AreOfOne node.old.object node.old.table pass.old.object pass.old.table }
     ensures called { (answer : Result (Result Receipt Refusal) Misuse) × (result ≡ answer_number answer)
-        × PairCalled node.old.object node.new.object pass.old.object pass.new.object answer (Produces bytes.now)
-        × IfOk answer (λ a. IfOk a (λ r. receipt.new ≡ receipt_out r))
-        × IfOk answer (λ a. IfErr a (λ f. receipt.new ≡ refused_at f receipt.old)) }
+        × PairCalled (BadBytes (length bytes.now)) node.old.object node.new.object pass.old.object pass.new.object answer (Produces bytes.now)
+        × WritesReceipt answer receipt.old receipt.new }
     ensures cluster { (node.new.table ≡ node.old.table) × (pass.new.table ≡ pass.old.table) }
 {
-    match produce::<Brand>(alloc, node, pass, bytes) {
-        Ok(Ok(kept)) => {
-            *receipt = ReceiptOut::of(&kept);
-            0
-        }
-        Ok(Err(refusal)) => {
-            receipt.place = refusal.place().unwrap_or(0);
-            refusal_number(&refusal)
-        }
+    told(produce::<Brand>(alloc, node, pass, bytes), receipt)
+}
+
+/// Copies the bytes of a batch into a handle, and tests them.
+#[unsafe(no_mangle)]
+pub extern "C" fn kp_hand(alloc: Global, handed: &mut Handle, bytes: &[u8]) -> u32
+    ensures called { (answer : Result (Unit {0}) Misuse) × (result ≡ done_number answer)
+        × OnOk answer (handed.new.object ≡ Some (HandedBytes bytes.now))
+        × OnOk answer (IsFree handed.old.object)
+        × OnErr answer (handed.new.object ≡ handed.old.object)
+        × IfErr answer (BadHand (length bytes.now) handed.old.object) }
+{
+    match hand::<Brand>(alloc, handed, bytes) {
+        Ok(()) => 0,
         Err(misuse) => misuse_number(&misuse),
     }
+}
+
+// Hands a node the bytes that a handle holds.
+#[tactic(auto, using(crate::proofs::OneCluster::first_is, crate::proofs::OneCluster::second_is))]
+fn produce_held(
+    alloc: Global,
+    node: &mut Handle,
+    pass: &mut Handle,
+    handed: &mut Handle,
+) -> Called<Receipt>
+    requires { AreOfOne node.old.object node.old.table pass.old.object pass.old.table }
+    ensures called { HandedCalled handed.old.object node.old.object node.new.object pass.old.object pass.new.object result }
+    ensures same { handed.new.object ≡ handed.old.object }
+    ensures cluster { (node.new.table ≡ node.old.table) × (pass.new.table ≡ pass.old.table) }
+{
+    let bytes = shared::<Brand>(alloc, handed)?;
+    produce_handed::<Brand>(alloc, node, pass, bytes)
+}
+
+/// Hands a node the bytes that a handle holds, which it holds on.
+#[unsafe(no_mangle)]
+pub extern "C" fn kp_produce_handed(
+    alloc: Global,
+    node: &mut Handle,
+    pass: &mut Handle,
+    handed: &mut Handle,
+    receipt: &mut ReceiptOut,
+) -> u32
+    requires { AreOfOne node.old.object node.old.table pass.old.object pass.old.table }
+    ensures called { (answer : Result (Result Receipt Refusal) Misuse) × (result ≡ answer_number answer)
+        × HandedCalled handed.old.object node.old.object node.new.object pass.old.object pass.new.object answer
+        × WritesReceipt answer receipt.old receipt.new }
+    ensures same { handed.new.object ≡ handed.old.object }
+    ensures cluster { (node.new.table ≡ node.old.table) × (pass.new.table ≡ pass.old.table) }
+{
+    told(produce_held(alloc, node, pass, handed), receipt)
 }
 
 /// Hands a node a transaction's marker.
@@ -58,8 +121,8 @@ pub extern "C" fn kp_mark(
 ) -> u32
     requires { AreOfOne node.old.object node.old.table pass.old.object pass.old.table }
     ensures called { (answer : Result (Result Receipt Refusal) Misuse) × (result ≡ answer_number answer)
-        × PairCalled node.old.object node.new.object pass.old.object pass.new.object answer (Marks (marker_in marker.now))
-        × IfOk answer (λ a. IfOk a (λ r. receipt.new ≡ receipt_out r)) }
+        × PairCalled (BadMarker (marker_in marker.now)) node.old.object node.new.object pass.old.object pass.new.object answer (Marks (marker_in marker.now))
+        × WritesOut receipt_out answer receipt.old receipt.new }
     ensures cluster { (node.new.table ≡ node.old.table) × (pass.new.table ≡ pass.old.table) }
 {
     match mark_in::<Brand>(alloc, node, pass, marker.marker()) {
@@ -84,8 +147,8 @@ pub extern "C" fn kp_acked(
 ) -> u32
     requires { AreOfOne node.old.object node.old.table pass.old.object pass.old.table }
     ensures called { (answer : Result (Result Ack Refusal) Misuse) × (result ≡ answer_number answer)
-        × PairCalled node.old.object node.new.object pass.old.object pass.new.object answer (Acks (receipt_in receipt.now))
-        × IfOk answer (λ a. IfOk a (λ r. ack.new ≡ ack_out r)) }
+        × PairCalled NoReason node.old.object node.new.object pass.old.object pass.new.object answer (Acks (receipt_in receipt.now))
+        × WritesOut ack_out answer ack.old ack.new }
     ensures cluster { (node.new.table ≡ node.old.table) × (pass.new.table ≡ pass.old.table) }
 {
     match acked::<Brand>(alloc, node, pass, &receipt.receipt()) {

@@ -1,13 +1,14 @@
 //! The text of what a call answers.
-ghost use Rattle.std.specs.Prelude.{◌≡◌, ◌≤◌, length};
+ghost use Rattle.std.specs.Prelude.{◌≡◌, ◌++◌, ℕ, List, drop, length, min, take};
+ghost use Rattle.kp_embed.specs.Numbers.{IsName};
 
 use crate::numbers::name_of;
 
-/// Writes the name of what a call answered, and answers how many bytes that are.
+/// Writes the name of what a call answered, as far as there is room, and answers how many bytes it wrote.
 #[unsafe(no_mangle)]
 pub extern "C" fn kp_text(number: u32, to: &mut [u8]) -> usize
-    ensures fits { result ≤ length to.old }
-    ensures length { length to.new ≡ length to.old }
+    ensures { (name : List ℕ) × IsName number name × (result ≡ min (length name) (length to.old))
+        × (to.new ≡ take result name ++ drop result to.old) }
 {
     let text = name_of(number).as_bytes();
     let count = text.len().min(to.len());

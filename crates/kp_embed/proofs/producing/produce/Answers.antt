@@ -1,10 +1,17 @@
-use Rattle.std.proofs.Common.{ℕ, List, subst, ◌∙◌}
+use Rattle.std.proofs.Common.{List, ℕ, length, subst}
+use Rattle.std.specs.Prelude.{Option}
 use Rattle.kp_embed.proofs.producing.produce.Goals as goal
-use Rattle.kp_embed.specs.Called.{PairCalled}
-use Rattle.kp_embed.specs.PairCalls.{Produces}
+use Rattle.kp_embed.proofs.Bad.{pair_any}
+use Rattle.kp_embed.specs.Called.{NoReason, PairCalled}
+use Rattle.kp_embed.specs.Objects.{ObjectView}
+use Rattle.kp_embed.specs.PairCalls.{BadBytes, Produces}
 
 pub returns-clause-called : goal.returns-clause-called
 returns-clause-called g c =
     let r = c.produce_handed in
-    subst (λ (bytes : List ℕ). PairCalled c.args.node.now.object r.new.node.object c.args.caller.now.object r.new.caller.object r.result (Produces bytes))
-    (c.raw.ensures ∙ c.in-Ok.ensures) r.ensures.called
+    let old = c.args.node.now.object in
+    let new = r.new.node.object in
+    let then = r.new.caller.object in
+    let copied = subst (λ (bytes : List ℕ). PairCalled NoReason old new c.copied_by.new.caller.object then r.result (Produces bytes)) c.in_ok-copy.ensures.copied r.ensures.called in
+    pair_any (BadBytes (length c.args.bytes.now)) old new c.args.caller.now.object then r.result (Produces c.args.bytes.now)
+    (subst (λ (other : Option ObjectView). PairCalled NoReason old new other then r.result (Produces c.args.bytes.now)) c.copied_by.ensures.same copied)
