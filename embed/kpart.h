@@ -8,11 +8,9 @@
  * At each function stands the word of the contract that carries it (crates/kp_embed/specs/), and the call of kp_node or
  * kp_board whose clauses that word repeats. Also proved: a handle is Send, so it may go from thread to thread.
  * WHAT IS NOT PROVED. That callers keep the duties below; that malloc, realloc and free do what C says; the C compiler and
- * linker. Of the numbers from 65 on it is proved that each comes only where what it says is so, but for KP_NO_ROOM, and but for
- * KP_OUT_OF_RANGE and KP_BAD_LENGTH at kp_produce, kp_mark, kp_acked, kp_read and kp_read_committed: of those it is proved only
- * that nothing has changed. Where several are so, any of them may be answered.
- * The texts of kp_text are proved only where they are a refusal's. What a call writes through a
- * parameter besides handles is said only after KP_DONE, and of kp_produce's `place` after a refusal.
+ * linker. Of the numbers from 65 on it is proved that each comes only where what it says is so, but for KP_NO_ROOM, of which it
+ * is proved only that nothing has changed. Where several are so, any of them may be answered. What a call writes through a
+ * parameter is written at KP_DONE alone, but for `place` of a receipt; else it is as it was.
  * The layer's own unsafe lines are two: `Box::from_raw` in src/loose.rt, and `unsafe impl Send for Handle` in
  * src/handle.rt. Both are proved, as are the casts of a box's pointer in src/handle.rt (proofs/handle, proofs/loose).
  *
@@ -26,7 +24,7 @@
  *  3. One call at a time is given a handle: of two calls with one handle, one happens before the other, by a lock, a channel,
  *     the start or end of a thread, or whatever else orders memory. Calls with different handles may run at once, also of one
  *     cluster.
- *  4. Handles of different clusters never go into one call. (A closed handle is of any.)
+ *  4. Handles of different clusters never go into one call. (A closed handle is of any, and so is one that holds bytes.)
  *  5. No call is made from a signal handler, nor in the forked child of a process with threads.
  *  6. malloc and realloc align a block to each power of two up to 16 that divides its size.
  *
@@ -47,7 +45,7 @@
 extern "C" {
 #endif
 
-/* Holds a cluster, a node, a pass, a message, or what was read; all zero it is closed, and holds nothing. */
+/* Holds a cluster, a node, a pass, a message, bytes in hand, or what was read; all zero it is closed, and holds nothing. */
 typedef struct {
     void *at;
     uint64_t state;
@@ -67,7 +65,7 @@ enum {
 
 /* Writes the name of what a call answered, as "F22 StaleRecord", without a zero at its end, as far as `length` bytes reach;
  * answers how many bytes it wrote. A number that no call answers has no name. Memory: none.
- * Proved: no byte beyond `length` is written, and the refusal named has this number (`refusal_of`). */
+ * Proved: `IsName`, and no byte behind those is written. */
 size_t kp_text(uint32_t number, uint8_t *to, size_t length);
 
 /* ---- opening and closing */
@@ -157,8 +155,18 @@ typedef struct {
 
 /* Hands the leader the bytes of a batch as a client sends them (magic 2). They are copied once. KP_BAD_LENGTH above
  * 2,147,483,659 bytes; the refusals are those of `Replica::produce`, and 28.
- * Proved: `PairCalled`, `Produces` (`Node::produce`). */
+ * Proved: `PairCalled`, `Produces` (`Node::produce`), `WritesReceipt`. */
 uint32_t kp_produce(kp_handle *node, kp_handle *pass, const uint8_t *bytes, size_t length, kp_receipt *receipt);
+
+/* The same in two calls, so that of several threads none copies bytes, or sums them up, while it has the node's lock.
+ *
+ * The first copies the bytes into a handle that is closed, or in place of those that it holds, and tests them: it needs no lock.
+ * KP_BAD_LENGTH as above; KP_IN_USE where the handle holds something else. Proved: `BadHand` (`Handed::tested`), and that the
+ * handle holds these bytes then. */
+uint32_t kp_hand(kp_handle *handed, const uint8_t *bytes, size_t length);
+
+/* The second hands the leader the bytes that the handle holds, which it holds on. Proved: `HandedCalled`, `WritesReceipt`. */
+uint32_t kp_produce_handed(kp_handle *node, kp_handle *pass, kp_handle *handed, kp_receipt *receipt);
 
 typedef struct {
     uint64_t producer_id;       /* whose transaction ends, below 2^63 */

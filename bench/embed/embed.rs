@@ -131,7 +131,7 @@ fn one<S: Side>(side: &S, size: usize, threads: usize, mib: usize) {
 fn run_one(words: &[usize]) {
     let [side, size, threads, mib] = words[..] else { panic!("four numbers") };
     match side {
-        0 => one(&Library::open(), size, threads, mib),
+        0 => one(&Library::open(threads), size, threads, mib),
         _ => one(&Plain { node: Node::new(0, 1) }, size, threads, mib),
     }
 }

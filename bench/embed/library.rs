@@ -29,6 +29,8 @@ unsafe extern "C" {
     fn kp_adopt(node: &mut Handle, role: &mut Out) -> u32;
     fn kp_raise(node: &mut Handle, offset: &mut u64) -> u32;
     fn kp_produce(node: &mut Handle, pass: &mut Handle, bytes: *const u8, length: usize, receipt: &mut Out) -> u32;
+    fn kp_hand(handed: &mut Handle, bytes: *const u8, length: usize) -> u32;
+    fn kp_produce_handed(node: &mut Handle, pass: &mut Handle, handed: &mut Handle, receipt: &mut Out) -> u32;
     fn kp_read(node: &mut Handle, pass: &mut Handle, from: u64, batches: &mut Handle) -> u32;
     fn kp_count(handle: &mut Handle, found: &mut usize) -> u32;
     fn kp_batch_size(batches: &mut Handle, index: usize, size: &mut u32) -> u32;
@@ -58,11 +60,13 @@ fn done(answer: u32) {
 pub struct Library {
     cluster: Mutex<Handle>,
     node: Mutex<Handle>,
+    // Whether several threads produce: then each copies its bytes before it locks the node, as the header advises.
+    shared: bool,
 }
 
 impl Library {
     /// One node, which leads.
-    pub fn open() -> Library {
+    pub fn open(threads: usize) -> Library {
         let limits = Limits { segment_bytes: 1 << 30, index_interval: 4_096, max_batch: 1_048_576 };
         let [mut cluster, mut node, mut pass] = [Handle::closed(), Handle::closed(), Handle::closed()];
         let mut out = Out::default();
@@ -74,7 +78,7 @@ impl Library {
             done(kp_elect(&mut pass, 0, &mut out));
             done(kp_adopt(&mut node, &mut out));
         }
-        Library { cluster: Mutex::new(cluster), node: Mutex::new(node) }
+        Library { cluster: Mutex::new(cluster), node: Mutex::new(node), shared: threads > 1 }
     }
 }
 
@@ -85,14 +89,22 @@ impl Side for Library {
         let mut pass = Handle::closed();
         // SAFETY: one handle is the library's, the other is closed.
         done(unsafe { kp_open_pass(&mut self.cluster.lock().expect("a cluster"), &mut pass) });
-        PassOf { pass }
+        PassOf { pass, handed: Handle::closed() }
     }
 
     fn produce(&self, own: &mut PassOf, bytes: &[u8]) {
         let mut receipt = Out::default();
-        let mut node = self.node.lock().expect("a node");
-        // SAFETY: both handles are the library's, and of one cluster; the pointer and the length are a slice's.
-        done(unsafe { kp_produce(&mut node, &mut own.pass, bytes.as_ptr(), bytes.len(), &mut receipt) });
+        if self.shared {
+            // SAFETY: the handle is closed, or the library's with bytes in it; the pointer and the length are a slice's.
+            done(unsafe { kp_hand(&mut own.handed, bytes.as_ptr(), bytes.len()) });
+            let mut node = self.node.lock().expect("a node");
+            // SAFETY: the handles are the library's, and of one cluster.
+            done(unsafe { kp_produce_handed(&mut node, &mut own.pass, &mut own.handed, &mut receipt) });
+        } else {
+            let mut node = self.node.lock().expect("a node");
+            // SAFETY: both handles are the library's, and of one cluster; the pointer and the length are a slice's.
+            done(unsafe { kp_produce(&mut node, &mut own.pass, bytes.as_ptr(), bytes.len(), &mut receipt) });
+        }
     }
 
     fn raise(&self) {
@@ -124,4 +136,6 @@ impl Side for Library {
 /// A thread's pass.
 pub struct PassOf {
     pass: Handle,
+    // Its bytes, where several threads produce.
+    handed: Handle,
 }

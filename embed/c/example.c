@@ -88,18 +88,23 @@ static size_t batch(uint8_t *to, uint64_t producer, uint32_t sequence, char valu
 
 /* ---- clients */
 
+/* Each batch is copied and tested before the leader's lock is taken, so other clients wait for an append alone. */
 static void *produces(void *of) {
     client *c = of;
-    for (uint32_t i = 0; i < BATCHES; i++) {
+    kp_handle handed = {0};
+    uint32_t answer = KP_DONE;
+    for (uint32_t i = 0; i < BATCHES && answer == KP_DONE; i++) {
         uint8_t bytes[128];
         size_t size = batch(bytes, c->producer, i, (char)('a' + i));
-        pthread_mutex_lock(&c->leader->lock);
-        uint32_t answer = kp_produce(&c->leader->node, &c->pass, bytes, size, &c->receipts[i]);
-        pthread_mutex_unlock(&c->leader->lock);
+        answer = kp_hand(&handed, bytes, size);
         if (answer != KP_DONE)
-            return c;
+            break;
+        pthread_mutex_lock(&c->leader->lock);
+        answer = kp_produce_handed(&c->leader->node, &c->pass, &handed, &c->receipts[i]);
+        pthread_mutex_unlock(&c->leader->lock);
     }
-    return NULL;
+    kp_close(&handed);
+    return answer == KP_DONE ? NULL : c;
 }
 
 /* The follower asks, the leader answers, and the follower takes what it answered. */
@@ -211,6 +216,12 @@ int main(void) {
     holds("it is a duplicate", receipt.duplicate && receipt.base == one->receipts[BATCHES - 1].base);
     bytes[size - 2] ^= 1;
     wants("bad bytes", kp_produce(&nodes[0].node, &one->pass, bytes, size, &receipt), 4);
+    kp_handle handed = {0};
+    wants("nothing in hand", kp_produce_handed(&nodes[0].node, &one->pass, &handed, &receipt), KP_CLOSED);
+    wants("hand", kp_hand(&handed, bytes, size), KP_DONE);
+    wants("bad bytes in hand", kp_produce_handed(&nodes[0].node, &one->pass, &handed, &receipt), 4);
+    wants("close", kp_close(&handed), KP_DONE);
+    wants("no place for bytes", kp_hand(&one->pass, bytes, size), KP_IN_USE);
 
     uint32_t ack;
     wants("acked", kp_acked(&nodes[0].node, &one->pass, &one->receipts[0], &ack), KP_DONE);

@@ -108,6 +108,8 @@ unsafe extern "C" {
     fn kp_step(node: &mut Handle, message: &mut Handle) -> u32;
 
     fn kp_produce(node: &mut Handle, pass: &mut Handle, bytes: *const u8, count: usize, receipt: &mut ReceiptOut) -> u32;
+    fn kp_hand(handed: &mut Handle, bytes: *const u8, count: usize) -> u32;
+    fn kp_produce_handed(node: &mut Handle, pass: &mut Handle, handed: &mut Handle, receipt: &mut ReceiptOut) -> u32;
     fn kp_mark(node: &mut Handle, pass: &mut Handle, marker: &MarkerIn, receipt: &mut ReceiptOut) -> u32;
     fn kp_acked(node: &mut Handle, pass: &mut Handle, receipt: &ReceiptOut, ack: &mut u32) -> u32;
     fn kp_read(node: &mut Handle, pass: &mut Handle, from: u64, batches: &mut Handle) -> u32;
@@ -191,6 +193,12 @@ pub(crate) struct RawPass {
 pub(crate) struct RawMessage {
     handle: Handle,
     cluster: u64,
+}
+
+/// The bytes of a batch that was copied.
+#[derive(Debug)]
+pub(crate) struct RawHanded {
+    handle: Handle,
 }
 
 /// Batches that were read.
@@ -330,6 +338,14 @@ impl RawNode {
         if number == 0 { Ok(receipt) } else { Err(Error::of(number, receipt.place)) }
     }
 
+    pub(crate) fn produce_handed(&mut self, pass: &mut RawPass, handed: &mut RawHanded) -> Result<ReceiptOut, Error> {
+        of_one(self.cluster, pass.cluster)?;
+        let mut receipt = ReceiptOut::default();
+        // SAFETY: two handles are the library's, and of one cluster; bytes are of any.
+        let number = unsafe { kp_produce_handed(&mut self.handle, &mut pass.handle, &mut handed.handle, &mut receipt) };
+        if number == 0 { Ok(receipt) } else { Err(Error::of(number, receipt.place)) }
+    }
+
     pub(crate) fn mark(&mut self, pass: &mut RawPass, marker: &MarkerIn) -> Result<ReceiptOut, Error> {
         of_one(self.cluster, pass.cluster)?;
         let mut receipt = ReceiptOut::default();
@@ -367,6 +383,18 @@ impl RawNode {
         // SAFETY: one handle is the library's, the other is closed.
         answered(unsafe { kp_segments(&mut self.handle, &mut handle) })?;
         Ok(RawSegments { handle })
+    }
+}
+
+impl RawHanded {
+    pub(crate) const fn closed() -> RawHanded {
+        RawHanded { handle: Handle::closed() }
+    }
+
+    /// Copies the bytes in place of those that it has.
+    pub(crate) fn hand(&mut self, bytes: &[u8]) -> Result<(), Error> {
+        // SAFETY: the handle is closed, or the library's, with bytes in it; the pointer and the count are a slice's.
+        answered(unsafe { kp_hand(&mut self.handle, bytes.as_ptr(), bytes.len()) })
     }
 }
 

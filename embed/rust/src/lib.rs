@@ -9,6 +9,7 @@
 //! |---|---|
 //! | nodes, and who leads | [`Cluster`], [`Pass::elect`], [`Node::adopt`] |
 //! | to hand in a batch, and to know that it stays | [`Node::produce`], [`Node::acked`] |
+//! | to do so from several threads | [`Batch`], [`Node::produce_batch`]: copied and tested outside of the lock |
 //! | to read what is committed, batch by batch | [`Node::read`] |
 //! | to read records, none of an aborted transaction | [`Node::read_committed`] |
 //! | to keep a node's log as files | [`Node::segments`] |
@@ -71,6 +72,7 @@
 #![deny(unsafe_code)]
 #![warn(missing_docs)]
 
+mod batch;
 mod batches;
 mod cluster;
 mod error;
@@ -83,6 +85,7 @@ mod segments;
 mod values;
 mod workers;
 
+pub use batch::Batch;
 pub use batches::Batches;
 pub use cluster::{Cluster, Pass};
 pub use error::{Error, Refusal};

@@ -1,5 +1,6 @@
 //! A node whose lock is held.
 
+use crate::batch::Batch;
 use crate::batches::Batches;
 use crate::cluster::Pass;
 use crate::error::Error;
@@ -83,6 +84,12 @@ impl<'a> Node<'a> {
     /// its receipt names the one that stands, so trying again is safe. F1 to F13, F15, F25, F30, F33. O(n) in the bytes.
     pub fn produce(&mut self, pass: &mut Pass, batch: &[u8]) -> Result<Receipt, Error> {
         self.raw.produce(&mut pass.raw, batch).map(Receipt::from)
+    }
+
+    /// Hands a leader a batch that was copied and tested before its lock was taken, as [`Node::produce`] does: the same refusals, and the
+    /// same receipts. O(1) but for what the producer's tables cost, and one more test of the bytes where they are no batch.
+    pub fn produce_batch(&mut self, pass: &mut Pass, batch: &mut Batch) -> Result<Receipt, Error> {
+        self.raw.produce_handed(&mut pass.raw, &mut batch.raw).map(Receipt::from)
     }
 
     /// Hands a leader a transaction's marker. F11, F14, F15, F25, F33; [`Error::OutOfRange`] where a field is outside of its range.

@@ -1,6 +1,8 @@
 //! Each call once, and what the types refuse.
 
-use kpart::{Ack, Addressee, Change, Cluster, CommittedRecord, Error, Limits, Marker, Message, Pass, Record, Refusal, Role, Segment};
+use kpart::{
+    Ack, Addressee, Batch, Change, Cluster, CommittedRecord, Error, Limits, Marker, Message, Pass, Record, Refusal, Role, Segment,
+};
 
 const ONE_RECORD: &[u8] = include_bytes!("one_record.batch");
 // Of producer 12's transaction: the values 'paid' and null.
@@ -63,6 +65,44 @@ fn a_batch_is_replicated_and_committed() -> Done {
         let read = bytes_read(&cluster, &mut pass, node)?;
         assert_eq!((read.len(), &read[0][16..]), (1, &ONE_RECORD[16..]));
     }
+    Ok(())
+}
+
+#[test]
+fn a_batch_is_copied_before_a_node_gets_it() -> Done {
+    let (cluster, mut pass) = led(1)?;
+    let mut batch = Batch::new(ONE_RECORD)?;
+    for base in [0, 1] {
+        let receipt = cluster.node(0)?.produce_batch(&mut pass, &mut batch)?;
+        assert_eq!((receipt.base, receipt.last, receipt.duplicate), (base, base, false));
+    }
+    cluster.node(0)?.raise()?;
+    let read = bytes_read(&cluster, &mut pass, 0)?;
+    assert_eq!((read.len(), &read[0][16..], &read[1][16..]), (2, &ONE_RECORD[16..], &ONE_RECORD[16..]));
+    let mut broken = ONE_RECORD.to_vec();
+    broken[70] ^= 1;
+    batch.set(&broken)?;
+    assert_eq!(cluster.node(0)?.produce_batch(&mut pass, &mut batch), Err(Refusal::BadCrc.into()));
+    batch.set(&ONE_RECORD[..60])?;
+    assert_eq!(cluster.node(0)?.produce_batch(&mut pass, &mut batch), Err(Refusal::Truncated.into()));
+    batch.set(TRANSACTION)?;
+    assert_eq!(cluster.node(0)?.produce_batch(&mut pass, &mut batch)?.last, 3);
+    assert!(cluster.node(0)?.produce_batch(&mut pass, &mut batch)?.duplicate); // the same sequence numbers again
+    Ok(())
+}
+
+#[test]
+fn what_fits_one_node_is_too_large_for_another() -> Done {
+    let small = Cluster::open(1, Limits { max_batch: ONE_RECORD.len() as u32 - 1, ..Limits::default() })?;
+    let mut pass = small.pass()?;
+    pass.elect(0)?;
+    small.node(0)?.adopt()?;
+    let mut batch = Batch::new(ONE_RECORD)?;
+    assert_eq!(small.node(0)?.produce_batch(&mut pass, &mut batch), Err(Refusal::TooLarge.into()));
+    let (cluster, mut pass) = led(1)?;
+    assert_eq!(cluster.node(0)?.produce_batch(&mut pass, &mut batch)?.base, 0);
+    let (_, mut stranger) = led(1)?;
+    assert_eq!(cluster.node(0)?.produce_batch(&mut stranger, &mut batch), Err(Error::OtherCluster));
     Ok(())
 }
 

@@ -1,6 +1,6 @@
 //! As many threads as cores at one cluster, with workers and elections.
 
-use kpart::{Ack, Cluster, Error, Limits, Pass, Receipt, Refusal, Workers};
+use kpart::{Ack, Batch, Cluster, Error, Limits, Pass, Receipt, Refusal, Workers};
 use std::sync::Arc;
 use std::sync::atomic::{AtomicBool, Ordering};
 use std::thread;
@@ -21,6 +21,7 @@ fn what_may_cross_threads() {
     is_send::<kpart::Pass>();
     is_send::<kpart::Message>();
     is_send::<kpart::Batches>();
+    is_send::<Batch>();
     is_send::<Workers>();
     is_sync::<Workers>();
 }
@@ -31,9 +32,10 @@ fn pause() {
 
 // Hands a batch in until one of its receipts is acknowledged.
 fn put(cluster: &Cluster, pass: &mut Pass) -> Result<Receipt, Error> {
+    let mut batch = Batch::new(ONE_RECORD)?;
     loop {
         let (leader, _) = pass.record()?.leader.expect("somebody leads");
-        let receipt = match cluster.node(leader)?.produce(pass, ONE_RECORD) {
+        let receipt = match cluster.node(leader)?.produce_batch(pass, &mut batch) {
             Ok(receipt) => receipt,
             Err(Error::Refused(Refusal::NotLeader)) => {
                 pause();

@@ -3,7 +3,7 @@
 use crate::batch::{Sequence, transactional};
 use crate::clock::{Clock, Fault};
 use crate::payment::Payment;
-use kpart::{Ack, Cluster, Error, Marker, Node, Pass, Receipt, Refusal};
+use kpart::{Ack, Batch, Cluster, Error, Marker, Node, Pass, Receipt, Refusal};
 use std::sync::atomic::{AtomicU64, Ordering};
 use std::sync::mpsc::Sender;
 
@@ -55,8 +55,8 @@ impl Producer {
     fn pay(&mut self, payment: &Payment, commits: bool) -> Result<Receipt, Fault> {
         let sequence = Sequence { producer: self.id, epoch: 0, first: self.sequence };
         let entries = payment.entries().map(|entry| entry.text());
-        let batch = transactional(sequence, TIME, &entries);
-        self.hand_in(|node, pass| node.produce(pass, &batch))?;
+        let mut batch = Batch::new(&transactional(sequence, TIME, &entries))?;
+        self.hand_in(|node, pass| node.produce_batch(pass, &mut batch))?;
         self.sequence += entries.len() as u32;
         let marker = Marker { producer_id: self.id, producer_epoch: 0, coordinator_epoch: 0, timestamp: TIME, commits };
         self.hand_in(|node, pass| node.mark(pass, &marker))
@@ -64,9 +64,9 @@ impl Producer {
 
     /// Hands it to whoever leads, until it is acknowledged. Again is safe: of a batch that stands already the leader answers with that
     /// one's receipt, and a second marker ends no transaction.
-    fn hand_in(&mut self, hand: impl Fn(&mut Node, &mut Pass) -> Result<Receipt, Error>) -> Result<Receipt, Fault> {
+    fn hand_in(&mut self, mut hand: impl FnMut(&mut Node, &mut Pass) -> Result<Receipt, Error>) -> Result<Receipt, Fault> {
         loop {
-            match self.handed(&hand)? {
+            match self.handed(&mut hand)? {
                 Some(receipt) if self.is_acknowledged(&receipt)? => return Ok(receipt),
                 _ => self.retries += 1,
             }
@@ -74,7 +74,7 @@ impl Producer {
         }
     }
 
-    fn handed(&mut self, hand: &impl Fn(&mut Node, &mut Pass) -> Result<Receipt, Error>) -> Result<Option<Receipt>, Fault> {
+    fn handed(&mut self, hand: &mut impl FnMut(&mut Node, &mut Pass) -> Result<Receipt, Error>) -> Result<Option<Receipt>, Fault> {
         let Some((leader, _)) = self.pass.record()?.leader else { return Ok(None) };
         let mut node = self.cluster.node(leader)?;
         match hand(&mut node, &mut self.pass) {
