@@ -80,7 +80,7 @@ fn a_batch_is_copied_before_a_node_gets_it() -> Done {
     let read = bytes_read(&cluster, &mut pass, 0)?;
     assert_eq!((read.len(), &read[0][16..], &read[1][16..]), (2, &ONE_RECORD[16..], &ONE_RECORD[16..]));
     let mut broken = ONE_RECORD.to_vec();
-    broken[70] ^= 1;
+    broken[65] ^= 1;
     batch.set(&broken)?;
     assert_eq!(cluster.node(0)?.produce_batch(&mut pass, &mut batch), Err(Refusal::BadCrc.into()));
     batch.set(&ONE_RECORD[..60])?;
