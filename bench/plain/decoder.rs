@@ -1,5 +1,5 @@
 //! A plain decoder of record batches, of std alone, for comparison: the same twelve tests in the
-//! same order, a checksum by eight tables, shared bytes, and records that are lent.
+//! same order, a checksum by sixteen tables, shared bytes, and records that are lent.
 
 use std::sync::Arc;
 
@@ -40,15 +40,15 @@ pub struct Records<'a> {
 const HEAD: usize = 61;
 const TOP: i64 = (1 << 62) - 1;
 
-static TABLES: [[u32; 256]; 8] = tables();
+static TABLES: [[u32; 256]; 16] = tables();
 
-const fn tables() -> [[u32; 256]; 8] {
-    let mut tables = [[0u32; 256]; 8];
+const fn tables() -> [[u32; 256]; 16] {
+    let mut tables = [[0u32; 256]; 16];
     let mut byte = 0;
     while byte < 256 {
         let mut register = byte as u32;
         let mut table = 0;
-        while table < 8 {
+        while table < 16 {
             let mut bit = 0;
             while bit < 8 {
                 register = (register >> 1) ^ (0x82f6_3b78 * (register & 1));
@@ -64,15 +64,19 @@ const fn tables() -> [[u32; 256]; 8] {
 
 pub fn crc32c(bytes: &[u8]) -> u32 {
     let mut register = u32::MAX;
-    let mut words = bytes.chunks_exact(8);
-    for word in &mut words {
-        let word = u64::from_le_bytes(word.try_into().unwrap()) ^ u64::from(register);
-        register = 0;
-        for table in 0..8 {
-            register ^= TABLES[7 - table][(word >> (8 * table)) as usize & 0xff];
+    let mut rest = bytes;
+    while let Some((chunk, after)) = rest.split_first_chunk::<16>() {
+        let front = register ^ u32::from_le_bytes([chunk[0], chunk[1], chunk[2], chunk[3]]);
+        register = TABLES[15][(front & 0xff) as usize]
+            ^ TABLES[14][(front >> 8 & 0xff) as usize]
+            ^ TABLES[13][(front >> 16 & 0xff) as usize]
+            ^ TABLES[12][(front >> 24) as usize];
+        for place in 4..16 {
+            register ^= TABLES[15 - place][usize::from(chunk[place])];
         }
+        rest = after;
     }
-    for byte in words.remainder() {
+    for byte in rest {
         register = (register >> 8) ^ TABLES[0][(register as u8 ^ byte) as usize];
     }
     !register
