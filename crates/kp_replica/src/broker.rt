@@ -88,6 +88,7 @@ impl Broker {
     }
 
     /// The node does what is handed no bytes, under this record of the controller.
+    #[inline(never)]
     fn perform(
         &mut self,
         alloc: Global,

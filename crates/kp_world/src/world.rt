@@ -67,6 +67,7 @@ fn send(messages: &mut Vec<MessageBody>, body: MessageBody) -> EventAnswer
 }
 
 /// Tells what came of a node's act: a message that was sent stands behind the others, for which there is room. O(1).
+#[inline(always)]
 fn carry_out(
     messages: &mut Vec<MessageBody>,
     outcome: Result<Effect, Refusal>,
@@ -150,6 +151,7 @@ impl World {
     }
 
     /// The controller elects a node.
+    #[inline(never)]
     fn elect(&mut self, node: NodeId) -> Result<EventAnswer, Refusal>
         ensures step { (limits : LogLimits)
             → LeadOn limits self.old (ModelElect node ∷ []) (result ∷ []) self.new }
@@ -162,6 +164,7 @@ impl World {
 
     /// The message of this number comes to the node to which it goes, or a proposal to the controller, which decides on it; F29
     /// where no message has it. An `Err` says that there was no room for a message more, and nothing has happened.
+    #[inline(never)]
     fn deliver(
         &mut self,
         alloc: Global,
