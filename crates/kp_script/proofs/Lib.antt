@@ -25,4 +25,5 @@ pub mod Played
 pub mod Answering
 pub mod Limited
 pub mod KeptLogs
+pub mod LeftLines
 pub mod Counting

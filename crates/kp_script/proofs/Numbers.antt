@@ -1,11 +1,13 @@
 -- Laws of the spelling of a number in decimal digits.
-use Rattle.std.proofs.Common.{◌≡◌, ℕ, zero, suc, ◌+◌, ◌*◌, ◌<◌, ◌≤◌, ◌^◌, List, [], ◌∷◌, ◌++◌, refl, sym, ap, ◌∙◌, arith, ◌-◌, length, get_or, take, drop, subst, inl, inr}
+use Rattle.std.proofs.Common.{◌≡◌, ℕ, zero, suc, ◌+◌, ◌*◌, ◌<◌, ◌≤◌, ◌^◌, List, [], ◌∷◌, ◌++◌, refl, sym, ap, ◌∙◌, arith, ◌-◌, length, get_or, take, drop, subst, inl, inr, lit<}
 use Rattle.std.proofs.lemmas.Bool.{cases_lt}
 use Rattle.std.proofs.lemmas.Int.Digits.{digits_value_more, digits_more}
 use Rattle.std.proofs.lemmas.Str.{digit_value_digit}
 use Rattle.std.proofs.lemmas.Str.Parse.{IsNumeralModel, numerals_by_value, tells_digits, digit_from_value, digit_at, digits_value-take-le}
 use Rattle.std.proofs.lemmas.Fmt.{decimal_is_IsNumeral, decimal-digits_value, decimal_nonempty, first_decimal, decimal_digit, decimal_injective}
 use Rattle.std.proofs.lemmas.List.{append_cancel_left, append-nil, take-append-drop, take-append-le, drop_more, drop_all, get_or_append_left}
+use Rattle.std.proofs.lemmas.Grind.{pow_more}
+use native.Mathlib.Nat.{pow-le-pow_right}
 use Rattle.std.specs.Char.{digit_value}
 use Rattle.std.specs.Fmt.{decimal}
 use Rattle.std.specs.Int.{IsInRange}
@@ -28,6 +30,14 @@ digits_grow bytes i value lt all is low high =
     let digit : digit_value (get_or bytes i 0) + 48 ≡ get_or bytes i 0 = digit_value_is (get_or bytes i 0) low high in
     let more : digits_value 10 (take (i + 1) bytes) ≡ digits_value 10 (take i bytes) * 10 + digit_value (get_or bytes i 0) = digits_value_more 10 bytes i lt in
     (digits_more 10 bytes i lt all (omega arith), omega arith)
+
+-- a number of few digits has room for one more
+pub digit_fits : (d value digit : ℕ) → d < 18 → value < 10 ^ d → digit ≤ 9 → (10 * value + digit < 10 ^ (d + 1)) × (10 * value + digit < 10000000000000000000)
+digit_fits d value digit few fits low =
+    let within : d ≤ 18 = omega (arith, few) in
+    let most : 10 ^ d ≤ 10 ^ 18 = pow-le-pow_right (lit< tt) within in
+    let next : 10 ^ (d + 1) ≡ 10 ^ d * 10 = pow_more 10 d in
+    (omega (arith, next, fits, low), omega (arith, most, fits, low))
 
 -- digits without a zero in front are the spelling of their value
 pub spelled : (bytes : List ℕ) (n : ℕ) → AllDigits 10 bytes → 0 < length bytes → (get_or bytes 0 0 ≡ 48 → length bytes ≡ 1) → n ≡ digits_value 10 bytes → n < 2 ^ 64 → bytes ≡ decimal n

@@ -138,7 +138,7 @@ one_out call old new refused text q = subst (λ (n : ℕ). PlayedOut (call ∷ [
 
 -- ---- parts of the lines
 
-first_part : (P : ℕ × Call → Type 0) (xs ys : List Line) → AllByRecursion P (map seen_line (xs ++ ys)) → AllByRecursion P (map seen_line xs)
+pub first_part : (P : ℕ × Call → Type 0) (xs ys : List Line) → AllByRecursion P (map seen_line (xs ++ ys)) → AllByRecursion P (map seen_line xs)
 first_part P [] ys h = tt
 first_part P (x ∷ xs) ys h = (h.0, first_part P xs ys h.1)
 

@@ -1,10 +1,10 @@
 -- How far a script is read, and what its first fault is.
-use Rattle.std.proofs.Common.{◌≡◌, ℕ, ◌+◌, ◌≤◌, List, [], ◌∷◌, ◌++◌, refl, ap, ◌∙◌, subst, arith, codes, inl, inr, length, map, length-append}
+use Rattle.std.proofs.Common.{◌≡◌, ℕ, ◌+◌, ◌≤◌, List, [], ◌∷◌, ◌++◌, refl, ap, ◌∙◌, subst, arith, codes, inl, inr, length, map, append-nil, length-append}
 use Rattle.std.specs.List.{AllByRecursion}
 use Rattle.std.proofs.lemmas.List.{length-map}
 use Rattle.kp_script.specs.Call.{Call, Header, call_text, IsCall, IsHeaderText, IsCallText, SpellsNoHeader, SpellsNoCall}
 use Rattle.kp_script.specs.Lines.{lines, counted, counted_from}
-use Rattle.kp_script.specs.Script.{BeginsScript, IsFaultAt}
+use Rattle.kp_script.specs.Script.{BeginsScript, IsFaultAt, IsScript}
 use Rattle.kp_script.specs.Seen.{seen_line}
 use Rattle.kp_script.specs.declared.script.Line.{Line}
 use Rattle.kp_script.proofs.Numbers.{same_field}
@@ -37,6 +37,22 @@ pub progress_none : (bytes : List ℕ) (header : Header) (first : ℕ × List �
     counted bytes ≡ first ∷ counted_from number rest → Progress bytes header [] number rest
 progress_none bytes header first number rest spelled whole =
     record { first = first; spelled = spelled; whole = whole; calls = tt; few = omega arith }
+
+-- nothing is left
+pub script_read : (bytes : List ℕ) (header : Header) (items : List Line) (number : ℕ) (rest : List ℕ) → Progress bytes header items number rest →
+    counted_from number rest ≡ [] → IsScript bytes (record { header = header; calls = map seen_line items })
+script_read bytes header items number rest p none =
+    record {
+      first = p.first.0;
+      spelled =
+          p.whole
+          ∙ ap (λ (l : List (ℕ × List ℕ)). p.first ∷ (map text_of (map seen_line items) ++ l)) none
+          ∙ ap (λ (l : List (ℕ × List ℕ)). p.first ∷ l) (append-nil (map text_of (map seen_line items)))
+          ∙ ap (λ (text : List ℕ). (p.first.0, text) ∷ map text_of (map seen_line items)) p.spelled.1;
+      header = p.spelled.0;
+      calls = p.calls;
+      few = omega (arith, length-map items seen_line, p.few);
+    }
 
 -- What is read so far can begin a script.
 begins : (bytes : List ℕ) (header : Header) (items : List Line) (number : ℕ) (rest : List ℕ) (p : Progress bytes header items number rest) →

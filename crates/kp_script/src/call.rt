@@ -1,6 +1,6 @@
 //! The header and the calls, and the readers of their lines.
 
-ghost use Rattle.std.specs.Prelude.{◌≡◌, ◌≢◌, ℕ, ◌<◌, codes, IfSome, IfNone};
+ghost use Rattle.std.specs.Prelude.{◌≡◌, ◌≢◌, ℕ, ◌<◌, ◌≤◌, codes, length, IfSome, IfNone};
 ghost use Rattle.std.specs.Fmt.{decimal};
 ghost use Rattle.kp_script.specs.Call.{IsHeaderText, IsCallText, SpellsNoHeader, SpellsNoCall, HasOneCall, IsNoLifeVerb, IsNoLeadVerb, IsNoLongVerb, IsNoNodeVerb};
 ghost use Rattle.kp_script.specs.Read.{AreFields, AreNoFields};
@@ -8,7 +8,7 @@ ghost use Rattle.kp_script.specs.Seen.{seen_header, seen_call};
 
 use crate::fields::{append_of, mark_of, node_and_offset_of, node_of, raw_of, two_nodes_of};
 use crate::lines::LONGEST_LINE;
-use crate::words::{field_then, last_field, number_below, split_first_at};
+use crate::words::{after, field_then, last_field, number_below, split_first_at};
 use kp_replica::{IsrChange, PlainAct};
 use kp_types::{
     GREATEST_SEGMENT_BYTES, LEAST_SEGMENT_BYTES, MAX_INDEX_INTERVAL, MOST_NODES, NodeId,
@@ -303,8 +303,21 @@ fn call_with<'a>(verb: &[u8], fields: &'a [u8], count: NodeId) -> Option<Call<'a
     }
 }
 
+/// The call that the whole line spells, where there are so many nodes: whichever it is.
+#[inline(never)]
+fn any_call(line: &[u8], count: NodeId) -> Option<Call<'_>>
+    requires { length line.now ≤ 2100000 }
+    ensures found { IfSome result (λ call. IsCallText count line.now (seen_call call)) }
+    ensures none { IfNone result (SpellsNoCall count line.now) }
+{
+    match split_first_at(b' ', line) {
+        Some((verb, fields)) => call_with(verb, fields, count),
+        None => None,
+    }
+}
+
 /// The call that the whole line spells, where there are so many nodes. Takes time proportional to the line, and no
-/// memory.
+/// memory. Most lines of a script are appends, so those are told first.
 pub fn call_of(line: &[u8], count: NodeId) -> Option<Call<'_>>
     ensures found { IfSome result (λ call. IsCallText count line.now (seen_call call)) }
     ensures none { IfNone result (SpellsNoCall count line.now) }
@@ -312,9 +325,9 @@ pub fn call_of(line: &[u8], count: NodeId) -> Option<Call<'_>>
     if line.len() > LONGEST_LINE {
         return None;
     }
-    match split_first_at(b' ', line) {
-        Some((verb, fields)) => call_with(verb, fields, count),
-        None => None,
+    match after(b"append ", line) {
+        Some(fields) => append_of(fields, count),
+        None => any_call(line, count),
     }
 }
 

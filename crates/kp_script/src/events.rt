@@ -133,6 +133,7 @@ fn append_event<'a>(
 
 /// The bytes that the digits spell, handed to the node. Takes time and memory proportional to their number, and is
 /// refused only where memory runs out.
+#[inline(never)]
 fn raw_event(alloc: Global, node: NodeId, digits: &[u8]) -> Result<Event, Refusal>
     ensures told { IfOk result (Tells largest_batch (Raw node (bytes_of digits.now))) }
     ensures node { IfOk result (λ event. (count : ℕ) → node < count → IsAmong count event) }

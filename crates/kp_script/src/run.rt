@@ -6,7 +6,7 @@ ghost use Rattle.kp_types.specs.declared.refusal.Refusal.TheVariants.{BadScript,
 ghost use Rattle.kp_types.specs.Devices.{CountsFaults, CountsOne, IsDeviceFault, device_of, faults_of};
 ghost use Rattle.kp_script.specs.Call.{IsCall};
 ghost use Rattle.kp_script.specs.Ended.{limits_in, AreLimited, WritesTo};
-ghost use Rattle.kp_script.specs.Playing.{BeginFrom, PlayTo, PlaysOne};
+ghost use Rattle.kp_script.specs.Playing.{BeginFrom, IsFirstWhole, IsWithin, PlayTo, PlaysOne, left_in};
 ghost use Rattle.kp_script.specs.Script.{IsFaultAt};
 ghost use Rattle.kp_script.specs.Seen.{seen_call, seen_header, seen_line};
 ghost use Rattle.kp_script.specs.Transcript.{IsRunRefusal, Writes, WritesFirst, WritesFront};
@@ -20,6 +20,7 @@ use kp_batch::{Parts, Speller};
 use kp_types::{Counted, Limits, MAX_BATCH, NodeId, Refusal};
 use kp_world::World;
 use std::alloc::Global;
+use std::collections::VecDeque;
 use std::io::{Read, Write};
 
 /// From how many bytes of the trace on they are written.
@@ -129,6 +130,24 @@ fn play_lines<W: Write>(
     })
 }
 
+/// Lets the first piece go, with its memory, where so many lines are all that it has. Answers how many of the then first piece are
+/// behind.
+fn left_behind(pieces: &mut VecDeque<Vec<Line<'_>>>, lines: usize) -> usize
+    requires { IsWithin lines pieces.old.items }
+    ensures left { left_in result pieces.new.items ≡ left_in lines pieces.old.items }
+    ensures within { IsWithin result pieces.new.items }
+    ensures fewer { length pieces.new.items ≤ length pieces.old.items }
+    ensures gone { IsFirstWhole lines pieces.old.items → length pieces.new.items < length pieces.old.items }
+{
+    match pieces.front() {
+        Some(piece) if piece.len() == lines => {
+            let _ = pieces.pop_front();
+            0
+        }
+        _ => lines,
+    }
+}
+
 /// Plays the script that the reader has left, and writes its trace: a line for each event. Answers how many
 /// events were refused, and the nodes with their logs as they are then. F31 with the first line at fault, and then nothing
 /// is written; F33, and then the lines of the first events are, or nothing; F32 where a device failed, and then a
@@ -163,16 +182,17 @@ pub fn play_script<R: Read, W: Write>(
     kp_model::batches_keep_their_size();
     kp_replica::bytes_are_an_offer();
     let input = reader.read_all(alloc)?;
-    let script = parse(alloc, &input)?;
-    let header = &script.header;
-    let mut world = World::start(alloc, header.count, &limits_of(header))?;
+    let mut script = parse(alloc, &input)?;
+    let header = script.header;
+    let mut world = World::start(alloc, header.count, &limits_of(&header))?;
     let mut work = Work::new(alloc);
     let mut refused = 0;
-    let mut rest = script.lines.as_slice();
-    while !rest.is_empty() {
+    let mut from = 0;
+    while let Some(piece) = script.pieces.front() {
+        let (_, rest) = piece.split_at(from);
         let played = play_lines(alloc, rest, header.count, &mut world, &mut work, writer)?;
         refused += played.refused;
-        (_, rest) = rest.split_at(played.lines);
+        from = left_behind(&mut script.pieces, from + played.lines);
     }
     Ok(Ended::new(refused, header.count, world))
 }

@@ -1,14 +1,16 @@
 //! The whole script, and its parser.
 
-ghost use Rattle.std.specs.Prelude.{◌≡◌, ℕ, IfOk, IfErr, Err};
+ghost use Rattle.std.specs.Prelude.{◌≡◌, ℕ, [], ◌∷◌, ◌++◌, IfOk, IfErr, OnOk, Err};
 ghost use Rattle.kp_script.specs.Script.{IsScript, IsFaultAt, IsScriptRefusal};
-ghost use Rattle.kp_script.specs.Seen.{seen_script};
+ghost use Rattle.kp_script.specs.Seen.{lines_in, seen_script};
 ghost use Rattle.kp_types.specs.declared.refusal.Refusal.TheVariants.{BadScript};
 
 use crate::call::{Call, Header, call_of, header_of};
 use crate::lines::next_counted;
 use kp_types::Refusal;
-use std::alloc::Global;
+use std::alloc::{AllocError, Global};
+use std::collections::VecDeque;
+use std::mem::replace;
 
 /// How many events a script has at most.
 pub const MOST_EVENTS: usize = 1_000_000;
@@ -25,13 +27,36 @@ pub struct Line<'a> {
 // A script keeps up to a million of them.
 const _: () = prove!(size_of::<Line<'static>>() == 56);
 
+/// How many events a piece of a script has at most.
+const PIECE: usize = 4_096;
+
 /// A header, and the events in their order.
 #[derive(Drop)]
 pub struct Script<'a> {
     /// What the first line that counts says.
     pub header: Header,
-    /// The events.
-    pub lines: Vec<Line<'a>>,
+    /// The events, piece by piece, so that a run gives back the memory of those that it has played.
+    pub pieces: VecDeque<Vec<Line<'a>>>,
+}
+
+/// Puts the event behind those of the last piece, which goes to the others where it is full, and a new one begins. It fails where
+/// memory runs out.
+fn push_line<'a>(
+    alloc: Global,
+    pieces: &mut VecDeque<Vec<Line<'a>>>,
+    last: &mut Vec<Line<'a>>,
+    line: Line<'a>,
+) -> Result<(), AllocError>
+    ensures { OnOk result (lines_in pieces.new.items ++ last.new.items
+        ≡ (lines_in pieces.old.items ++ last.old.items) ++ line.entry ∷ []) }
+{
+    if last.len() == PIECE {
+        let next = Vec::with_capacity(alloc, PIECE)?;
+        pieces.push_back(replace(last, next))?;
+    }
+    last.reserve(1)?;
+    last.push_reserved(line);
+    Ok(())
 }
 
 /// The script that these bytes are. A refusal has the number of the first line that can't stand where it
@@ -49,23 +74,27 @@ pub fn parse(alloc: Global, bytes: &[u8]) -> Result<Script<'_>, Refusal>
     let Some(header) = header_of(first.line) else {
         return Err(Refusal::BadScript(first.number));
     };
-    let mut lines = Vec::new(alloc);
+    let mut pieces = VecDeque::new(alloc);
+    let mut last = Vec::new(alloc);
+    let mut events = 0;
     let mut rest = first.rest;
     let mut number = first.number + 1;
     while let Ok(next) = next_counted(rest, number) {
-        if lines.len() == MOST_EVENTS {
+        if events == MOST_EVENTS {
             return Err(Refusal::BadScript(next.number));
         }
         let Some(call) = call_of(next.line, header.count) else {
             return Err(Refusal::BadScript(next.number));
         };
-        lines.reserve(1)?;
-        lines.push_reserved(Line {
+        let line = Line {
             number: next.number,
             call,
-        });
+        };
+        push_line(alloc, &mut pieces, &mut last, line)?;
+        events += 1;
         rest = next.rest;
         number = next.number + 1;
     }
-    Ok(Script { header, lines })
+    pieces.push_back(last)?;
+    Ok(Script { header, pieces })
 }

@@ -67,17 +67,24 @@ fn put_short(text: &mut Vec<u8>, number: u64)
     }
 }
 
+/// Appends the number in decimal digits, however many.
+#[inline(never)]
+fn push_any_number(text: &mut Vec<u8>, number: u64) -> Result<(), AllocError>
+    ensures { OnOk result (text.new.items ≡ text.old.items ++ decimal number) }
+{
+    let mut buffer = Buffer::new();
+    text.extend_from_slice(buffer.format(number).as_bytes())
+}
+
 /// Appends the number in decimal digits. It takes no memory but the text's.
 pub(crate) fn push_number(text: &mut Vec<u8>, number: u64) -> Result<(), AllocError>
     ensures { OnOk result (text.new.items ≡ text.old.items ++ decimal number) }
 {
-    if number < SHORT {
-        text.reserve(SHORT_DIGITS)?;
+    if number < SHORT && text.capacity() - text.len() >= SHORT_DIGITS {
         put_short(text, number);
         return Ok(());
     }
-    let mut buffer = Buffer::new();
-    text.extend_from_slice(buffer.format(number).as_bytes())
+    push_any_number(text, number)
 }
 
 /// Appends the word, and then the number in decimal digits.

@@ -38,6 +38,7 @@ fn push_line(text: &mut Vec<u8>, line: ReadRecord<'_>) -> Result<(), AllocError>
 }
 
 /// Appends how many records were read, and each of them.
+#[inline(never)]
 fn push_lines(text: &mut Vec<u8>, lines: &ReadRecords) -> Result<(), AllocError>
     ensures { OnOk result (text.new.items ≡ text.old.items ++ lines_text lines.now) }
 {
@@ -91,6 +92,7 @@ fn push_isr(text: &mut Vec<u8>, isr: &NodeSet, version: u32) -> Result<(), Alloc
 }
 
 /// Appends the controller's record.
+#[inline(never)]
 fn push_record(text: &mut Vec<u8>, controller: &LeaderAndIsr) -> Result<(), AllocError>
     ensures { OnOk result
         (text.new.items ≡ text.old.items ++ record_text (record_of controller.now)) }
@@ -102,6 +104,7 @@ fn push_record(text: &mut Vec<u8>, controller: &LeaderAndIsr) -> Result<(), Allo
 }
 
 /// Appends what an adoption of the controller's record answers.
+#[inline(never)]
 fn push_role(text: &mut Vec<u8>, node: NodeId, role: &Role) -> Result<(), AllocError>
     ensures { OnOk result
         (text.new.items ≡ text.old.items ++ reply_text node None (role_reply (Ok role.now))) }
@@ -155,6 +158,7 @@ fn push_end(text: &mut Vec<u8>, end: Option<EpochEnd>) -> Result<(), AllocError>
 }
 
 /// Appends that the message of this number was sent, and what the message says.
+#[inline(never)]
 fn push_sent(text: &mut Vec<u8>, node: NodeId, number: u64, said: &Said) -> Result<(), AllocError>
     ensures { OnOk result
         (text.new.items ≡ text.old.items ++ reply_text node (Some number) (said_reply said.now)) }
@@ -186,6 +190,7 @@ fn push_sent(text: &mut Vec<u8>, node: NodeId, number: u64, said: &Said) -> Resu
 }
 
 /// Appends a node's life, its log's end and its high watermark.
+#[inline(never)]
 fn push_life(
     text: &mut Vec<u8>,
     life: u64,
@@ -200,6 +205,7 @@ fn push_life(
 }
 
 /// Appends the state that this node shows.
+#[inline(never)]
 fn push_shown(text: &mut Vec<u8>, node: NodeId, shown: &Shown) -> Result<(), AllocError>
     ensures { OnOk result
         (text.new.items ≡ text.old.items ++ reply_text node None (shown_reply shown.now)) }

@@ -8,6 +8,9 @@ ghost use Rattle.kp_script.specs.Read.{Lacks, BeginsWithNoDigit, SpellsNoNumber}
 
 use memchr::memchr;
 
+/// A number of so many digits, and any with one more, is below 2^64.
+const FEW_DIGITS: usize = 18;
+
 /// What follows this text, which the bytes begin with.
 pub fn after<'a>(text: &[u8], bytes: &'a [u8]) -> Option<&'a [u8]>
     ensures found { IfSome result (λ rest. bytes.now ≡ text.now ++ rest.now) }
@@ -17,6 +20,7 @@ pub fn after<'a>(text: &[u8], bytes: &'a [u8]) -> Option<&'a [u8]>
 }
 
 /// What stands before and after the first of these bytes.
+#[inline(always)]
 pub fn split_first_at(separator: u8, bytes: &[u8]) -> Option<(&[u8], &[u8])>
     ensures found { IfSome result (λ parts. (bytes.now ≡ parts.0.now ++ separator ∷ parts.1.now)
         × Lacks separator parts.0.now) }
@@ -55,9 +59,9 @@ fn number_until(bytes: &[u8], digits: usize, value: u64) -> Option<(u64, &[u8])>
     Some((value, rest))
 }
 
-/// The number in front of these bytes, and what follows its digits.
-#[inline(always)]
-fn leading_number(bytes: &[u8]) -> Option<(u64, &[u8])>
+/// The number in front of these bytes, and what follows its digits, with a test of each step.
+#[inline(never)]
+fn long_number(bytes: &[u8]) -> Option<(u64, &[u8])>
     ensures found { IfSome result
         (λ (n, rest). (bytes.now ≡ decimal n ++ rest.now) × BeginsWithNoDigit rest.now
         × (n < 2 ^ 64)) }
@@ -77,6 +81,27 @@ fn leading_number(bytes: &[u8]) -> Option<(u64, &[u8])>
         value = next;
     }
     number_until(bytes, bytes.len(), value)
+}
+
+/// The number in front of these bytes, and what follows its digits.
+#[inline(always)]
+fn leading_number(bytes: &[u8]) -> Option<(u64, &[u8])>
+    ensures found { IfSome result
+        (λ (n, rest). (bytes.now ≡ decimal n ++ rest.now) × BeginsWithNoDigit rest.now
+        × (n < 2 ^ 64)) }
+    ensures none { IfNone result (SpellsNoNumber bytes.now) }
+{
+    let most = bytes.len().min(FEW_DIGITS);
+    let mut value: u64 = 0;
+    let mut digits = 0;
+    while digits < most && b'0' <= bytes[digits] && bytes[digits] <= b'9' {
+        value = 10 * value + u64::from(bytes[digits] - b'0');
+        digits += 1;
+    }
+    if digits == FEW_DIGITS {
+        return long_number(bytes);
+    }
+    number_until(bytes, digits, value)
 }
 
 /// The number below the limit that the whole of these bytes spell.

@@ -1,10 +1,15 @@
-use Rattle.std.proofs.Common.{◌≡◌, ◌<◌, ◌^◌, take}
+use Rattle.std.proofs.Common.{◌≡◌, ◌<◌, ◌≤◌, ◌-◌, ◌^◌, length, min, take}
 use Rattle.std.specs.Str.Parse.{AllDigits, digits_value}
 use Rattle.kp_script.proofs.words.leading_number.Given as goal
 
-abbrev pub invariant-loop-i : goal.invariant-loop-i
-invariant-loop-i l = record {
-  digits : AllDigits 10 (take l.i l.bytes);
-  value : l.value ≡ digits_value 10 (take l.i l.bytes);
-  fits : l.value < 2 ^ 64;
+abbrev pub invariant-loop-digits : goal.invariant-loop-digits
+invariant-loop-digits l = record {
+  within : l.digits ≤ l.most;
+  most : l.most ≡ min (length l.bytes) 18;
+  digits : AllDigits 10 (take l.digits l.bytes);
+  value : l.value ≡ digits_value 10 (take l.digits l.bytes);
+  fits : l.value < 10 ^ l.digits;
 }
+
+abbrev pub decreases-loop-digits : goal.decreases-loop-digits
+decreases-loop-digits l = l.most - l.digits

@@ -1,6 +1,6 @@
 use Rattle.kp_script.proofs.Options.{none_weaker}
 use Rattle.kp_script.proofs.Verbs.{no_call}
-use Rattle.kp_script.proofs.call.call_of.Goals as goal
+use Rattle.kp_script.proofs.call.any_call.Goals as goal
 
 pub returns-in-Some-clause-none : goal.returns-in-Some-clause-none
 returns-in-Some-clause-none c =
