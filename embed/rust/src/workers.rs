@@ -185,8 +185,11 @@ impl Worker {
     fn take_turn(&mut self) -> Result<(), Error> {
         let mut node = self.cluster.node(self.number)?;
         if self.has_fallen {
-            node.restart()?;
-            self.has_fallen = false;
+            match node.restart() {
+                Err(error) if error.is_memory() => return Err(error),
+                // Refused otherwise, it was started by somebody else, or has no life left.
+                _done => self.has_fallen = false,
+            }
         }
         if node.adopt().is_ok() {
             self.asked = None;
@@ -211,7 +214,8 @@ impl Worker {
         let answer = match node.step(message) {
             Ok(answer) => answer,
             Err(error) => {
-                self.has_fallen = error.is_memory() && node.checkpoint() == Err(Refusal::Down.into());
+                // It has fallen also where something else comes before its next turn, and is refused since it is down.
+                self.has_fallen |= error.is_memory() && node.checkpoint() == Err(Refusal::Down.into());
                 self.asked = None;
                 return Err(error);
             }

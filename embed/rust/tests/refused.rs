@@ -224,3 +224,39 @@ fn workers_go_on_after_refusals() {
         assert_eq!(HELD.load(Ordering::SeqCst), 0, "all memory came back");
     }
 }
+
+// Waits until it holds, for ten seconds at most.
+fn comes(mut holds: impl FnMut() -> bool) -> bool {
+    (0..10_000).any(|_| {
+        std::thread::sleep(Duration::from_millis(1));
+        holds()
+    })
+}
+
+#[test]
+fn a_fallen_node_starts_again_whatever_comes_before_its_turn() {
+    let _alone = ONE_AT_A_TIME.lock().unwrap_or_else(|poisoned| poisoned.into_inner());
+    let cluster = Cluster::open(2, Limits::default()).expect("there is room");
+    let node = |number| cluster.node(number).expect("it is there");
+    let mut pass = cluster.pass().expect("there is room");
+    pass.elect(0).expect("it is elected");
+    let workers = Workers::start(&cluster, Duration::from_secs(3_600)).expect("there is room");
+    // Their first turns are over: node 1 has asked, and taken the answer.
+    assert!(comes(|| pass.record().is_ok_and(|record| record.has_in_sync(1)) && node(1).ask().is_ok()));
+    std::thread::sleep(Duration::from_millis(50));
+    node(0).produce(&mut pass, ONE_RECORD).expect("it leads");
+    let answered = || {
+        let request = node(1).ask().expect("it follows");
+        node(0).step(request).expect("it leads").expect("an answer")
+    };
+    let (first, second) = (answered(), answered());
+    GROWTHS.store(0, Ordering::SeqCst);
+    EVERY.store(1, Ordering::SeqCst);
+    workers.post(first);
+    let has_fallen = comes(|| node(1).checkpoint() == Err(Refusal::Down.into()));
+    EVERY.store(u64::MAX, Ordering::SeqCst);
+    assert!(has_fallen, "memory was refused as it took the batch");
+    workers.post(second);
+    workers.turn(1);
+    assert!(comes(|| node(1).checkpoint().is_ok()), "it is up again");
+}
