@@ -240,11 +240,15 @@ fn a_fallen_node_starts_again_whatever_comes_before_its_turn() {
     let node = |number| cluster.node(number).expect("it is there");
     let mut pass = cluster.pass().expect("there is room");
     pass.elect(0).expect("it is elected");
-    let workers = Workers::start(&cluster, Duration::from_secs(3_600)).expect("there is room");
-    // Their first turns are over: node 1 has asked, and taken the answer.
-    assert!(comes(|| pass.record().is_ok_and(|record| record.has_in_sync(1)) && node(1).ask().is_ok()));
-    std::thread::sleep(Duration::from_millis(50));
+    node(0).adopt().expect("it leads");
     node(0).produce(&mut pass, ONE_RECORD).expect("it leads");
+    let workers = Workers::start(&cluster, Duration::from_secs(3_600)).expect("there is room");
+    // Node 1 has asked at its first turn, and taken the answer, so no message is under way.
+    assert!(comes(|| node(1).segments().is_ok_and(|mut segments| segments.next().is_some())));
+    // So many that their lists grow as node 1 takes them.
+    for _ in 0..20 {
+        node(0).produce(&mut pass, ONE_RECORD).expect("it leads");
+    }
     let answered = || {
         let request = node(1).ask().expect("it follows");
         node(0).step(request).expect("it leads").expect("an answer")
