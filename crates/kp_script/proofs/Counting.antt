@@ -12,7 +12,8 @@ use Rattle.kp_replica.specs.Acts.{answer_reply}
 use Rattle.kp_replica.specs.declared.act.Answer.{Answer}
 use Rattle.kp_replica.specs.declared.act.Answer.TheVariants.{Adopted, Appended}
 use Rattle.kp_replica.specs.declared.adopting.Role.TheVariants.{Leads, Follows}
-use Rattle.kp_world.specs.Answers.{outcome_of}
+use Rattle.kp_replica.specs.declared.producing.Receipt.{Receipt}
+use Rattle.kp_world.specs.Answers.{appended, outcome_of}
 use Rattle.kp_world.specs.declared.event.EventAnswer.{EventAnswer}
 use Rattle.kp_world.specs.declared.event.EventAnswer.TheVariants.{Changed, Sent, Answered}
 use Rattle.kp_script.specs.Transcript.{is_refusal, refusals_in}
@@ -33,6 +34,11 @@ refusal_told (Ok (Changed controller)) = refl
 refusal_told (Ok (Sent number said)) = message_told said
 refusal_told (Ok (Answered answer)) = answer_told answer
 refusal_told (Err refusal) = refl
+
+-- what is told of a receipt is refused where it is
+pub receipt_refused : (r : Result Receipt Refusal) → is_err r ≡ is_err (appended r)
+receipt_refused (Ok receipt) = refl
+receipt_refused (Err refusal) = refl
 
 -- a flag as a number
 flag_number : (b : Bool) → bool_byte b ≡ 0 + cond b 1 0

@@ -6,7 +6,9 @@ ghost use Rattle.kp_types.specs.declared.refusal.Refusal.TheVariants.{Memory, To
 ghost use Rattle.kp_batch.specs.Reading.{IsFirstFault};
 ghost use Rattle.kp_record.specs.Made.{record_made};
 ghost use Rattle.kp_record.specs.Record.{records_spelling};
+ghost use Rattle.kp_replica.specs.declared.act.Act.TheVariants.{Produce};
 ghost use Rattle.kp_world.specs.Events.{IsAmong};
+ghost use Rattle.kp_world.specs.declared.event.Event.TheVariants.{Acts};
 ghost use Rattle.kp_script.specs.Call.{Append, Raw, IsCall, IsSender, pieces};
 ghost use Rattle.kp_script.specs.Hex.{bytes_of};
 ghost use Rattle.kp_script.specs.Told.{plain_record, Tells};
@@ -42,6 +44,7 @@ fn part_of(time: u64, value: &[u8]) -> Parts<'_>
 
 /// Puts a record for each piece between the commas in place of those in `parts`: it has this time in milliseconds, and
 /// the piece as its value. Takes time proportional to the bytes, and fails where memory runs out.
+#[inline(always)]
 fn put_parts<'a>(parts: &mut Vec<Parts<'a>>, time: u64, values: &'a [u8]) -> Result<(), AllocError>
     ensures { OnOk result (map record_made parts.new.items
         ≡ map (plain_record time) (pieces values.now)) }
@@ -87,33 +90,29 @@ fn too_large() -> Handed
     Handed::raw(Bytes::from_static(&LARGE_FRONT))
 }
 
-/// A batch with a record for each piece between the commas, each at this time in milliseconds, handed to the node.
+/// A batch with a record for each piece between the commas, each at this time in milliseconds, to be handed to a node.
 /// What it says of its producer and its kind need not agree, and it has any size: a node refuses what doesn't agree, and
 /// what is above its own limit. Takes time proportional to the bytes, and memory to those of a batch that a node may take;
 /// where they are too many for one, none, as then only bytes with the same fault are handed in. Is refused only where memory runs
 /// out.
-fn append_event<'a>(
+#[inline(always)]
+pub(crate) fn batch_of<'a>(
     speller: &mut Speller,
     parts: &mut Vec<Parts<'a>>,
-    node: NodeId,
     time: u64,
     sender: Sender,
     transactional: bool,
     values: &'a [u8],
-) -> Result<Event, Refusal>
+) -> Result<Handed, Refusal>
     requires early { time < 2 ^ 62 }
     requires sender { IsSender (seen_sender sender) }
     requires short { length values.now ≤ 2100000 }
-    ensures told { IfOk result (Tells largest_batch
-        (Append node time (seen_sender sender) transactional (pieces values.now))) }
-    ensures node { IfOk result (λ event. (count : ℕ) → node < count → IsAmong count event) }
+    ensures told { IfOk result (λ bytes. (node : ℕ) → Tells largest_batch
+        (Append node time (seen_sender sender) transactional (pieces values.now)) (Acts node (Produce bytes))) }
     ensures only { IfErr result (λ refusal. refusal ≡ Memory) }
 {
     if are_too_many(values) {
-        return Ok(Event::Acts {
-            node,
-            act: Act::Produce { bytes: too_large() },
-        });
+        return Ok(too_large());
     }
     let fields = Fields {
         base_timestamp: time,
@@ -124,11 +123,7 @@ fn append_event<'a>(
         control: false,
     };
     put_parts(parts, time, values)?;
-    let bytes = speller.spell(&fields, parts.as_slice())?;
-    Ok(Event::Acts {
-        node,
-        act: Act::Produce { bytes },
-    })
+    speller.spell(&fields, parts.as_slice())
 }
 
 /// The bytes that the digits spell, handed to the node. Takes time and memory proportional to their number, and is
@@ -171,7 +166,13 @@ pub(crate) fn event_of<'a>(
             time,
             sender,
             values,
-        } => append_event(speller, parts, node, time, sender, transactional, values),
+        } => {
+            let bytes = batch_of(speller, parts, time, sender, transactional, values)?;
+            Ok(Event::Acts {
+                node,
+                act: Act::Produce { bytes },
+            })
+        }
         Call::Raw { node, digits } => raw_event(alloc, node, digits),
         Call::Acts { node, act } => Ok(Event::Acts {
             node,

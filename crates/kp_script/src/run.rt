@@ -11,11 +11,11 @@ ghost use Rattle.kp_script.specs.Script.{IsFaultAt};
 ghost use Rattle.kp_script.specs.Seen.{seen_call, seen_header, seen_line};
 ghost use Rattle.kp_script.specs.Transcript.{IsRunRefusal, Writes, WritesFirst, WritesFront};
 
-use crate::call::Header;
+use crate::call::{Call, Header};
 use crate::ended::Ended;
-use crate::events::event_of;
+use crate::events::{batch_of, event_of};
 use crate::script::{Line, parse};
-use crate::trace::push_event;
+use crate::trace::{push_append, push_event};
 use kp_batch::{Parts, Speller};
 use kp_types::{Counted, Limits, MAX_BATCH, NodeId, Refusal};
 use kp_world::World;
@@ -62,9 +62,9 @@ pub(crate) fn limits_of(header: &Header) -> Limits
     }
 }
 
-/// Makes the line's event happen in the world, and puts its line of the trace behind the text. Answers 1 where it was refused, and
-/// else 0. F33.
-pub(crate) fn play_line<'a>(
+/// [`play_line`] of any event, also one whose answer takes much room.
+#[inline(never)]
+fn play_any<'a>(
     alloc: Global,
     line: &Line<'a>,
     count: NodeId,
@@ -86,6 +86,47 @@ pub(crate) fn play_line<'a>(
     };
     push_event(&mut work.text, line, &outcome)?;
     Ok(u64::from(outcome.is_err()))
+}
+
+/// Makes the line's event happen in the world, and puts its line of the trace behind the text. Answers 1 where it was refused, and
+/// else 0. F33. Most lines are appends: those are told first, and no room is cleared for what other events answer.
+pub(crate) fn play_line<'a>(
+    alloc: Global,
+    line: &Line<'a>,
+    count: NodeId,
+    world: &mut World,
+    work: &mut Work,
+    parts: &mut Vec<Parts<'a>>,
+) -> Result<u64, Refusal>
+    requires call { IsCall count (seen_call line.now.call) }
+    requires nodes { length world.old.nodes ≡ count }
+    ensures played { IfOk result (λ refused.
+        PlaysOne (seen_line line.now) world.old world.new refused work.old.text.items work.new.text.items) }
+    ensures nodes { length world.new.nodes ≡ count }
+    ensures few { IfOk result (λ refused. refused ≤ 1) }
+    ensures only { IfErr result (λ refusal. refusal ≡ WantOfMemory) }
+{
+    let Call::Append {
+        node,
+        transactional,
+        time,
+        sender,
+        values,
+    } = line.call
+    else {
+        return play_any(alloc, line, count, world, work, parts);
+    };
+    let bytes = batch_of(
+        &mut work.speller,
+        parts,
+        time,
+        sender,
+        transactional,
+        values,
+    )?;
+    let receipt = world.produce(node, bytes);
+    push_append(&mut work.text, line.number, node, &receipt)?;
+    Ok(u64::from(receipt.is_err()))
 }
 
 /// Plays lines from the first one on until their trace has so many bytes that it is written, and writes it. F33, and then nothing is

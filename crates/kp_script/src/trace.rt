@@ -8,7 +8,7 @@ ghost use Rattle.kp_model.specs.Set.{leader_of, members_of, record_of};
 ghost use Rattle.kp_replica.specs.Acts.{answer_reply};
 ghost use Rattle.kp_replica.specs.Replies.{role_reply, receipt_reply, shown_reply};
 ghost use Rattle.kp_visible.specs.Lines.{line_of};
-ghost use Rattle.kp_world.specs.Answers.{number_in, outcome_of, told_reply};
+ghost use Rattle.kp_world.specs.Answers.{appended, number_in, outcome_of, told_reply};
 ghost use Rattle.kp_script.specs.Call.{node_of};
 ghost use Rattle.kp_script.specs.Seen.{seen_call};
 ghost use Rattle.kp_script.specs.Trace.{end_text, epoch_text, isr_text, leader_text, life_text, line_text, lines_text, nodes_text, record_text, reply_text, outcome_text, trace_line, trace_text};
@@ -282,6 +282,40 @@ fn push_outcome(
         Ok(told) => push_told(text, node, told),
         Err(refusal) => push_refusal(text, refusal),
     }
+}
+
+/// Appends what was answered to bytes that were handed to this node.
+#[inline(always)]
+fn push_appended(
+    text: &mut Vec<u8>,
+    node: NodeId,
+    receipt: &Result<Receipt, Refusal>,
+) -> Result<(), AllocError>
+    ensures { OnOk result
+        (text.new.items ≡ text.old.items ++ outcome_text node (outcome_of (appended receipt.now))) }
+{
+    match receipt {
+        Ok(receipt) => push_receipt(text, node, receipt),
+        Err(refusal) => push_refusal(text, refusal),
+    }
+}
+
+/// Appends an append's line, as [`push_event`] does.
+#[inline(always)]
+pub(crate) fn push_append(
+    text: &mut Vec<u8>,
+    number: u64,
+    node: NodeId,
+    receipt: &Result<Receipt, Refusal>,
+) -> Result<(), AllocError>
+    ensures { OnOk result (text.new.items ≡ text.old.items
+        ++ trace_line number node (outcome_of (appended receipt.now))) }
+{
+    push_number(text, number)?;
+    text.push(b' ')?;
+    push_appended(text, node, receipt)?;
+    text.push(b'\n')?;
+    Ok(())
 }
 
 /// Appends an event's line: the number of the script's line, and what was answered. Takes time proportional to the text that it

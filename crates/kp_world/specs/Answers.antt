@@ -7,8 +7,10 @@ use Rattle.kp_model.specs.Letter.{Letter, letter}
 use Rattle.kp_model.specs.declared.message.Said.{Said}
 use Rattle.kp_model.specs.Set.{record_of}
 use Rattle.kp_replica.specs.Acts.{answer_reply}
+use Rattle.kp_replica.specs.declared.act.Answer.TheVariants.{Appended}
 use Rattle.kp_replica.specs.declared.act.Effect.{Effect}
 use Rattle.kp_replica.specs.declared.act.Effect.TheVariants.{Answers, Sends}
+use Rattle.kp_replica.specs.declared.producing.Receipt.{Receipt}
 use Rattle.kp_world.specs.declared.event.EventAnswer.{EventAnswer}
 use Rattle.kp_world.specs.declared.event.EventAnswer.TheVariants.{Changed, Sent, Answered}
 
@@ -25,6 +27,11 @@ number_in _ = None
 abbrev pub outcome_of : Result EventAnswer Refusal → Outcome
 outcome_of (Ok answer) = record { reply = told_reply answer; number = number_in answer }
 outcome_of (Err refusal) = record { reply = Refused refusal; number = None }
+
+-- what is told of bytes that a client handed in
+abbrev pub appended : Result Receipt Refusal → Result EventAnswer Refusal
+appended (Ok receipt) = Ok (Answered (Appended receipt))
+appended (Err refusal) = Err refusal
 
 -- This is told of a message with this letter, where so many had been sent before.
 abbrev pub TellsOf : (count : ℕ) → Letter → EventAnswer → Type 0

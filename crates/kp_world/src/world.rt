@@ -10,17 +10,20 @@ ghost use Rattle.kp_model.specs.Letter.{Deciding, letter, proposal_of};
 ghost use Rattle.kp_model.specs.Set.{record_of};
 ghost use Rattle.kp_model.specs.Step.{decide_cause, decided_on, decision};
 ghost use Rattle.kp_replica.specs.Acts.{IsAct, letters_in};
-ghost use Rattle.kp_world.specs.Answers.{IsTold, TellsOf};
+ghost use Rattle.kp_replica.specs.declared.act.Act.TheVariants.{Produce as HandsBytes};
+ghost use Rattle.kp_world.specs.Answers.{IsTold, TellsOf, appended};
+ghost use Rattle.kp_world.specs.declared.event.Event.TheVariants.{Acts as EventActs};
 ghost use Rattle.kp_world.specs.Events.{AreEvents, IsAmong, IsEvent};
 ghost use Rattle.kp_world.specs.Plays.{AnswersFirst, IsAnswered, LeadOn, PlaysFirst};
 ghost use Rattle.kp_replica.specs.NumberedNode.{NumberedNode};
 ghost use Rattle.kp_world.specs.Shown.{IsShown, log_of};
 
 use crate::event::{Event, EventAnswer, Stopped, Trace};
+use kp_batch::Handed;
 use kp_control::{decided, elected};
 use kp_log::PartitionLog;
 use kp_model::{LeaderAndIsr, MessageBody, Proposal};
-use kp_replica::{Act, Broker, Effect};
+use kp_replica::{Act, Broker, Effect, Receipt};
 use kp_types::{Limits, NodeId, Refusal};
 use std::alloc::{AllocError, Global};
 use std::collections::VecDeque;
@@ -221,6 +224,20 @@ impl World {
         }
         let outcome = self.nodes[usize::from(node)].act(alloc, &self.controller, act);
         Ok(carry_out(&mut self.messages, outcome))
+    }
+
+    /// A client hands these bytes to the node: what [`World::step`] makes happen of that event, without room for a message, as none is
+    /// sent. The cost is that of `Replica::produce`.
+    #[inline(always)]
+    pub fn produce(&mut self, node: NodeId, bytes: Handed) -> Result<Receipt, Refusal>
+        requires { node < length self.old.nodes }
+        ensures step { (limits : LogLimits) (e : ModelEvent)
+            → IsEvent limits.max_batch (EventActs node (HandsBytes bytes)) e
+            → LeadOn limits self.old (e ∷ []) (appended result ∷ []) self.new }
+        ensures count { length self.new.nodes ≡ length self.old.nodes }
+    {
+        kp_model::epochs_are_elected();
+        self.nodes[usize::from(node)].produce(bytes)
     }
 
     /// Makes the event happen, and tells what it answers: a refused event's refusal, after which others may come. An `Err` gives the

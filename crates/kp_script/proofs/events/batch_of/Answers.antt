@@ -1,5 +1,8 @@
-use Rattle.std.proofs.Common.{◌≡◌, map, refl, ap, ◌∙◌}
-use Rattle.std.proofs.lemmas.Result.{err_from_is_err_and}
+use Rattle.std.proofs.Common.{◌≡◌, ℕ, Option, Some, None, Result, Ok, Err, map, refl, ap, ◌∙◌}
+use Rattle.std.specs.Prelude.{IfOk, IfErr}
+use Rattle.kp_types.specs.Causes.{IsRefusedBy}
+use Rattle.kp_types.specs.declared.refusal.Refusal.{Refusal}
+use Rattle.kp_types.specs.declared.refusal.Refusal.TheVariants.{Memory}
 use Rattle.kp_record.specs.Made.{record_made}
 use Rattle.kp_model.specs.Event.{Acts, Produce}
 use Rattle.kp_script.specs.Call.{pieces}
@@ -10,18 +13,27 @@ use Rattle.kp_script.proofs.Values.{some_piece}
 use Rattle.kp_script.proofs.Sizes.{line_size}
 use Rattle.kp_script.proofs.Appending.{no_cause}
 use Rattle.kp_script.proofs.Offers.{large_offer, offers}
-use Rattle.kp_script.proofs.events.append_event.Goals as goal
+use Rattle.kp_script.proofs.events.batch_of.Goals as goal
 
-pub returns-in_err-bytes-clause-only : goal.returns-in_err-bytes-clause-only
-returns-in_err-bytes-clause-only c =
-    let p = err_from_is_err_and c.from_residual-in_err-bytes.result c.from_residual-in_err-bytes.ensures.1 in
+-- what has no cause is refused for want of memory alone
+lacks : {A : Type 0} (cause : Option Refusal) (r : Result A Refusal) → cause ≡ None → IsRefusedBy cause r → IfErr r (λ refusal. refusal ≡ Memory)
+lacks None (Ok x) is h = tt
+lacks None (Err refusal) is h = h
+lacks (Some other) r is h = absurd cc
+
+-- what each value has, the one that is there has
+each : {A : Type 0} {P Q : A → Type 0} (r : Result A Refusal) → ((x : A) → P x → Q x) → IfOk r P → IfOk r Q
+each (Ok x) f h = f x h
+each (Err refusal) f h = tt
+
+pub returns-clause-only : goal.returns-clause-only
+returns-clause-only c =
     let time = c.args.time in
     let values = c.args.values.now in
     let records : map record_made c.as_slice.result.now ≡ map (plain_record time) (pieces values) = ap (map record_made) c.as_slice.ensures.value ∙ c.in_ok-put_parts.ensures in
     let none = no_cause time (seen_sender c.args.sender) c.args.transactional (pieces values) c.as_slice.result.now records (some_piece values) c.requires.early (line_size time values c.requires.short) in
-    let refused = rw (c.producer.ensures, c.epoch.ensures, c.sequence.ensures) at c.in_err-bytes.ensures.refused in
-    let memory = rw none at refused in
-    rw (p.1, p.2) memory
+    let refused = rw (c.producer.ensures, c.epoch.ensures, c.sequence.ensures) at c.spell.ensures.refused in
+    lacks _ c.spell.result none refused
 
 pub returns-clause-told : goal.returns-clause-told
 returns-clause-told c =
@@ -31,17 +43,18 @@ returns-clause-told c =
     let values = pieces c.args.values.now in
     let parts = c.as_slice.result.now in
     let records : map record_made parts ≡ map (plain_record time) values = ap (map record_made) c.as_slice.ensures.value ∙ c.in_ok-put_parts.ensures in
-    let spelled = rw (c.producer.ensures, c.epoch.ensures, c.sequence.ensures) at (c.in_ok-bytes.ensures.spelled largest_batch) in
+    let spelled = rw (c.producer.ensures, c.epoch.ensures, c.sequence.ensures) at c.spell.ensures.spelled in
     let offer = offer_of largest_batch time sender transactional values in
-    record {
-      e = Acts c.args.node (Produce offer);
+    each c.spell.result
+    (λ bytes is node. record {
+      e = Acts node (Produce offer);
       told = refl;
-      is = (Produce offer, (offer, offers largest_batch c.in_ok-bytes.bytes time sender transactional values parts c.requires.sender records spelled, refl), refl);
-    }
+      is = (Produce offer, (offer, offers largest_batch bytes time sender transactional values parts c.requires.sender records (is largest_batch), refl), refl);
+    }) spelled
 
 -- without the batch
 pub returns-then-are_too_many-clause-told : goal.returns-then-are_too_many-clause-told
-returns-then-are_too_many-clause-told c =
+returns-then-are_too_many-clause-told c = λ node.
     let time = c.args.time in
     let sender = seen_sender c.args.sender in
     let transactional = c.args.transactional in
@@ -49,7 +62,7 @@ returns-then-are_too_many-clause-told c =
     let offer = offer_of largest_batch time sender transactional values in
     let large = large_offer c.too_large.result time sender transactional values c.too_large.ensures (c.are_too_many.ensures c.if-are_too_many.true time) in
     record {
-      e = Acts c.args.node (Produce offer);
+      e = Acts node (Produce offer);
       told = refl;
       is = (Produce offer, (offer, large, refl), refl);
     }
