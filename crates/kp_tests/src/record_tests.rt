@@ -2,7 +2,10 @@
 //! attributes, timestamp delta, offset delta, key, value, number of headers, headers.
 
 use crate::shown::{hex, is, push_bytes, push_record, unhex};
-use kp_record::{HeaderParts, Parts, Place, read_record, record_size, write_record};
+use kp_record::{
+    HeaderParts, Parts, Place, plain_record_size, read_record, record_size, write_plain_record,
+    write_record,
+};
 use kp_types::Refusal;
 use std::alloc::Global;
 
@@ -134,6 +137,38 @@ static WRITTEN: [(Place, Parts<'static>, &str); 8] = [
 fn records_have_the_known_bytes(rt: HostRuntime) {
     for (place, parts, known) in &WRITTEN {
         is(&rt, spelled(rt.alloc(), place, parts), known);
+    }
+}
+
+// The bytes of a plain record of this value as digits, and its size.
+fn plainly_spelled(alloc: Global, value: &[u8]) -> Result<String, Refusal> {
+    let size = plain_record_size(value);
+    let mut out = Vec::new(alloc);
+    out.reserve(size as usize)?;
+    write_plain_record(&mut out, value);
+    let mut text = hex(alloc, &out)?;
+    write!(text, " {size}")?;
+    Ok(text)
+}
+
+// Values, and what is written of a record that has a value alone, at its batch's base timestamp: from 64 bytes on, their number has two
+// groups, and so has the record's length.
+static PLAINLY_WRITTEN: [(&[u8], &str); 3] = [
+    (b"a", "0e00000001026100 8"),
+    (b"", "0c000000010000 7"),
+    (
+        b"0123456789abcdef0123456789abcdef0123456789abcdef0123456789abcdef",
+        "8e0100000001800130313233343536373839616263646566\
+        30313233343536373839616263646566\
+        30313233343536373839616263646566\
+        3031323334353637383961626364656600 73",
+    ),
+];
+
+#[test]
+fn plain_records_have_the_known_bytes(rt: HostRuntime) {
+    for (value, known) in &PLAINLY_WRITTEN {
+        is(&rt, plainly_spelled(rt.alloc(), value), known);
     }
 }
 

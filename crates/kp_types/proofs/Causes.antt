@@ -24,3 +24,8 @@ only_none A (Some refusal) x h = absurd cc
 pub always : {T E P : Type 0} (r : Result T E) → P → OnErr r P
 always (Ok x) p = tt
 always (Err e) p = p
+
+-- a refusal handed on, in place of another result
+pub refused_alike : (A B : Type 0) (o : Option Refusal) (r : Refusal) → IsRefusedBy {A = A} o (Err r) → IsRefusedBy {A = B} o (Err r)
+refused_alike A B (Some s) r h = cc
+refused_alike A B None r h = h
