@@ -6,7 +6,7 @@ use Rattle.std.specs.Str.{is_utf8}
 use Rattle.std.proofs.lemmas.Bool.{ne_eqb, lt-ltb, le-ltb}
 use Rattle.std.proofs.lemmas.List.{length-map}
 use Rattle.kp_record.specs.Record.{Record, record_spelling, records_spelling}
-use Rattle.kp_record.specs.Made.{header_made, record_made}
+use Rattle.kp_record.specs.Made.{header_made, plain_record, record_made}
 use Rattle.kp_record.specs.declared.parts.Parts.{Parts}
 use Rattle.kp_record.specs.declared.parts.HeaderParts.{HeaderParts}
 use Rattle.kp_batch.specs.Batch.{Content, Plain, Produced, Marker, Body, attributes, contents}
@@ -15,7 +15,7 @@ use Rattle.kp_batch.specs.Building.{asked_size, has_text_keys, head_cause, key_c
 use Rattle.kp_batch.specs.Spelling.{spell_cause}
 use Rattle.kp_batch.specs.declared.build.Fields.{Fields}
 use Rattle.kp_script.specs.Call.{Sender}
-use Rattle.kp_script.specs.Told.{plain_record, body_at}
+use Rattle.kp_script.specs.Told.{body_at}
 
 -- the fields that a line asks for
 abbrev pub fields_at : (time : ℕ) → Sender → (transactional : Bool) → Fields

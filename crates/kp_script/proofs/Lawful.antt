@@ -17,7 +17,8 @@ use Rattle.kp_replica.specs.declared.act.PlainAct.TheVariants.{Alter}
 use Rattle.kp_replica.specs.declared.altering.IsrChange.TheVariants.{Join, Leave}
 use Rattle.kp_world.specs.Laws.{IsLawful}
 use Rattle.kp_script.specs.Call.{Sender, IsSender, is_value, is_value_byte}
-use Rattle.kp_script.specs.Told.{body_at, offer_of, plain_record, said_of}
+use Rattle.kp_record.specs.Made.{plain_record}
+use Rattle.kp_script.specs.Told.{body_at, offer_of, said_of}
 use Rattle.kp_script.specs.Transcript.{largest_batch}
 
 is_byte : (x : ℕ) → is_value_byte x ≡ true → x < 256

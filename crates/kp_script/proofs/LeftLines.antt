@@ -1,5 +1,5 @@
 -- The lines that are left of a script's pieces.
-use Rattle.std.proofs.Common.{◌≡◌, ◌∙◌, ℕ, ◌+◌, ◌<◌, ◌≤◌, List, [], ◌∷◌, ◌++◌, refl, sym, ap, subst, arith, rules, tests, length, map, take, drop, drop-drop, slice_index_or, length-drop, length-append, inl, inr, ◌-◌}
+use Rattle.std.proofs.Common.{◌≡◌, ◌∙◌, ℕ, ◌+◌, ◌<◌, ◌≤◌, List, [], ◌∷◌, ◌++◌, refl, sym, ap, subst, arith, length, map, take, drop, drop-drop, slice_index_or, length-drop, length-append, inl, inr, ◌-◌}
 use lib.Seq.{drop-append-le, drop-nil, take-append-le}
 use Rattle.std.proofs.lemmas.Bool.{cases_lt}
 use Rattle.std.specs.declared.vec.Vec.{Vec}

@@ -26,7 +26,8 @@ use Rattle.kp_replica.specs.declared.altering.IsrChange.TheVariants.{Join, Leave
 use Rattle.kp_world.specs.Shown.{Stage, log_of}
 use Rattle.kp_script.specs.Call.{Call, Header, Sender, Elect, Append, Raw, Acts, Deliver}
 use Rattle.kp_script.specs.Ended.{AreLimited, KeepsLimit, limits_in, node_log}
-use Rattle.kp_script.specs.Told.{AreTold, IsTold, body_at, offer_of, plain_record, said_of}
+use Rattle.kp_record.specs.Made.{plain_record}
+use Rattle.kp_script.specs.Told.{AreTold, IsTold, body_at, offer_of, said_of}
 use Rattle.kp_script.specs.Transcript.{largest_batch}
 use Rattle.kp_script.proofs.Lawful.{same_body}
 use Rattle.kp_script.proofs.Logs.{shown_logs}

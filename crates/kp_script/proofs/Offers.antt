@@ -5,7 +5,7 @@ use Rattle.std.specs.Prelude.{if◌then◌else◌}
 use Rattle.std.specs.Option.{ok_or, option_map}
 use Rattle.kp_types.specs.declared.refusal.Refusal.TheVariants.{TooLarge, BadProducerFields}
 use Rattle.kp_record.specs.Record.{Record, records_spelling}
-use Rattle.kp_record.specs.Made.{record_made}
+use Rattle.kp_record.specs.Made.{plain_record, record_made}
 use Rattle.kp_record.specs.declared.parts.Parts.{Parts}
 use Rattle.kp_batch.specs.Batch.{Content, Plain, Produced, Written}
 use Rattle.kp_batch.specs.Building.{IsMade, has_agreed}
@@ -14,7 +14,7 @@ use Rattle.kp_batch.specs.Reading.{IsFirstFault}
 use Rattle.kp_batch.specs.Spelling.{IsSpelled}
 use Rattle.kp_replica.specs.Replies.{IsOffer}
 use Rattle.kp_script.specs.Call.{Sender, IsSender}
-use Rattle.kp_script.specs.Told.{plain_record, said_of, body_at, offer_of}
+use Rattle.kp_script.specs.Told.{said_of, body_at, offer_of}
 use Rattle.kp_script.specs.Transcript.{largest_batch}
 use Rattle.kp_script.proofs.Appending.{fields_at, plain_is, produced_is, body_is}
 

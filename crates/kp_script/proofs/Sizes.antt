@@ -6,7 +6,7 @@ use Rattle.std.specs.List.{count_by}
 use Rattle.kp_record.specs.Varint.{varint, varint_within, sized, sized_or_null}
 use Rattle.kp_record.specs.Record.{record_fields, record_spelling, records_spelling}
 use Rattle.kp_script.specs.Call.{values_text, pieces}
-use Rattle.kp_script.specs.Told.{plain_record}
+use Rattle.kp_record.specs.Made.{plain_record}
 use Rattle.kp_script.proofs.Values.{pieces_back, some_piece}
 use Rattle.kp_record.proofs.GroupCounts.{varint_short}
 

@@ -1,11 +1,11 @@
 -- Laws of values and the commas between them: a text has one list of values, and values have one text.
 use Rattle.std.proofs.Common.{◌≡◌, ℕ, ◌<◌, Bool, true, false, not, cond, ◌&&◌, eqb, leb, List, [], ◌∷◌, ◌++◌, All, refl, sym, ap, ◌∙◌, arith, length}
-use Rattle.std.proofs.lemmas.Bool.{and_parts, not-true, le-leb, ne_eqb}
+use Rattle.std.proofs.lemmas.Bool.{and_parts, eqb-false, not-true, le-leb, ne_eqb}
 use Rattle.std.proofs.lemmas.List.Elements.{All-from_recursion}
 use Rattle.std.proofs.lemmas.List.Splits.{slice_split_none, slice_split_at, length-slice_split, join_with_byte-slice_split}
 use Rattle.std.specs.List.{list_all, onto_first, AllByRecursion}
 use Rattle.kp_script.specs.Call.{is_value_byte, is_value, values_text, pieces}
-use Rattle.kp_script.specs.Read.{Lacks}
+use Rattle.kp_script.specs.Read.{Lacks, goes_on}
 
 lacks_commas : (value : List ℕ) → list_all is_value_byte value ≡ true → AllByRecursion (λ x. eqb x 44 ≡ false) value
 lacks_commas [] all = tt
@@ -39,11 +39,6 @@ pub some_piece : (text : List ℕ) → 0 < length (pieces text)
 some_piece text = omega (arith, length-slice_split (λ (x : ℕ). eqb x 44) text)
 
 -- ---- values read from the front
-
--- Whether the bytes go on with values, where a value has begun or not.
-abbrev pub goes_on : (begun : Bool) → List ℕ → Bool
-goes_on begun [] = begun
-goes_on begun (x ∷ xs) = cond (eqb x 44) (begun && goes_on false xs) (is_value_byte x && goes_on true xs)
 
 -- Whether pieces are values, where the first one has begun.
 abbrev are_begun : List (List ℕ) → Bool
@@ -80,11 +75,32 @@ values_go_on (x ∷ xs) =
 pub values_from : (xs : List ℕ) → goes_on false xs ≡ list_all is_value (pieces xs)
 values_from xs = (values_go_on xs).1
 
+value_byte : (begun : Bool) (x : ℕ) (rest : List ℕ) → is_value_byte x ≡ true → goes_on begun (x ∷ rest) ≡ goes_on true rest
+value_byte begun x rest is =
+    let parts = and_parts (leb 33 x && leb x 126) (not (eqb x 44)) is in
+    ap (λ (comma : Bool). cond comma (begun && goes_on false rest) (is_value_byte x && goes_on true rest)) (not-true (eqb x 44) parts.1)
+    ∙ ap (λ (lawful : Bool). lawful && goes_on true rest) is
+
+-- bytes of a value in front
+pub gone_on : (begun : Bool) (front rest : List ℕ) → list_all is_value_byte front ≡ true → 0 < length front → goes_on begun (front ++ rest) ≡ goes_on true rest
+gone_on begun [] rest all some = absurd (omega (arith, some))
+gone_on begun (x ∷ []) rest all some = value_byte begun x rest (and_parts (is_value_byte x) true all).0
+gone_on begun (x ∷ y ∷ ys) rest all some =
+    let parts = and_parts (is_value_byte x) (list_all is_value_byte (y ∷ ys)) all in
+    value_byte begun x (y ∷ ys ++ rest) parts.0 ∙ gone_on true (y ∷ ys) rest parts.1 (omega arith)
+
 -- ---- pieces from the front
 
 no_comma_in : (text : List ℕ) → Lacks 44 text → AllByRecursion (λ x. eqb x 44 ≡ false) text
 no_comma_in [] lacks = tt
 no_comma_in (x ∷ xs) lacks = (ne_eqb x 44 lacks.0, no_comma_in xs lacks.1)
+
+-- what has another byte at each place lacks the byte
+pub lacks_from : (byte : ℕ) (xs : List ℕ) → list_all (λ x. not (eqb x byte)) xs ≡ true → Lacks byte xs
+lacks_from byte [] all = tt
+lacks_from byte (x ∷ xs) all =
+    let parts = and_parts (not (eqb x byte)) (list_all (λ x. not (eqb x byte)) xs) all in
+    (eqb-false x byte (not-true (eqb x byte) parts.0), lacks_from byte xs parts.1)
 
 -- a text without a comma is one piece
 pub one_piece : (text : List ℕ) → Lacks 44 text → pieces text ≡ text ∷ []

@@ -4,6 +4,7 @@ use Rattle.std.specs.Option.{ok_or, option_map}
 use Rattle.kp_types.specs.declared.refusal.Refusal.{Refusal}
 use Rattle.kp_types.specs.declared.refusal.Refusal.TheVariants.{TooLarge, BadProducerFields}
 use Rattle.kp_record.specs.Record.{Record, records_spelling}
+use Rattle.kp_record.specs.Made.{plain_record}
 use Rattle.kp_batch.specs.Batch.{Content, Plain, Produced, Body}
 use Rattle.kp_model.specs.Event as model
 use Rattle.kp_model.specs.Event.{Event, Produce}
@@ -12,10 +13,6 @@ use Rattle.kp_replica.specs.Replies.{IsOffer}
 use Rattle.kp_world.specs.Events.{IsEvent}
 use Rattle.kp_world.specs.declared.event.Event.{Event as CodeEvent}
 use Rattle.kp_script.specs.Call.{Call, Sender, Elect, Append, Raw, Acts, Deliver}
-
--- a record that has a value alone
-abbrev pub plain_record : (time : ℕ) → List ℕ → Record
-plain_record time value = record { time = time; key = None; value = Some value; headers = [] }
 
 -- The content that a producer's fields and the kind of a batch say, where they agree: a transaction's batch has a
 -- producer (KIP-98).

@@ -4,20 +4,20 @@ ghost use Rattle.std.specs.Prelude.{◌≡◌, ℕ, ◌+◌, ◌<◌, ◌≤◌,
 ghost use Rattle.std.specs.List.{count_by};
 ghost use Rattle.kp_types.specs.declared.refusal.Refusal.TheVariants.{Memory, TooLarge};
 ghost use Rattle.kp_batch.specs.Reading.{IsFirstFault};
-ghost use Rattle.kp_record.specs.Made.{record_made};
+ghost use Rattle.kp_record.specs.Made.{plain_record, record_made};
 ghost use Rattle.kp_record.specs.Record.{records_spelling};
 ghost use Rattle.kp_replica.specs.declared.act.Act.TheVariants.{Produce};
 ghost use Rattle.kp_world.specs.Events.{IsAmong};
 ghost use Rattle.kp_world.specs.declared.event.Event.TheVariants.{Acts};
 ghost use Rattle.kp_script.specs.Call.{Append, Raw, IsCall, IsSender, pieces};
 ghost use Rattle.kp_script.specs.Hex.{bytes_of};
-ghost use Rattle.kp_script.specs.Told.{plain_record, Tells};
+ghost use Rattle.kp_script.specs.Told.{Tells};
 ghost use Rattle.kp_script.specs.Transcript.{largest_batch};
 ghost use Rattle.kp_script.specs.Seen.{seen_call, seen_sender};
 
 use crate::call::{Call, Sender};
 use crate::digits::bytes_of;
-use crate::words::split_first_at;
+use crate::words::{do_lack, split_first_at};
 use bytes::Bytes;
 use kp_batch::{Fields, Handed, Parts, Speller};
 use kp_replica::Act;
@@ -43,13 +43,17 @@ fn part_of(time: u64, value: &[u8]) -> Parts<'_>
 }
 
 /// Puts a record for each piece between the commas in place of those in `parts`: it has this time in milliseconds, and
-/// the piece as its value. Takes time proportional to the bytes, and fails where memory runs out.
+/// the piece as its value. Most batches have one. Takes time proportional to the bytes, and fails where memory runs out.
 #[inline(always)]
 fn put_parts<'a>(parts: &mut Vec<Parts<'a>>, time: u64, values: &'a [u8]) -> Result<(), AllocError>
     ensures { OnOk result (map record_made parts.new.items
         ≡ map (plain_record time) (pieces values.now)) }
 {
     parts.clear();
+    if do_lack(b',', values) {
+        parts.push(part_of(time, values))?;
+        return Ok(());
+    }
     let mut rest = values;
     while let Some((value, after)) = split_first_at(b',', rest) {
         parts.push(part_of(time, value))?;

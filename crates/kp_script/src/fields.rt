@@ -6,8 +6,8 @@ ghost use Rattle.std.specs.Fmt.{decimal};
 ghost use Rattle.std.specs.List.{list_all};
 ghost use Rattle.kp_marker.specs.Marker.{commits};
 ghost use Rattle.kp_marker.specs.declared.parts.HandedMarker.{HandedMarker as SpelledMarker};
-ghost use Rattle.kp_script.specs.Call.{Sender as SpelledSender, is_value, kind_text, ending_text, pieces, IsSender};
-ghost use Rattle.kp_script.specs.Read.{sender_front, marker_text, AreFields, AreNoFields};
+ghost use Rattle.kp_script.specs.Call.{Sender as SpelledSender, is_value, is_value_byte, kind_text, ending_text, pieces, IsSender};
+ghost use Rattle.kp_script.specs.Read.{sender_front, marker_text, goes_on, AreFields, AreNoFields};
 ghost use Rattle.kp_script.specs.Seen.{seen_sender, seen_call};
 
 use crate::call::{Call, GREATEST_TIME, Sender};
@@ -89,25 +89,62 @@ pub fn two_nodes_of(fields: &[u8], count: NodeId) -> Option<(NodeId, NodeId)>
     }
 }
 
-/// Whether each piece between the commas can be the value of a record. Takes time proportional to the bytes.
-fn are_values(values: &[u8]) -> bool
-    ensures { result ≡ list_all is_value (pieces values.now) }
+/// Whether it is a visible ASCII character other than the comma.
+#[inline(always)]
+fn is_value_byte(byte: u8) -> bool
+    ensures { result ≡ is_value_byte byte }
 {
-    let mut begun = false;
-    for byte in values {
+    (byte >= 33) & (byte <= 126) & (byte != b',')
+}
+
+/// Whether all eight are such bytes. None of them is asked for by itself, so that a processor looks at all of them at once.
+#[inline(always)]
+fn are_value_bytes(bytes: &[u8; 8]) -> bool
+    ensures { result ≡ list_all is_value_byte bytes.now }
+{
+    let mut are = true;
+    for byte in bytes {
+        are &= is_value_byte(*byte);
+    }
+    are
+}
+
+/// Whether a value, which has begun or not, can go on with these bytes, and others follow it behind commas.
+#[inline(always)]
+fn go_on(begun: bool, bytes: &[u8]) -> bool
+    ensures { result ≡ goes_on begun bytes.now }
+{
+    let mut begun = begun;
+    for byte in bytes {
         if *byte == b',' {
             if !begun {
                 return false;
             }
             begun = false;
         } else {
-            if *byte < 33 || *byte > 126 {
+            if !is_value_byte(*byte) {
                 return false;
             }
             begun = true;
         }
     }
     begun
+}
+
+/// Whether each piece between the commas can be the value of a record. Takes time proportional to the bytes.
+fn are_values(values: &[u8]) -> bool
+    ensures { result ≡ list_all is_value (pieces values.now) }
+{
+    let mut begun = false;
+    let mut rest = values;
+    while let Some((eight, after)) = rest.split_first_chunk::<8>() {
+        if !are_value_bytes(eight) {
+            break;
+        }
+        begun = true;
+        rest = after;
+    }
+    go_on(begun, rest)
 }
 
 /// The three fields of a producer, each in front of a space, and what follows them.

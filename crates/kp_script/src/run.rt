@@ -62,34 +62,8 @@ pub(crate) fn limits_of(header: &Header) -> Limits
     }
 }
 
-/// [`play_line`] of any event, also one whose answer takes much room.
-#[inline(never)]
-fn play_any<'a>(
-    alloc: Global,
-    line: &Line<'a>,
-    count: NodeId,
-    world: &mut World,
-    work: &mut Work,
-    parts: &mut Vec<Parts<'a>>,
-) -> Result<u64, Refusal>
-    requires call { IsCall count (seen_call line.now.call) }
-    requires nodes { length world.old.nodes ≡ count }
-    ensures played { IfOk result (λ refused.
-        PlaysOne (seen_line line.now) world.old world.new refused work.old.text.items work.new.text.items) }
-    ensures nodes { length world.new.nodes ≡ count }
-    ensures few { IfOk result (λ refused. refused ≤ 1) }
-    ensures only { IfErr result (λ refusal. refusal ≡ WantOfMemory) }
-{
-    let event = event_of(alloc, &mut work.speller, parts, &line.call, count)?;
-    let Ok(outcome) = world.step(alloc, event) else {
-        return Err(Refusal::Memory);
-    };
-    push_event(&mut work.text, line, &outcome)?;
-    Ok(u64::from(outcome.is_err()))
-}
-
 /// Makes the line's event happen in the world, and puts its line of the trace behind the text. Answers 1 where it was refused, and
-/// else 0. F33. Most lines are appends: those are told first, and no room is cleared for what other events answer.
+/// else 0. F33. Most lines are appends: those have a way of their own, which answers a receipt.
 pub(crate) fn play_line<'a>(
     alloc: Global,
     line: &Line<'a>,
@@ -106,27 +80,26 @@ pub(crate) fn play_line<'a>(
     ensures few { IfOk result (λ refused. refused ≤ 1) }
     ensures only { IfErr result (λ refusal. refusal ≡ WantOfMemory) }
 {
-    let Call::Append {
+    if let Call::Append {
         node,
         transactional,
         time,
         sender,
         values,
     } = line.call
-    else {
-        return play_any(alloc, line, count, world, work, parts);
+    {
+        let speller = &mut work.speller;
+        let bytes = batch_of(speller, parts, time, sender, transactional, values)?;
+        let receipt = world.produce(node, bytes);
+        push_append(&mut work.text, line.number, node, &receipt)?;
+        return Ok(u64::from(receipt.is_err()));
+    }
+    let event = event_of(alloc, &mut work.speller, parts, &line.call, count)?;
+    let Ok(outcome) = world.step(alloc, event) else {
+        return Err(Refusal::Memory);
     };
-    let bytes = batch_of(
-        &mut work.speller,
-        parts,
-        time,
-        sender,
-        transactional,
-        values,
-    )?;
-    let receipt = world.produce(node, bytes);
-    push_append(&mut work.text, line.number, node, &receipt)?;
-    Ok(u64::from(receipt.is_err()))
+    push_event(&mut work.text, line, &outcome)?;
+    Ok(u64::from(outcome.is_err()))
 }
 
 /// Plays lines from the first one on until their trace has so many bytes that it is written, and writes it. F33, and then nothing is

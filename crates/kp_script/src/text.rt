@@ -87,6 +87,16 @@ pub(crate) fn push_number(text: &mut Vec<u8>, number: u64) -> Result<(), AllocEr
     push_any_number(text, number)
 }
 
+/// Appends a byte. It is put into its caller, as few bytes need more room.
+#[inline(always)]
+pub(crate) fn push_byte(text: &mut Vec<u8>, byte: u8) -> Result<(), AllocError>
+    ensures { OnOk result (text.new.items ≡ text.old.items ++ byte ∷ []) }
+{
+    text.reserve(1)?;
+    text.push_reserved(byte);
+    Ok(())
+}
+
 /// Appends the word, and then the number in decimal digits.
 pub(crate) fn push_named(text: &mut Vec<u8>, word: &[u8], number: u64) -> Result<(), AllocError>
     ensures { OnOk result (text.new.items ≡ text.old.items ++ (word.now ++ decimal number)) }

@@ -14,7 +14,7 @@ ghost use Rattle.kp_script.specs.Seen.{seen_call};
 ghost use Rattle.kp_script.specs.Trace.{end_text, epoch_text, isr_text, leader_text, life_text, line_text, lines_text, nodes_text, record_text, reply_text, outcome_text, trace_line, trace_text};
 
 use crate::script::Line;
-use crate::text::{push_hex, push_named, push_number};
+use crate::text::{push_byte, push_hex, push_named, push_number};
 use kp_model::{EpochEnd, Leader, LeaderAndIsr, NodeSet, Said};
 use kp_replica::{Answer, Receipt, Role, Shown};
 use kp_types::{Epoch, NodeId, Offset, Refusal};
@@ -312,10 +312,9 @@ pub(crate) fn push_append(
         ++ trace_line number node (outcome_of (appended receipt.now))) }
 {
     push_number(text, number)?;
-    text.push(b' ')?;
+    push_byte(text, b' ')?;
     push_appended(text, node, receipt)?;
-    text.push(b'\n')?;
-    Ok(())
+    push_byte(text, b'\n')
 }
 
 /// Appends an event's line: the number of the script's line, and what was answered. Takes time proportional to the text that it
@@ -329,10 +328,9 @@ pub(crate) fn push_event(
         ++ trace_line line.now.number (node_of (seen_call line.now.call)) (outcome_of outcome.now)) }
 {
     push_number(text, line.number)?;
-    text.push(b' ')?;
+    push_byte(text, b' ')?;
     push_outcome(text, line.call.node(), outcome)?;
-    text.push(b'\n')?;
-    Ok(())
+    push_byte(text, b'\n')
 }
 
 /// Appends a line for each event, in their order. An event's outcome stands at the event's place.

@@ -1,7 +1,8 @@
 //! Readers of the words of a line.
 
-ghost use Rattle.std.specs.Prelude.{◌≡◌, ◌≢◌, ℕ, ◌<◌, ◌≤◌, ◌^◌, List, ◌∷◌, ◌++◌, length, take, drop, Option, IfSome, IfNone};
+ghost use Rattle.std.specs.Prelude.{◌≡◌, ◌≢◌, ℕ, ◌<◌, ◌≤◌, ◌^◌, ◌==◌, not, List, ◌∷◌, ◌++◌, length, take, drop, Option, IfSome, IfNone};
 ghost use Rattle.std.specs.Fmt.{decimal};
+ghost use Rattle.std.specs.List.{list_all};
 ghost use Rattle.std.specs.Str.Parse.{AllDigits, digits_value};
 ghost use Rattle.kp_script.specs.Call.{signed_text};
 ghost use Rattle.kp_script.specs.Read.{Lacks, BeginsWithNoDigit, SpellsNoNumber};
@@ -34,6 +35,41 @@ pub fn split_first_at(separator: u8, bytes: &[u8]) -> Option<(&[u8], &[u8])>
         }
         None => None,
     }
+}
+
+/// Whether none of the eight is this byte. None of them is asked for by itself, so that a processor looks at all of them at once.
+#[inline(always)]
+fn do_eight_lack(separator: u8, eight: &[u8; 8]) -> bool
+    ensures { result ≡ list_all (λ byte. not (byte == separator)) eight.now }
+{
+    let mut do_lack = true;
+    for byte in eight {
+        do_lack &= *byte != separator;
+    }
+    do_lack
+}
+
+/// Whether none of the bytes is this one, asked one by one.
+#[inline(always)]
+fn do_few_lack(separator: u8, bytes: &[u8]) -> bool
+    ensures { result ≡ list_all (λ byte. not (byte == separator)) bytes.now }
+{
+    bytes.iter().all(|byte| *byte != separator)
+}
+
+/// Whether none of the bytes is this one. Takes time proportional to the bytes.
+#[inline(always)]
+pub fn do_lack(separator: u8, bytes: &[u8]) -> bool
+    ensures { result ≡ list_all (λ byte. not (byte == separator)) bytes.now }
+{
+    let mut rest = bytes;
+    while let Some((eight, after)) = rest.split_first_chunk::<8>() {
+        if !do_eight_lack(separator, eight) {
+            return false;
+        }
+        rest = after;
+    }
+    do_few_lack(separator, rest)
 }
 
 /// The number that so many digits in front spell, and what follows them: there is one, and no zero stands in front of
@@ -118,6 +154,18 @@ pub fn number_below(bytes: &[u8], limit: u64) -> Option<u64>
     if rest.is_empty() { Some(n) } else { None }
 }
 
+/// The number of one digit that stands before the first space, and what follows the space: most nodes and epochs are such.
+#[inline(always)]
+fn digit_then(bytes: &[u8]) -> Option<(u64, &[u8])>
+    ensures { IfSome result (λ found. bytes.now ≡ decimal found.0 ++ 32 ∷ found.1.now) }
+{
+    if bytes.len() < 2 || bytes[1] != b' ' || bytes[0] < b'0' || bytes[0] > b'9' {
+        return None;
+    }
+    let (_, rest) = bytes.split_at(2);
+    Some((u64::from(bytes[0] - b'0'), rest))
+}
+
 /// The number below the limit that stands before the first space, and what follows the space.
 #[inline(always)]
 pub fn number_then(bytes: &[u8], limit: u64) -> Option<(u64, &[u8])>
@@ -126,6 +174,10 @@ pub fn number_then(bytes: &[u8], limit: u64) -> Option<(u64, &[u8])>
     ensures none { IfNone result ((n : ℕ) (rest : List ℕ) → n < limit
         → bytes.now ≢ decimal n ++ 32 ∷ rest) }
 {
+    match digit_then(bytes) {
+        Some((n, rest)) if n < limit => return Some((n, rest)),
+        _ => {}
+    }
     let Some((n, rest)) = leading_number(bytes) else {
         return None;
     };

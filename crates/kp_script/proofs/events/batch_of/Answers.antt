@@ -1,13 +1,14 @@
-use Rattle.std.proofs.Common.{◌≡◌, ℕ, Option, Some, None, Result, Ok, Err, map, refl, ap, ◌∙◌}
-use Rattle.std.specs.Prelude.{IfOk, IfErr}
+use Rattle.std.proofs.Common.{◌≡◌, Option, Some, None, Result, Ok, Err, map, refl, ap, ◌∙◌}
+use Rattle.std.specs.Prelude.{IfErr}
+use Rattle.std.proofs.lemmas.Result.{IfOk-weaker}
 use Rattle.kp_types.specs.Causes.{IsRefusedBy}
 use Rattle.kp_types.specs.declared.refusal.Refusal.{Refusal}
 use Rattle.kp_types.specs.declared.refusal.Refusal.TheVariants.{Memory}
-use Rattle.kp_record.specs.Made.{record_made}
+use Rattle.kp_record.specs.Made.{plain_record, record_made}
 use Rattle.kp_model.specs.Event.{Acts, Produce}
 use Rattle.kp_script.specs.Call.{pieces}
 use Rattle.kp_script.specs.Seen.{seen_sender}
-use Rattle.kp_script.specs.Told.{plain_record, offer_of}
+use Rattle.kp_script.specs.Told.{offer_of}
 use Rattle.kp_script.specs.Transcript.{largest_batch}
 use Rattle.kp_script.proofs.Values.{some_piece}
 use Rattle.kp_script.proofs.Sizes.{line_size}
@@ -20,11 +21,6 @@ lacks : {A : Type 0} (cause : Option Refusal) (r : Result A Refusal) → cause �
 lacks None (Ok x) is h = tt
 lacks None (Err refusal) is h = h
 lacks (Some other) r is h = absurd cc
-
--- what each value has, the one that is there has
-each : {A : Type 0} {P Q : A → Type 0} (r : Result A Refusal) → ((x : A) → P x → Q x) → IfOk r P → IfOk r Q
-each (Ok x) f h = f x h
-each (Err refusal) f h = tt
 
 pub returns-clause-only : goal.returns-clause-only
 returns-clause-only c =
@@ -45,7 +41,7 @@ returns-clause-told c =
     let records : map record_made parts ≡ map (plain_record time) values = ap (map record_made) c.as_slice.ensures.value ∙ c.in_ok-put_parts.ensures in
     let spelled = rw (c.producer.ensures, c.epoch.ensures, c.sequence.ensures) at c.spell.ensures.spelled in
     let offer = offer_of largest_batch time sender transactional values in
-    each c.spell.result
+    IfOk-weaker c.spell.result _ _
     (λ bytes is node. record {
       e = Acts node (Produce offer);
       told = refl;

@@ -1,4 +1,4 @@
-use Rattle.std.proofs.Common.{◌≡◌, ◌++◌, ◌≤◌, ℕ, length, sym, ap, ◌∙◌, subst}
+use Rattle.std.proofs.Common.{◌≡◌, ◌++◌, ◌≤◌, length, sym, ◌∙◌, subst}
 use Rattle.kp_replica.specs.declared.act.Act.TheVariants.{Produce}
 use Rattle.kp_world.specs.Answers.{appended, outcome_of}
 use Rattle.kp_world.specs.declared.event.Event.TheVariants.{Acts}
@@ -18,8 +18,8 @@ batch_of-requires-clause-short c =
     values_short c.in-Append.node c.in-Append.time (seen_sender c.in-Append.sender) c.in-Append.transactional c.in-Append.values.now
     (subst (λ (call : ParsedCall). length (call_text (seen_call call)) ≤ 2100000) c.in-Append.is c.requires.call.short)
 
-pub returns-clause-played : goal.returns-clause-played
-returns-clause-played c =
+pub returns-in-Append-clause-played : goal.returns-in-Append-clause-played
+returns-in-Append-clause-played c =
     let node = c.in-Append.node in
     let receipt = c.produce-receipt.result in
     let event = Acts node (Produce c.in_ok-bytes.bytes) in
@@ -35,3 +35,11 @@ returns-clause-played c =
       text_is = subst (λ (call : ParsedCall). after ≡ before ++ trace_line line.number (node_of (seen_call call)) (outcome_of (appended receipt))) (sym c.in-Append.is)
           c.in_ok-push_append.ensures;
     }
+
+pub returns-clause-played : goal.returns-clause-played
+returns-clause-played c = record {
+  answer = c.in-Ok.outcome;
+  lead = led_one (seen_line c.args.line.now) c.in_ok-event.event c.in-Ok.outcome c.args.world.now c.step.new.self c.in_ok-event.ensures.told c.in-Ok.ensures.step;
+  refused_is = one_refused c.in-Ok.outcome c.is_err-2.result c.from-2.result c.from-2.ensures c.is_err-2.ensures.value;
+  text_is = c.in_ok-push_event.ensures;
+}
