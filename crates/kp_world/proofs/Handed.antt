@@ -29,9 +29,9 @@ abbrev pub effect_of : Result Receipt Refusal → Result Effect Refusal
 effect_of (Ok receipt) = Ok (Answers (Appended receipt))
 effect_of (Err refusal) = Err refusal
 
-told_so : (count : ℕ) (r : Result Receipt Refusal) → IsTold count (effect_of r) (appended r)
-told_so count (Ok receipt) = refl
-told_so count (Err refusal) = refl
+told_of : (count : ℕ) (r : Result Receipt Refusal) → IsTold count (effect_of r) (appended r)
+told_of count (Ok receipt) = refl
+told_of count (Err refusal) = refl
 
 made_so : (r : Result Receipt Refusal) → IsMadeOf Receipt Effect (λ receipt. Answers (Appended receipt)) r (effect_of r)
 made_so (Ok receipt) = refl
@@ -67,6 +67,6 @@ pub handed : EpochsAreElected → (limits : Limits) (n i : ℕ) (stage : Stage) 
     → ((offer : Result Body Refusal) → IsOffer x.limits.max_batch bytes offer → Does x m (Produce offer) (receipt_reply r))
     → LeadOn limits stage (Acts n (Produce offer) ∷ []) (appended r ∷ []) (next stage i m (effect_of r))
 handed elected_all limits n i stage x m bytes offer r same inside there is receipt spared did =
-    acted elected_all limits n i stage x m (Produce offer) (effect_of r) (appended r) same inside there tt (told_so (length stage.letters) r) (named x.limits.max_batch bytes m.state.log r receipt)
+    acted elected_all limits n i stage x m (Produce offer) (effect_of r) (appended r) same inside there tt (told_of (length stage.letters) r) (named x.limits.max_batch bytes m.state.log r receipt)
     (λ of. spared_so x.limits.max_batch bytes x offer r spared (subst (λ (l : Limits). IsOffer l.max_batch bytes offer) (sym of) is))
     (λ of c looks run. came c x m offer r (did offer (subst (λ (l : Limits). IsOffer l.max_batch bytes offer) (sym of) is) c))

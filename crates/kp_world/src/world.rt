@@ -226,8 +226,9 @@ impl World {
         Ok(carry_out(&mut self.messages, outcome))
     }
 
-    /// A client hands these bytes to the node: what [`World::step`] makes happen of that event, without room for a message, as none is
-    /// sent. The cost is that of `Replica::produce`.
+    /// A client hands these bytes to the node, and is told the receipt: what [`World::step`] does with that event, without room for a
+    /// message, as none is sent. F28 where the node is down, and else what `Replica::produce` refuses, in its order; each leaves all as
+    /// it was. The cost is that of `Replica::produce`. (Kafka protocol guide, 'Produce'; KIP-98.)
     #[inline(always)]
     pub fn produce(&mut self, node: NodeId, bytes: Handed) -> Result<Receipt, Refusal>
         requires { node < length self.old.nodes }
