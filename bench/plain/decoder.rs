@@ -76,6 +76,17 @@ pub fn crc32c(bytes: &[u8]) -> u32 {
         }
         rest = after;
     }
+    if let Some((chunk, after)) = rest.split_first_chunk::<8>() {
+        let front = register ^ u32::from_le_bytes([chunk[0], chunk[1], chunk[2], chunk[3]]);
+        register = TABLES[7][(front & 0xff) as usize]
+            ^ TABLES[6][(front >> 8 & 0xff) as usize]
+            ^ TABLES[5][(front >> 16 & 0xff) as usize]
+            ^ TABLES[4][(front >> 24) as usize];
+        for place in 4..8 {
+            register ^= TABLES[7 - place][usize::from(chunk[place])];
+        }
+        rest = after;
+    }
     for byte in rest {
         register = (register >> 8) ^ TABLES[0][(register as u8 ^ byte) as usize];
     }
