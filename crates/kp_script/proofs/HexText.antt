@@ -1,5 +1,5 @@
 -- The kit's digits of bytes are those of the definitions.
-use Rattle.std.proofs.Common.{◌≡◌, ℕ, ◌+◌, ◌-◌, ◌<◌, ◌≤◌, ◌/◌, ◌%◌, List, [], ◌∷◌, ◌++◌, length, take, drop, refl, sym, ap, ◌∙◌, arith, slice_index, inl, inr, Bool, true, ◌&&◌, ◌==◌, zero, suc, append-nil, drop_of_length-le, take_all, length-append, length-drop}
+use Rattle.std.proofs.Common.{◌≡◌, ℕ, ◌+◌, ◌-◌, ◌<◌, ◌/◌, ◌%◌, List, [], ◌∷◌, ◌++◌, length, take, drop, refl, sym, ap, ◌∙◌, arith, slice_index, inl, inr, Bool, true, ◌&&◌, ◌==◌, zero, suc, append-nil, drop_of_length-le, length-append, length-drop}
 use Rattle.std.proofs.lemmas.Bool.{and_parts, cases_lt, eqb-true}
 use Rattle.kp_record.specs.Record.{AreBytes}
 use Rattle.std.proofs.Math.Seq.{take-append_seam}
@@ -42,10 +42,8 @@ same_digits (b ∷ bytes) all =
     ∙ ap (λ (ds : List ℕ). hex_digit (b / 16) ∷ hex_digit (b % 16) ∷ ds) (same_digits bytes all.1)
 
 -- a text stays in front of what makes it longer
-pub front_stays : (a n : ℕ) (old fill now : List ℕ) → a ≡ length old → length old ≤ n → now ≡ take n old ++ fill → take a now ≡ old
-front_stays a n old fill now start long is =
-    let all : take n old ≡ old = take_all n old long in
-    rw (is, all, start) (take-append_seam old fill)
+pub front_stays : (a : ℕ) (old fill now : List ℕ) → a ≡ length old → now ≡ old ++ fill → take a now ≡ old
+front_stays a old fill now start is = rw (is, start) (take-append_seam old fill)
 
 -- the room behind a text, up to the end of the list, has become this
 pub put_behind : (a n : ℕ) (old now new items : List ℕ) → a ≡ length old → take a now ≡ old → n ≡ length now → n ≡ length old + length new →

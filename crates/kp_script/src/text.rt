@@ -1,6 +1,6 @@
 //! The words of a text that grows: numbers in decimal digits, and bytes in hexadecimal ones.
 
-ghost use Rattle.std.specs.Prelude.{◌≡◌, ◌+◌, ◌/◌, ◌%◌, ◌<◌, ◌≤◌, [], ◌∷◌, ◌++◌, OnOk, vec_capacity, vec_len};
+ghost use Rattle.std.specs.Prelude.{◌≡◌, ◌+◌, ◌/◌, ◌%◌, ◌<◌, ◌≤◌, ℕ, List, [], ◌∷◌, ◌++◌, length, OnOk, vec_capacity, vec_len};
 ghost use Rattle.std.specs.Fmt.{decimal};
 ghost use Rattle.kp_script.specs.Hex.{hex_text};
 
@@ -16,6 +16,9 @@ const SHORT_DIGITS: usize = 6;
 /// The numbers below 100, two digits for each.
 static PAIRS: [u8; 200] =
     *b"00010203040506070809101112131415161718192021222324252627282930313233343536373839404142434445464748495051525354555657585960616263646566676869707172737475767778798081828384858687888990919293949596979899";
+
+/// What is copied where digits are to stand.
+static ZEROS: [u8; 64] = [0; 64];
 
 /// Appends two digits, for which there is room.
 #[inline(always)]
@@ -105,12 +108,24 @@ pub(crate) fn push_named(text: &mut Vec<u8>, word: &[u8], number: u64) -> Result
     push_number(text, number)
 }
 
+/// Appends so many zeros. As a rule they are few, and those are copied at once.
+#[inline(always)]
+fn push_zeros(text: &mut Vec<u8>, count: usize) -> Result<(), AllocError>
+    ensures { OnOk result ((zeros : List ℕ) × (text.new.items ≡ text.old.items ++ zeros)
+        × (length zeros ≡ count)) }
+{
+    if count <= ZEROS.len() {
+        return text.extend_from_slice(&ZEROS[..count]);
+    }
+    text.resize(text.len().saturating_add(count), 0)
+}
+
 /// Appends each byte as two hexadecimal digits. Room for all of them is made at once.
 pub(crate) fn push_hex(text: &mut Vec<u8>, bytes: &[u8]) -> Result<(), AllocError>
     ensures { OnOk result (text.new.items ≡ text.old.items ++ hex_text bytes.now) }
 {
     let start = text.len();
-    text.resize(start.saturating_add(bytes.len().saturating_mul(2)), 0)?;
+    push_zeros(text, bytes.len().saturating_mul(2))?;
     match hex::encode_to_slice(bytes, &mut text[start..]) {
         Ok(()) => Ok(()),
         Err(_) => Err(AllocError), // never: the room has two bytes for each

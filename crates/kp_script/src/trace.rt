@@ -27,10 +27,11 @@ fn push_line(text: &mut Vec<u8>, line: ReadRecord<'_>) -> Result<(), AllocError>
     ensures { OnOk result
         (text.new.items ≡ text.old.items ++ 32 ∷ line_text (line_of line.entry)) }
 {
-    push_named(text, b" ", line.offset)?;
+    push_byte(text, b' ')?;
+    push_number(text, line.offset)?;
     match line.value {
         Some(bytes) => {
-            text.extend_from_slice(b"=")?;
+            push_byte(text, b'=')?;
             push_hex(text, bytes)
         }
         None => text.extend_from_slice(b"=-"),
