@@ -3,7 +3,7 @@ use Rattle.std.proofs.Common.{◌≡◌, ℕ, true, false, Option, Some, refl, s
 use Rattle.std.proofs.lemmas.Bool.{cond_both}
 use Rattle.kp_types.specs.declared.refusal.Refusal.{Refusal}
 use Rattle.kp_types.specs.declared.refusal.Refusal.TheVariants as refusals
-use Rattle.kp_model.specs.World.{LeaderAndIsr, Mode, Down, Idle, Leads, Follows, Node, Proposal, Message, Asks, Answers, Proposes}
+use Rattle.kp_model.specs.World.{LeaderAndIsr, Mode, Down, Idle, Leads, Follows, Node, Proposal, Message, Answers, Proposes}
 use Rattle.kp_model.specs.Event.{Act, Receive, Refused}
 use Rattle.kp_model.specs.Event as model
 use Rattle.kp_model.specs.Effect.{is_down}
