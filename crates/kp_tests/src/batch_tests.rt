@@ -148,6 +148,12 @@ fn spelled(alloc: Global, fields: &Fields, parts: &[Parts<'_>]) -> Result<String
     Ok(hex(alloc, bytes.as_slice())?)
 }
 
+// The batch of one record again, from its value alone.
+fn one_value(alloc: Global) -> Result<String, Refusal> {
+    let bytes = Speller::new(alloc).spell_value(&PLAIN, b"a")?;
+    Ok(hex(alloc, bytes.as_slice())?)
+}
+
 // Built and spelled, the batch has these bytes.
 fn has_bytes(rt: &impl Abort, alloc: Global, fields: &Fields, parts: &[Parts<'_>], known: &str) {
     is(rt, built(alloc, fields, parts), known);
@@ -158,6 +164,7 @@ fn has_bytes(rt: &impl Abort, alloc: Global, fields: &Fields, parts: &[Parts<'_>
 fn batches_have_the_known_bytes(rt: HostRuntime) {
     let alloc = rt.alloc();
     has_bytes(&rt, alloc, &PLAIN, &[ONE], ONE_HEX);
+    is(&rt, one_value(alloc), ONE_HEX);
     has_bytes(&rt, alloc, &PRODUCED, &THREE, THREE_HEX);
     has_bytes(&rt, alloc, &CONTROL, &[COMMIT], COMMIT_HEX);
 }

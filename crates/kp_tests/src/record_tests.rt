@@ -2,6 +2,7 @@
 //! attributes, timestamp delta, offset delta, key, value, number of headers, headers.
 
 use crate::shown::{hex, is, push_bytes, push_record, unhex};
+use bytes::BytesMut;
 use kp_record::{
     HeaderParts, Parts, Place, plain_record_size, read_record, record_size, write_plain_record,
     write_record,
@@ -142,11 +143,13 @@ fn records_have_the_known_bytes(rt: HostRuntime) {
 
 // The bytes of a plain record of this value as digits, and its size.
 fn plainly_spelled(alloc: Global, value: &[u8]) -> Result<String, Refusal> {
+    if value.len() > 1_000_000 {
+        return Err(Refusal::TooLarge);
+    }
     let size = plain_record_size(value);
-    let mut out = Vec::new(alloc);
-    out.reserve(size as usize)?;
+    let mut out = BytesMut::with_capacity(alloc, size as usize)?;
     write_plain_record(&mut out, value);
-    let mut text = hex(alloc, &out)?;
+    let mut text = hex(alloc, out.as_slice())?;
     write!(text, " {size}")?;
     Ok(text)
 }
