@@ -1,6 +1,9 @@
 -- No cause speaks against a batch of a line's values, and a batch that is asked for has the content that its fields say.
-use Rattle.std.proofs.Common.{◌≡◌, ℕ, suc, ◌+◌, ◌<◌, ◌≤◌, ◌^◌, Bool, true, false, List, [], ◌∷◌, length, Some, None, map, refl, sym, ap, ◌∙◌, arith}
-use Rattle.std.specs.Prelude.{nat_lt, if◌then◌else◌}
+use Rattle.std.proofs.Common.{◌≡◌, ℕ, suc, ◌+◌, ◌<◌, ◌≤◌, ◌^◌, Bool, true, false, List, [], ◌∷◌, length, Option, Some, None, Result, Ok, Err, map, refl, sym, ap, ◌∙◌, arith}
+use Rattle.std.specs.Prelude.{nat_lt, if◌then◌else◌, IfErr}
+use Rattle.kp_types.specs.Causes.{IsRefusedBy}
+use Rattle.kp_types.specs.declared.refusal.Refusal.{Refusal}
+use Rattle.kp_types.specs.declared.refusal.Refusal.TheVariants.{Memory}
 use Rattle.std.specs.List.{list_all}
 use Rattle.std.specs.Str.{is_utf8}
 use Rattle.std.proofs.lemmas.Bool.{ne_eqb, lt-ltb, le-ltb}
@@ -79,6 +82,12 @@ no_cause time sender transactional values parts e some early fits =
     let size = ap (λ (rs : List Record). 61 + length (records_spelling time 0 rs)) e in
     let head = head_none time sender transactional parts (omega (arith, count, some)) (omega (arith, size, fits)) early in
     rw (head, are_early time values parts e early, no_keys time 0 61 time values parts e, marker_none time sender transactional parts) refl
+
+-- what has no cause is refused for want of memory alone
+pub lacks : {A : Type 0} (cause : Option Refusal) (r : Result A Refusal) → cause ≡ None → IsRefusedBy cause r → IfErr r (λ refusal. refusal ≡ Memory)
+lacks None (Ok x) is h = tt
+lacks None (Err refusal) is h = h
+lacks (Some other) r is h = absurd cc
 
 -- ---- what is spelled
 

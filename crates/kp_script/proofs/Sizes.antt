@@ -25,7 +25,7 @@ record_length time place value =
     let size = sized_length (record_fields time place (plain_record time value)) in
     omega arith
 
-records_length : (time place : ℕ) (values : List (List ℕ)) → 0 < length values → length (records_spelling time place (map (plain_record time) values)) ≤ 61 * (length (values_text values) + 1)
+pub records_length : (time place : ℕ) (values : List (List ℕ)) → 0 < length values → length (records_spelling time place (map (plain_record time) values)) ≤ 61 * (length (values_text values) + 1)
 unfolding records_spelling
 records_length time place [] some = absurd (omega arith)
 records_length time place (value ∷ []) some =
@@ -56,7 +56,7 @@ record_least : (time place : ℕ) (value : List ℕ) → 7 + length value ≤ le
 unfolding record_spelling record_fields sized sized_or_null
 record_least time place value = simp length-append (omega (arith, varint_some))
 
-records_least : (time place : ℕ) (values : List (List ℕ)) → 0 < length values →
+pub records_least : (time place : ℕ) (values : List (List ℕ)) → 0 < length values →
     1 + 6 * length values + length (values_text values) ≤ length (records_spelling time place (map (plain_record time) values))
 unfolding records_spelling
 records_least time place [] some = absurd (omega arith)

@@ -4,7 +4,8 @@ use Rattle.std.specs.Fmt.{decimal}
 use Rattle.kp_script.specs.Call.{Sender, Append, call_text, fields_text, kind_text, values_text, pieces}
 use Rattle.kp_script.specs.Read.{sender_front}
 use Rattle.kp_script.proofs.Numbers.{same_field}
-use Rattle.kp_script.proofs.Values.{pieces_back}
+use Rattle.kp_script.specs.Seen.{seen_values}
+use Rattle.kp_script.proofs.Values.{pieces_back, seen_back}
 
 -- an append's node and time, in front of the rest of its fields
 abbrev pub append_front : (node time : ℕ) → List ℕ → List ℕ
@@ -29,10 +30,10 @@ append_spelled fields rest more next values node time sender transactional first
     ∙ ap (λ (end : List ℕ). append_front node time (sender_front sender (kind_text transactional ++ 32 ∷ end))) (pieces_back values)
 
 -- a line that is not longer than a line may be has no longer values
-pub values_short : (node time : ℕ) (sender : Sender) (transactional : Bool) (values : List ℕ) →
-    length (call_text (Append node time sender transactional (pieces values))) ≤ 2100000 → length values ≤ 2100000
-values_short node time sender transactional values short =
-    let all = ap length (pieces_back values) in
-    let fits : length (codes "append" ++ 32 ∷ append_front node time (sender_front sender (kind_text transactional ++ 32 ∷ values_text (pieces values)))) ≤ 2100000 = short in
+pub values_short : (node time : ℕ) (sender : Sender) (transactional lone : Bool) (values : List ℕ) →
+    length (call_text (Append node time sender transactional (seen_values lone values))) ≤ 2100000 → length values ≤ 2100000
+values_short node time sender transactional lone values short =
+    let all = ap length (seen_back lone values) in
+    let fits : length (codes "append" ++ 32 ∷ append_front node time (sender_front sender (kind_text transactional ++ 32 ∷ values_text (seen_values lone values)))) ≤ 2100000 = short in
     let parts = simp length-append at fits in
     omega arith

@@ -6,6 +6,7 @@ use Rattle.std.proofs.lemmas.List.Splits.{slice_split_none, slice_split_at, leng
 use Rattle.std.specs.List.{list_all, onto_first, AllByRecursion}
 use Rattle.kp_script.specs.Call.{is_value_byte, is_value, values_text, pieces}
 use Rattle.kp_script.specs.Read.{Lacks, goes_on}
+use Rattle.kp_script.specs.Seen.{seen_values}
 
 lacks_commas : (value : List ℕ) → list_all is_value_byte value ≡ true → AllByRecursion (λ x. eqb x 44 ≡ false) value
 lacks_commas [] all = tt
@@ -33,6 +34,11 @@ values_back (value ∷ next ∷ values) some all =
 -- a text is that of its pieces
 pub pieces_back : (text : List ℕ) → text ≡ values_text (pieces text)
 pieces_back text = sym (join_with_byte-slice_split 44 text)
+
+-- also where it is one value
+pub seen_back : (lone : Bool) (text : List ℕ) → text ≡ values_text (seen_values lone text)
+seen_back true text = refl
+seen_back false text = pieces_back text
 
 -- a text has a piece
 pub some_piece : (text : List ℕ) → 0 < length (pieces text)
@@ -106,6 +112,26 @@ lacks_from byte (x ∷ xs) all =
 pub one_piece : (text : List ℕ) → Lacks 44 text → pieces text ≡ text ∷ []
 one_piece text lacks =
     slice_split_none (λ (x : ℕ). eqb x 44) text (All-from_recursion (λ (x : ℕ). eqb x 44 ≡ false) text (no_comma_in text lacks))
+
+abbrev pub no_comma : List ℕ → Bool
+no_comma xs = list_all (λ x. not (eqb x 44)) xs
+
+-- none stands in bytes of a value in front
+pub commas_behind : (front rest : List ℕ) → list_all is_value_byte front ≡ true → no_comma (front ++ rest) ≡ no_comma rest
+commas_behind [] rest all = refl
+commas_behind (x ∷ xs) rest all =
+    let parts = and_parts (is_value_byte x) (list_all is_value_byte xs) all in
+    let last = and_parts (leb 33 x && leb x 126) (not (eqb x 44)) parts.0 in
+    ap (λ (b : Bool). b && no_comma (xs ++ rest)) last.1 ∙ commas_behind xs rest parts.1
+
+-- what has no comma is one value
+pub lone_is : (lone : Bool) (values : List ℕ) → lone ≡ no_comma values → seen_values lone values ≡ pieces values
+lone_is true values e = sym (one_piece values (lacks_from 44 values (sym e)))
+lone_is false values e = refl
+
+-- what is one value
+pub seen_lone : (lone : Bool) (values : List ℕ) → lone ≡ true → seen_values lone values ≡ values ∷ []
+seen_lone lone values is = ap (λ (one : Bool). seen_values one values) is
 
 -- the first piece ends at the first comma
 pub first_piece : (front rest : List ℕ) → Lacks 44 front → pieces (front ++ 44 ∷ rest) ≡ front ∷ pieces rest

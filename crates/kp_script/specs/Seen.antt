@@ -1,5 +1,5 @@
 -- What the parser's values say, apart from where they lie in memory.
-use Rattle.std.specs.Prelude.{ℕ, List, ◌-◌, ◌^◌, ◌==◌, map, Option, Some, None, if◌then◌else◌}
+use Rattle.std.specs.Prelude.{ℕ, Bool, List, [], ◌∷◌, ◌-◌, ◌^◌, ◌==◌, map, Option, Some, None, if◌then◌else◌}
 use Rattle.std.specs.List.{flat_map}
 use Rattle.std.specs.declared.vec.Vec.{Vec}
 use Rattle.kp_script.specs.Call.{Call, Header, Sender, Elect, Append, Raw, Acts, Deliver, pieces}
@@ -27,9 +27,13 @@ seen_sender sender =
       sequence = field_below (2 ^ 32 - 1) sender.sequence;
     }
 
+-- the values of an append: one, or those between the commas
+abbrev pub seen_values : (lone : Bool) → List ℕ → List (List ℕ)
+seen_values lone values = if lone then values ∷ [] else pieces values
+
 abbrev pub seen_call : ParsedCall → Call
 seen_call (parsed.Elect node) = Elect node
-seen_call (parsed.Append node transactional time sender values) = Append node time (seen_sender sender) transactional (pieces values.now)
+seen_call (parsed.Append node transactional lone time sender values) = Append node time (seen_sender sender) transactional (seen_values lone values.now)
 seen_call (parsed.Raw node digits) = Raw node (bytes_of digits.now)
 seen_call (parsed.Acts node act) = Acts node act
 seen_call (parsed.Deliver number) = Deliver number

@@ -107,6 +107,8 @@ pub enum Call<'a> {
         node: NodeId,
         /// Whether the batch is of a transaction.
         transactional: bool,
+        /// Whether the values are one, in which no comma stands.
+        lone: bool,
         time: u64,
         /// What the batch says of its producer, whether or not that agrees with the kind.
         sender: Sender,
@@ -317,7 +319,9 @@ fn any_call(line: &[u8], count: NodeId) -> Option<Call<'_>>
 }
 
 /// The call that the whole line spells, where there are so many nodes. Takes time proportional to the line, and no
-/// memory. Most lines of a script are appends, so those are told first.
+/// memory. Most lines of a script are appends, so those are told first. It is put into its callers, so that a call is built where it
+/// is stored.
+#[inline(always)]
 pub fn call_of(line: &[u8], count: NodeId) -> Option<Call<'_>>
     ensures found { IfSome result (λ call. IsCallText count line.now (seen_call call)) }
     ensures none { IfNone result (SpellsNoCall count line.now) }

@@ -1,6 +1,6 @@
 //! The events of a script, as a run takes them.
 
-ghost use Rattle.std.specs.Prelude.{◌≡◌, ℕ, ◌+◌, ◌<◌, ◌≤◌, ◌^◌, ◌==◌, true, IfOk, IfErr, OnOk, length, map};
+ghost use Rattle.std.specs.Prelude.{◌≡◌, ℕ, [], ◌∷◌, ◌+◌, ◌<◌, ◌≤◌, ◌^◌, ◌==◌, true, false, IfOk, IfErr, OnOk, length, map};
 ghost use Rattle.std.specs.List.{count_by};
 ghost use Rattle.kp_types.specs.declared.refusal.Refusal.TheVariants.{Memory, TooLarge};
 ghost use Rattle.kp_batch.specs.Reading.{IsFirstFault};
@@ -13,11 +13,11 @@ ghost use Rattle.kp_script.specs.Call.{Append, Raw, IsCall, IsSender, pieces};
 ghost use Rattle.kp_script.specs.Hex.{bytes_of};
 ghost use Rattle.kp_script.specs.Told.{Tells};
 ghost use Rattle.kp_script.specs.Transcript.{largest_batch};
-ghost use Rattle.kp_script.specs.Seen.{seen_call, seen_sender};
+ghost use Rattle.kp_script.specs.Seen.{seen_call, seen_sender, seen_values};
 
 use crate::call::{Call, Sender};
 use crate::digits::bytes_of;
-use crate::words::{do_lack, split_first_at};
+use crate::words::split_first_at;
 use bytes::Bytes;
 use kp_batch::{Fields, Handed, Parts, Speller};
 use kp_replica::Act;
@@ -27,6 +27,8 @@ use std::alloc::{AllocError, Global};
 
 /// A batch is never too large for the number of its records where its values have so few bytes.
 const FEW_BYTES: usize = 131_072;
+/// The most bytes of a value that [`Speller::spell_value`] takes.
+pub(crate) const LONGEST_VALUE: usize = 1_000_000;
 /// Bytes that are too large by their length field, as a batch of some 2 GB is.
 static LARGE_FRONT: [u8; 61] = [127; 61];
 
@@ -43,17 +45,12 @@ fn part_of(time: u64, value: &[u8]) -> Parts<'_>
 }
 
 /// Puts a record for each piece between the commas in place of those in `parts`: it has this time in milliseconds, and
-/// the piece as its value. Most batches have one. Takes time proportional to the bytes, and fails where memory runs out.
-#[inline(always)]
+/// the piece as its value. Takes time proportional to the bytes, and fails where memory runs out.
 fn put_parts<'a>(parts: &mut Vec<Parts<'a>>, time: u64, values: &'a [u8]) -> Result<(), AllocError>
     ensures { OnOk result (map record_made parts.new.items
         ≡ map (plain_record time) (pieces values.now)) }
 {
     parts.clear();
-    if do_lack(b',', values) {
-        parts.push(part_of(time, values))?;
-        return Ok(());
-    }
     let mut rest = values;
     while let Some((value, after)) = split_first_at(b',', rest) {
         parts.push(part_of(time, value))?;
@@ -94,13 +91,30 @@ fn too_large() -> Handed
     Handed::raw(Bytes::from_static(&LARGE_FRONT))
 }
 
-/// A batch with a record for each piece between the commas, each at this time in milliseconds, to be handed to a node.
-/// What it says of its producer and its kind need not agree, and it has any size: a node refuses what doesn't agree, and
-/// what is above its own limit. Takes time proportional to the bytes, and memory to those of a batch that a node may take;
-/// where they are too many for one, none, as then only bytes with the same fault are handed in. Is refused only where memory runs
-/// out.
+/// The fields of a batch at this time in milliseconds, which has this sender.
 #[inline(always)]
-pub(crate) fn batch_of<'a>(
+fn fields_of(time: u64, sender: Sender, transactional: bool) -> Fields
+    ensures { result ≡ record {
+        base_timestamp = time;
+        producer_id = (seen_sender sender).producer;
+        producer_epoch = (seen_sender sender).epoch;
+        base_sequence = (seen_sender sender).sequence;
+        transactional = transactional;
+        control = false;
+    } }
+{
+    Fields {
+        base_timestamp: time,
+        producer_id: sender.producer(),
+        producer_epoch: sender.epoch(),
+        base_sequence: sender.sequence(),
+        transactional,
+        control: false,
+    }
+}
+
+/// [`batch_of`] of values with commas between them.
+fn batch_of_pieces<'a>(
     speller: &mut Speller,
     parts: &mut Vec<Parts<'a>>,
     time: u64,
@@ -118,16 +132,59 @@ pub(crate) fn batch_of<'a>(
     if are_too_many(values) {
         return Ok(too_large());
     }
-    let fields = Fields {
-        base_timestamp: time,
-        producer_id: sender.producer(),
-        producer_epoch: sender.epoch(),
-        base_sequence: sender.sequence(),
-        transactional,
-        control: false,
-    };
     put_parts(parts, time, values)?;
-    speller.spell(&fields, parts.as_slice())
+    speller.spell(&fields_of(time, sender, transactional), parts.as_slice())
+}
+
+/// [`batch_of`] of one value of at most [`LONGEST_VALUE`] bytes, as most batches have: nothing is tested then.
+#[inline(always)]
+pub(crate) fn batch_of_value(
+    speller: &mut Speller,
+    time: u64,
+    sender: Sender,
+    transactional: bool,
+    value: &[u8],
+) -> Result<Handed, Refusal>
+    requires early { time < 2 ^ 62 }
+    requires sender { IsSender (seen_sender sender) }
+    requires short { length value.now ≤ 1000000 }
+    ensures told { IfOk result (λ bytes. (node : ℕ) → Tells largest_batch
+        (Append node time (seen_sender sender) transactional (value.now ∷ [])) (Acts node (Produce bytes))) }
+    ensures only { IfErr result (λ refusal. refusal ≡ Memory) }
+{
+    speller.spell_value(&fields_of(time, sender, transactional), value)
+}
+
+/// A batch with a record for each of the values, each at this time in milliseconds, to be handed to a node: for one value, or for
+/// each piece between the commas.
+/// What it says of its producer and its kind need not agree, and it has any size: a node refuses what doesn't agree, and
+/// what is above its own limit. Takes time proportional to the bytes, and memory to those of a batch that a node may take;
+/// where they are too many for one, none, as then only bytes with the same fault are handed in. Is refused only where memory runs
+/// out.
+fn batch_of<'a>(
+    speller: &mut Speller,
+    parts: &mut Vec<Parts<'a>>,
+    time: u64,
+    sender: Sender,
+    transactional: bool,
+    lone: bool,
+    values: &'a [u8],
+) -> Result<Handed, Refusal>
+    requires early { time < 2 ^ 62 }
+    requires sender { IsSender (seen_sender sender) }
+    requires short { length values.now ≤ 2100000 }
+    ensures told { IfOk result (λ bytes. (node : ℕ) → Tells largest_batch
+        (Append node time (seen_sender sender) transactional (seen_values lone values.now)) (Acts node (Produce bytes))) }
+    ensures only { IfErr result (λ refusal. refusal ≡ Memory) }
+{
+    if !lone {
+        return batch_of_pieces(speller, parts, time, sender, transactional, values);
+    }
+    if values.len() > MAX_BATCH as usize {
+        return Ok(too_large());
+    }
+    let part = [part_of(time, values)];
+    speller.spell(&fields_of(time, sender, transactional), &part)
 }
 
 /// The bytes that the digits spell, handed to the node. Takes time and memory proportional to their number, and is
@@ -167,11 +224,12 @@ pub(crate) fn event_of<'a>(
         Call::Append {
             node,
             transactional,
+            lone,
             time,
             sender,
             values,
         } => {
-            let bytes = batch_of(speller, parts, time, sender, transactional, values)?;
+            let bytes = batch_of(speller, parts, time, sender, transactional, lone, values)?;
             Ok(Event::Acts {
                 node,
                 act: Act::Produce { bytes },

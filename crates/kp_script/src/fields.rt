@@ -1,14 +1,14 @@
 //! The readers of the fields behind a call's verb. Most are put into their callers, so that a call is built where it is
 //! stored, not copied from reader to reader.
 
-ghost use Rattle.std.specs.Prelude.{◌≡◌, ◌≢◌, ℕ, ◌<◌, ◌^◌, Bool, List, ◌∷◌, ◌++◌, codes, IfSome, IfNone};
+ghost use Rattle.std.specs.Prelude.{◌≡◌, ◌≢◌, ℕ, ◌<◌, ◌^◌, ◌==◌, not, Bool, true, false, List, ◌∷◌, ◌++◌, codes, IfSome, IfNone};
 ghost use Rattle.std.specs.Fmt.{decimal};
 ghost use Rattle.std.specs.List.{list_all};
 ghost use Rattle.kp_marker.specs.Marker.{commits};
 ghost use Rattle.kp_marker.specs.declared.parts.HandedMarker.{HandedMarker as SpelledMarker};
 ghost use Rattle.kp_script.specs.Call.{Sender as SpelledSender, is_value, is_value_byte, kind_text, ending_text, pieces, IsSender};
 ghost use Rattle.kp_script.specs.Read.{sender_front, marker_text, goes_on, AreFields, AreNoFields};
-ghost use Rattle.kp_script.specs.Seen.{seen_sender, seen_call};
+ghost use Rattle.kp_script.specs.Seen.{seen_sender, seen_call, seen_values};
 
 use crate::call::{Call, GREATEST_TIME, Sender};
 use crate::digits::is_hex;
@@ -109,31 +109,39 @@ fn are_value_bytes(bytes: &[u8; 8]) -> bool
     are
 }
 
-/// Whether a value, which has begun or not, can go on with these bytes, and others follow it behind commas.
+/// Whether no comma stands in these bytes, where a value, which has begun or not, can go on with them, and others follow it behind
+/// commas.
 #[inline(always)]
-fn go_on(begun: bool, bytes: &[u8]) -> bool
-    ensures { result ≡ goes_on begun bytes.now }
+fn go_on(begun: bool, bytes: &[u8]) -> Option<bool>
+    ensures on { IfSome result (λ lone. goes_on begun bytes.now ≡ true) }
+    ensures lone { IfSome result (λ lone. lone ≡ list_all (λ byte. not (byte == 44)) bytes.now) }
+    ensures none { IfNone result (goes_on begun bytes.now ≡ false) }
 {
     let mut begun = begun;
+    let mut lone = true;
     for byte in bytes {
         if *byte == b',' {
             if !begun {
-                return false;
+                return None;
             }
             begun = false;
+            lone = false;
         } else {
             if !is_value_byte(*byte) {
-                return false;
+                return None;
             }
             begun = true;
         }
     }
-    begun
+    if begun { Some(lone) } else { None }
 }
 
-/// Whether each piece between the commas can be the value of a record. Takes time proportional to the bytes.
-fn are_values(values: &[u8]) -> bool
-    ensures { result ≡ list_all is_value (pieces values.now) }
+/// Whether the values are one, in which no comma stands, where each piece between the commas can be the value of a record. Takes
+/// time proportional to the bytes.
+fn are_lone(values: &[u8]) -> Option<bool>
+    ensures values { IfSome result (λ lone. list_all is_value (pieces values.now) ≡ true) }
+    ensures lone { IfSome result (λ lone. seen_values lone values.now ≡ pieces values.now) }
+    ensures none { IfNone result (list_all is_value (pieces values.now) ≡ false) }
 {
     let mut begun = false;
     let mut rest = values;
@@ -203,12 +211,13 @@ pub fn append_of(fields: &[u8], count: NodeId) -> Option<Call<'_>>
     let Some((transactional, values)) = kind_then(rest) else {
         return None;
     };
-    if !are_values(values) {
+    let Some(lone) = are_lone(values) else {
         return None;
-    }
+    };
     Some(Call::Append {
         node,
         transactional,
+        lone,
         time,
         sender,
         values,

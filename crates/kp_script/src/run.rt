@@ -13,7 +13,7 @@ ghost use Rattle.kp_script.specs.Transcript.{IsRunRefusal, Writes, WritesFirst, 
 
 use crate::call::{Call, Header};
 use crate::ended::Ended;
-use crate::events::{batch_of, event_of};
+use crate::events::{LONGEST_VALUE, batch_of_value, event_of};
 use crate::script::{Line, parse};
 use crate::trace::{push_append, push_event};
 use kp_batch::{Parts, Speller};
@@ -63,7 +63,8 @@ pub(crate) fn limits_of(header: &Header) -> Limits
 }
 
 /// Makes the line's event happen in the world, and puts its line of the trace behind the text. Answers 1 where it was refused, and
-/// else 0. F33. Most lines are appends: those have a way of their own, which answers a receipt.
+/// else 0. F33. Most lines are appends of one value: those have a way of their own, which answers a receipt.
+#[inline(always)]
 pub(crate) fn play_line<'a>(
     alloc: Global,
     line: &Line<'a>,
@@ -83,17 +84,41 @@ pub(crate) fn play_line<'a>(
     if let Call::Append {
         node,
         transactional,
+        lone,
         time,
         sender,
         values,
     } = line.call
     {
-        let speller = &mut work.speller;
-        let bytes = batch_of(speller, parts, time, sender, transactional, values)?;
-        let receipt = world.produce(node, bytes);
-        push_append(&mut work.text, line.number, node, &receipt)?;
-        return Ok(u64::from(receipt.is_err()));
+        if lone && values.len() <= LONGEST_VALUE {
+            let speller = &mut work.speller;
+            let bytes = batch_of_value(speller, time, sender, transactional, values)?;
+            let receipt = world.produce(node, bytes);
+            push_append(&mut work.text, line.number, node, &receipt)?;
+            return Ok(u64::from(receipt.is_err()));
+        }
     }
+    play_any(alloc, line, count, world, work, parts)
+}
+
+/// Does what [`play_line`] does, for any line. It is no part of its caller, which would clear room for what it answers.
+#[inline(never)]
+fn play_any<'a>(
+    alloc: Global,
+    line: &Line<'a>,
+    count: NodeId,
+    world: &mut World,
+    work: &mut Work,
+    parts: &mut Vec<Parts<'a>>,
+) -> Result<u64, Refusal>
+    requires call { IsCall count (seen_call line.now.call) }
+    requires nodes { length world.old.nodes ≡ count }
+    ensures played { IfOk result (λ refused.
+        PlaysOne (seen_line line.now) world.old world.new refused work.old.text.items work.new.text.items) }
+    ensures nodes { length world.new.nodes ≡ count }
+    ensures few { IfOk result (λ refused. refused ≤ 1) }
+    ensures only { IfErr result (λ refusal. refusal ≡ WantOfMemory) }
+{
     let event = event_of(alloc, &mut work.speller, parts, &line.call, count)?;
     let Ok(outcome) = world.step(alloc, event) else {
         return Err(Refusal::Memory);

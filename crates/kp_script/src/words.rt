@@ -1,8 +1,7 @@
 //! Readers of the words of a line.
 
-ghost use Rattle.std.specs.Prelude.{◌≡◌, ◌≢◌, ℕ, ◌<◌, ◌≤◌, ◌^◌, ◌==◌, not, List, ◌∷◌, ◌++◌, length, take, drop, Option, IfSome, IfNone};
+ghost use Rattle.std.specs.Prelude.{◌≡◌, ◌≢◌, ℕ, ◌<◌, ◌≤◌, ◌^◌, ◌==◌, List, ◌∷◌, ◌++◌, length, take, drop, Option, IfSome, IfNone};
 ghost use Rattle.std.specs.Fmt.{decimal};
-ghost use Rattle.std.specs.List.{list_all};
 ghost use Rattle.std.specs.Str.Parse.{AllDigits, digits_value};
 ghost use Rattle.kp_script.specs.Call.{signed_text};
 ghost use Rattle.kp_script.specs.Read.{Lacks, BeginsWithNoDigit, SpellsNoNumber};
@@ -35,41 +34,6 @@ pub fn split_first_at(separator: u8, bytes: &[u8]) -> Option<(&[u8], &[u8])>
         }
         None => None,
     }
-}
-
-/// Whether none of the eight is this byte. None of them is asked for by itself, so that a processor looks at all of them at once.
-#[inline(always)]
-fn do_eight_lack(separator: u8, eight: &[u8; 8]) -> bool
-    ensures { result ≡ list_all (λ byte. not (byte == separator)) eight.now }
-{
-    let mut do_lack = true;
-    for byte in eight {
-        do_lack &= *byte != separator;
-    }
-    do_lack
-}
-
-/// Whether none of the bytes is this one, asked one by one.
-#[inline(always)]
-fn do_few_lack(separator: u8, bytes: &[u8]) -> bool
-    ensures { result ≡ list_all (λ byte. not (byte == separator)) bytes.now }
-{
-    bytes.iter().all(|byte| *byte != separator)
-}
-
-/// Whether none of the bytes is this one. Takes time proportional to the bytes.
-#[inline(always)]
-pub fn do_lack(separator: u8, bytes: &[u8]) -> bool
-    ensures { result ≡ list_all (λ byte. not (byte == separator)) bytes.now }
-{
-    let mut rest = bytes;
-    while let Some((eight, after)) = rest.split_first_chunk::<8>() {
-        if !do_eight_lack(separator, eight) {
-            return false;
-        }
-        rest = after;
-    }
-    do_few_lack(separator, rest)
 }
 
 /// The number that so many digits in front spell, and what follows them: there is one, and no zero stands in front of
@@ -119,13 +83,13 @@ fn long_number(bytes: &[u8]) -> Option<(u64, &[u8])>
     number_until(bytes, bytes.len(), value)
 }
 
-/// The number in front of these bytes, and what follows its digits.
+/// How many digits are in front of these bytes, and the number that they spell: at most so many as are few.
 #[inline(always)]
-fn leading_number(bytes: &[u8]) -> Option<(u64, &[u8])>
-    ensures found { IfSome result
-        (λ (n, rest). (bytes.now ≡ decimal n ++ rest.now) × BeginsWithNoDigit rest.now
-        × (n < 2 ^ 64)) }
-    ensures none { IfNone result (SpellsNoNumber bytes.now) }
+fn few_digits(bytes: &[u8]) -> (usize, u64)
+    ensures within { result.0 ≤ length bytes.now }
+    ensures digits { AllDigits 10 (take result.0 bytes.now) }
+    ensures value { result.1 ≡ digits_value 10 (take result.0 bytes.now) }
+    ensures rest { result.0 < 18 → BeginsWithNoDigit (drop result.0 bytes.now) }
 {
     let most = bytes.len().min(FEW_DIGITS);
     let mut value: u64 = 0;
@@ -134,7 +98,19 @@ fn leading_number(bytes: &[u8]) -> Option<(u64, &[u8])>
         value = 10 * value + u64::from(bytes[digits] - b'0');
         digits += 1;
     }
-    if digits == FEW_DIGITS {
+    (digits, value)
+}
+
+/// The number in front of these bytes, and what follows its digits.
+#[inline(always)]
+fn leading_number(bytes: &[u8]) -> Option<(u64, &[u8])>
+    ensures found { IfSome result
+        (λ (n, rest). (bytes.now ≡ decimal n ++ rest.now) × BeginsWithNoDigit rest.now
+        × (n < 2 ^ 64)) }
+    ensures none { IfNone result (SpellsNoNumber bytes.now) }
+{
+    let (digits, value) = few_digits(bytes);
+    if digits >= FEW_DIGITS {
         return long_number(bytes);
     }
     number_until(bytes, digits, value)
@@ -166,6 +142,41 @@ fn digit_then(bytes: &[u8]) -> Option<(u64, &[u8])>
     Some((u64::from(bytes[0] - b'0'), rest))
 }
 
+/// This number and what follows the space, where it is below the limit, and stands in front of the bytes with a space behind it.
+#[inline(always)]
+fn below_then<'a>(bytes: &'a [u8], n: u64, rest: &'a [u8], limit: u64) -> Option<(u64, &'a [u8])>
+    requires is { bytes.now ≡ decimal n ++ rest.now }
+    requires ends { BeginsWithNoDigit rest.now }
+    ensures found { IfSome result (λ found. (bytes.now ≡ decimal found.0 ++ 32 ∷ found.1.now)
+        × (found.0 < limit)) }
+    ensures none { IfNone result ((n : ℕ) (rest : List ℕ) → n < limit
+        → bytes.now ≢ decimal n ++ 32 ∷ rest) }
+{
+    let _ = bytes;
+    if n >= limit {
+        return None;
+    }
+    match after(b" ", rest) {
+        Some(rest) => Some((n, rest)),
+        None => None,
+    }
+}
+
+/// Does what [`number_then`] does for a number of many digits.
+#[cold]
+#[inline(never)]
+fn long_then(bytes: &[u8], limit: u64) -> Option<(u64, &[u8])>
+    ensures found { IfSome result (λ found. (bytes.now ≡ decimal found.0 ++ 32 ∷ found.1.now)
+        × (found.0 < limit)) }
+    ensures none { IfNone result ((n : ℕ) (rest : List ℕ) → n < limit
+        → bytes.now ≢ decimal n ++ 32 ∷ rest) }
+{
+    match long_number(bytes) {
+        Some((n, rest)) => below_then(bytes, n, rest, limit),
+        None => None,
+    }
+}
+
 /// The number below the limit that stands before the first space, and what follows the space.
 #[inline(always)]
 pub fn number_then(bytes: &[u8], limit: u64) -> Option<(u64, &[u8])>
@@ -178,14 +189,12 @@ pub fn number_then(bytes: &[u8], limit: u64) -> Option<(u64, &[u8])>
         Some((n, rest)) if n < limit => return Some((n, rest)),
         _ => {}
     }
-    let Some((n, rest)) = leading_number(bytes) else {
-        return None;
-    };
-    if n >= limit {
-        return None;
+    let (digits, value) = few_digits(bytes);
+    if digits >= FEW_DIGITS {
+        return long_then(bytes, limit);
     }
-    match after(b" ", rest) {
-        Some(rest) => Some((n, rest)),
+    match number_until(bytes, digits, value) {
+        Some((n, rest)) => below_then(bytes, n, rest, limit),
         None => None,
     }
 }

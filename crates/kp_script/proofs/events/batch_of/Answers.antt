@@ -1,34 +1,28 @@
-use Rattle.std.proofs.Common.{◌≡◌, Option, Some, None, Result, Ok, Err, map, refl, ap, ◌∙◌}
-use Rattle.std.specs.Prelude.{IfErr}
+use Rattle.std.proofs.Common.{◌≡◌, ℕ, [], ◌∷◌, List, IfOk, map, refl, sym, ap, subst, arith}
 use Rattle.std.proofs.lemmas.Result.{IfOk-weaker}
-use Rattle.kp_types.specs.Causes.{IsRefusedBy}
-use Rattle.kp_types.specs.declared.refusal.Refusal.{Refusal}
-use Rattle.kp_types.specs.declared.refusal.Refusal.TheVariants.{Memory}
 use Rattle.kp_record.specs.Made.{plain_record, record_made}
+use Rattle.kp_record.specs.Record.{Record}
 use Rattle.kp_model.specs.Event.{Acts, Produce}
-use Rattle.kp_script.specs.Call.{pieces}
+use Rattle.kp_replica.specs.declared.act.Act.TheVariants.{Produce as HandsIn}
+use Rattle.kp_script.specs.Call.{Append}
 use Rattle.kp_script.specs.Seen.{seen_sender}
-use Rattle.kp_script.specs.Told.{offer_of}
+use Rattle.kp_script.specs.Told.{Tells, offer_of}
 use Rattle.kp_script.specs.Transcript.{largest_batch}
-use Rattle.kp_script.proofs.Values.{some_piece}
-use Rattle.kp_script.proofs.Sizes.{line_size}
-use Rattle.kp_script.proofs.Appending.{no_cause}
+use Rattle.kp_world.specs.declared.event.Event.TheVariants.{Acts as Happens}
+use Rattle.kp_script.proofs.Values.{seen_lone}
+use Rattle.kp_script.proofs.Appending.{no_cause, lacks}
+use Rattle.kp_script.proofs.Sizes.{records_least, records_length}
 use Rattle.kp_script.proofs.Offers.{large_offer, offers}
 use Rattle.kp_script.proofs.events.batch_of.Goals as goal
-
--- what has no cause is refused for want of memory alone
-lacks : {A : Type 0} (cause : Option Refusal) (r : Result A Refusal) → cause ≡ None → IsRefusedBy cause r → IfErr r (λ refusal. refusal ≡ Memory)
-lacks None (Ok x) is h = tt
-lacks None (Err refusal) is h = h
-lacks (Some other) r is h = absurd cc
 
 pub returns-clause-only : goal.returns-clause-only
 returns-clause-only c =
     let time = c.args.time in
-    let values = c.args.values.now in
-    let records : map record_made c.as_slice.result.now ≡ map (plain_record time) (pieces values) = ap (map record_made) c.as_slice.ensures.value ∙ c.in_ok-put_parts.ensures in
-    let none = no_cause time (seen_sender c.args.sender) c.args.transactional (pieces values) c.as_slice.result.now records (some_piece values) c.requires.early (line_size time values c.requires.short) in
-    let refused = rw (c.producer.ensures, c.epoch.ensures, c.sequence.ensures) at c.spell.ensures.refused in
+    let value = c.args.values.now in
+    let records : map record_made (c.part_of.result ∷ []) ≡ plain_record time value ∷ [] = ap (λ (r : Record). r ∷ []) c.part_of.ensures in
+    let none = no_cause time (seen_sender c.args.sender) c.args.transactional (value ∷ []) (c.part_of.result ∷ []) records (omega arith) c.requires.early
+    (omega (arith, records_length time 0 (value ∷ []) (omega arith), c.requires.short)) in
+    let refused = rw (c.fields_of.ensures) at c.spell.ensures.refused in
     lacks _ c.spell.result none refused
 
 pub returns-clause-told : goal.returns-clause-told
@@ -36,29 +30,33 @@ returns-clause-told c =
     let time = c.args.time in
     let sender = seen_sender c.args.sender in
     let transactional = c.args.transactional in
-    let values = pieces c.args.values.now in
-    let parts = c.as_slice.result.now in
-    let records : map record_made parts ≡ map (plain_record time) values = ap (map record_made) c.as_slice.ensures.value ∙ c.in_ok-put_parts.ensures in
-    let spelled = rw (c.producer.ensures, c.epoch.ensures, c.sequence.ensures) at c.spell.ensures.spelled in
-    let offer = offer_of largest_batch time sender transactional values in
-    IfOk-weaker c.spell.result _ _
+    let value = c.args.values.now in
+    let parts = c.part_of.result ∷ [] in
+    let records : map record_made parts ≡ plain_record time value ∷ [] = ap (λ (r : Record). r ∷ []) c.part_of.ensures in
+    let spelled = rw (c.fields_of.ensures) at c.spell.ensures.spelled in
+    let offer = offer_of largest_batch time sender transactional (value ∷ []) in
+    subst (λ (vs : List (List ℕ)). IfOk c.spell.result (λ bytes. (node : ℕ) → Tells largest_batch (Append node time sender transactional vs) (Happens node (HandsIn bytes))))
+    (sym (seen_lone c.args.lone value c.if-not-lone.false))
+    (IfOk-weaker c.spell.result _ _
     (λ bytes is node. record {
       e = Acts node (Produce offer);
       told = refl;
-      is = (Produce offer, (offer, offers largest_batch bytes time sender transactional values parts c.requires.sender records (is largest_batch), refl), refl);
-    }) spelled
+      is = (Produce offer, (offer, offers largest_batch bytes time sender transactional (value ∷ []) parts c.requires.sender records (is largest_batch), refl), refl);
+    }) spelled)
 
 -- without the batch
-pub returns-then-are_too_many-clause-told : goal.returns-then-are_too_many-clause-told
-returns-then-are_too_many-clause-told c = λ node.
+pub returns-then-values-clause-told : goal.returns-then-values-clause-told
+returns-then-values-clause-told c = λ node.
     let time = c.args.time in
     let sender = seen_sender c.args.sender in
     let transactional = c.args.transactional in
-    let values = pieces c.args.values.now in
-    let offer = offer_of largest_batch time sender transactional values in
-    let large = large_offer c.too_large.result time sender transactional values c.too_large.ensures (c.are_too_many.ensures c.if-are_too_many.true time) in
-    record {
+    let value = c.args.values.now in
+    let offer = offer_of largest_batch time sender transactional (value ∷ []) in
+    let large = large_offer c.too_large.result time sender transactional (value ∷ []) c.too_large.ensures (omega (arith, records_least time 0 (value ∷ []) (omega arith))) in
+    subst (λ (vs : List (List ℕ)). Tells largest_batch (Append node time sender transactional vs) (Happens node (HandsIn c.too_large.result)))
+    (sym (seen_lone c.args.lone value c.if-not-lone.false))
+    (record {
       e = Acts node (Produce offer);
       told = refl;
       is = (Produce offer, (offer, large, refl), refl);
-    }
+    })

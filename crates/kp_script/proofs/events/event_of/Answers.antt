@@ -13,7 +13,7 @@ use Rattle.kp_script.proofs.events.event_of.Goals as goal
 
 pub batch_of-requires-clause-short : goal.batch_of-requires-clause-short
 batch_of-requires-clause-short c =
-    values_short c.in-Append.node c.in-Append.time (seen_sender c.in-Append.sender) c.in-Append.transactional c.in-Append.values.now
+    values_short c.in-Append.node c.in-Append.time (seen_sender c.in-Append.sender) c.in-Append.transactional c.in-Append.lone c.in-Append.values.now
     (subst (λ (call : ParsedCall). length (call_text (seen_call call)) ≤ 2100000) c.in-Append.is c.requires.short)
 
 pub returns-in-Acts-clause-told : goal.returns-in-Acts-clause-told

@@ -3,9 +3,8 @@ use Rattle.std.specs.Prelude.{map}
 use Rattle.std.proofs.lemmas.List.{map-append}
 use Rattle.kp_record.specs.Made.{plain_record, record_made}
 use Rattle.kp_record.specs.Record.{Record}
-use Rattle.kp_record.specs.declared.parts.Parts.{Parts}
 use Rattle.kp_script.specs.Call.{pieces}
-use Rattle.kp_script.proofs.Values.{one_piece, first_piece, lacks_from}
+use Rattle.kp_script.proofs.Values.{one_piece, first_piece}
 use Rattle.kp_script.proofs.events.put_parts.Goals as goal
 
 pub loop-value-preserved : goal.loop-value-preserved
@@ -17,7 +16,7 @@ loop-value-preserved c =
     let found = c.in-Some.ensures.found in
     let split : pieces c.loop-value.rest.now ≡ value ∷ pieces after = ap pieces found.0 ∙ first_piece value after found.1 in
     ap (λ (rs : List Record). rs ++ map (plain_record time) (pieces after))
-    (ap (map record_made) c.in_ok-push-2.ensures.items ∙ map-append record_made c.loop-value.parts.items (c.part_of-in-Some.result ∷ []) ∙ ap (λ (r : Record). made ++ r ∷ []) c.part_of-in-Some.ensures)
+    (ap (map record_made) c.in_ok-push.ensures.items ∙ map-append record_made c.loop-value.parts.items (c.part_of.result ∷ []) ∙ ap (λ (r : Record). made ++ r ∷ []) c.part_of.ensures)
     ∙ append_assoc made (plain_record time value ∷ []) (map (plain_record time) (pieces after))
     ∙ ap (λ (ps : List (List ℕ)). made ++ map (plain_record time) ps) (sym split)
     ∙ c.loop-value.invariant
@@ -27,16 +26,7 @@ returns c =
     let made = map record_made c.loop-value.parts.items in
     let time = c.args.time in
     let rest = c.loop-value.rest.now in
-    ap (map record_made) c.in_ok-push-3.ensures.items ∙ map-append record_made c.loop-value.parts.items (c.part_of-2.result ∷ [])
+    ap (map record_made) c.in_ok-push-2.ensures.items ∙ map-append record_made c.loop-value.parts.items (c.part_of-2.result ∷ [])
     ∙ ap (λ (r : Record). made ++ r ∷ []) c.part_of-2.ensures
     ∙ ap (λ (ps : List (List ℕ)). made ++ map (plain_record time) ps) (sym (one_piece rest c.in_default.ensures.none))
     ∙ c.loop-value.invariant
-
--- of one value
-pub returns-then-do_lack : goal.returns-then-do_lack
-returns-then-do_lack c =
-    let values = c.args.values.now in
-    let one = one_piece values (lacks_from 44 values (sym c.do_lack.ensures ∙ c.if-do_lack.true)) in
-    ap (map record_made) (c.in_ok-push.ensures.items ∙ ap (λ (ps : List Parts). ps ++ c.part_of.result ∷ []) c.clear.ensures.items)
-    ∙ ap (λ (r : Record). r ∷ []) c.part_of.ensures
-    ∙ ap (map (plain_record c.args.time)) (sym one)

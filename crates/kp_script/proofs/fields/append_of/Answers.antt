@@ -1,7 +1,8 @@
-use Rattle.std.proofs.Common.{◌≡◌, true, [], sym, ap, ◌∙◌, refl, arith, codes}
+use Rattle.std.proofs.Common.{◌≡◌, ℕ, List, [], sym, ap, subst, ◌∙◌, refl, arith, codes}
 use Rattle.std.proofs.lemmas.Bool.{false≢true}
 use Rattle.std.specs.List.{list_all}
-use Rattle.kp_script.specs.Call.{is_value, values_text, pieces}
+use Rattle.kp_script.specs.Call.{Append, is_value, values_text, pieces}
+use Rattle.kp_script.specs.Read.{AreFields}
 use Rattle.kp_script.specs.Seen.{seen_sender}
 use Rattle.kp_script.proofs.Numbers.{same_field}
 use Rattle.kp_script.proofs.Senders.{same_sender, same_kind}
@@ -38,8 +39,8 @@ returns-in_default-kind_then-clause-none c = no_fields c.args.count (codes "appe
     let behind = same_sender c.in-Some-number_then.rest.now (seen_sender c.in-Some-sender_then.sender) sender c.in-Some-sender_then.rest.now _ third.1 range.2 third.0 rest in
     c.in_default-kind_then.ensures.none transactional (values_text values) behind.1)
 
-pub returns-then-not-are_values-clause-none : goal.returns-then-not-are_values-clause-none
-returns-then-not-are_values-clause-none c = no_fields c.args.count (codes "append") c.args.fields.now (λ node time sender transactional values range e.
+pub returns-in_default-are_lone-clause-none : goal.returns-in_default-are_lone-clause-none
+returns-in_default-are_lone-clause-none c = no_fields c.args.count (codes "append") c.args.fields.now (λ node time sender transactional values range e.
     let found = c.in-Some.ensures.found in
     let next = c.in-Some-number_then.ensures.found in
     let rest = same_rest c.args.fields.now c.in-Some.rest.now c.in-Some-number_then.rest.now c.in-Some.node node c.in-Some-number_then.time time _
@@ -49,7 +50,7 @@ returns-then-not-are_values-clause-none c = no_fields c.args.count (codes "appen
     let text = c.in-Some-kind_then.values.now in
     let same = same_kind c.in-Some-sender_then.rest.now c.in-Some-kind_then.transactional transactional text (values_text values) c.in-Some-kind_then.ensures.found behind.1 in
     let back : pieces text ≡ values = ap pieces same.1 ∙ values_back values range.3 range.4 in
-    false≢true (c.if-not-are_values.ensures ∙ ap (list_all is_value) back ∙ range.4))
+    false≢true (sym c.in_default-are_lone.ensures.none ∙ ap (list_all is_value) back ∙ range.4))
 
 pub returns-clause-found : goal.returns-clause-found
 returns-clause-found c =
@@ -58,9 +59,13 @@ returns-clause-found c =
     let third = c.in-Some-sender_then.ensures.found in
     let sender = seen_sender c.in-Some-sender_then.sender in
     let values = c.in-Some-kind_then.values.now in
-    let lawful : list_all is_value (pieces values) ≡ true = sym c.if-not-are_values.ensures in (
-      (omega (arith, found), omega (arith, next), third.1, some_piece values, lawful),
+    let node = c.in-Some.node in
+    let time = c.in-Some-number_then.time in
+    let transactional = c.in-Some-kind_then.transactional in
+    let lone = c.in-Some-are_lone.ensures in
+    subst (λ (vs : List (List ℕ)). AreFields c.args.count (codes "append") c.args.fields.now (Append node time sender transactional vs)) (sym lone.lone) (
+      (omega (arith, found), omega (arith, next), third.1, some_piece values, lone.values),
       refl,
-      append_spelled c.args.fields.now c.in-Some.rest.now c.in-Some-number_then.rest.now c.in-Some-sender_then.rest.now values c.in-Some.node c.in-Some-number_then.time sender c.in-Some-kind_then.transactional
+      append_spelled c.args.fields.now c.in-Some.rest.now c.in-Some-number_then.rest.now c.in-Some-sender_then.rest.now values node time sender transactional
           found.0 next.0 third.0 c.in-Some-kind_then.ensures.found,
     )

@@ -1,6 +1,6 @@
 use Rattle.std.proofs.Common.{arith, ◌<◌, ◌≤◌, ◌-◌, get_or, length}
 use Rattle.kp_script.proofs.Numbers.{digit_fits, digits_grow}
-use Rattle.kp_script.proofs.words.leading_number.Goals as goal
+use Rattle.kp_script.proofs.words.few_digits.Goals as goal
 
 pub overflow_mul-value : goal.overflow_mul-value
 overflow_mul-value c =

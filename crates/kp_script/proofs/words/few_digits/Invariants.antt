@@ -1,6 +1,6 @@
 use Rattle.std.proofs.Common.{◌≡◌, ◌<◌, ◌≤◌, ◌-◌, ◌^◌, length, min, take}
 use Rattle.std.specs.Str.Parse.{AllDigits, digits_value}
-use Rattle.kp_script.proofs.words.leading_number.Given as goal
+use Rattle.kp_script.proofs.words.few_digits.Given as goal
 
 abbrev pub invariant-loop-digits : goal.invariant-loop-digits
 invariant-loop-digits l = record {
