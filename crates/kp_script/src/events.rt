@@ -95,12 +95,12 @@ fn too_large() -> Handed
 #[inline(always)]
 fn fields_of(time: u64, sender: Sender, transactional: bool) -> Fields
     ensures { result ≡ record {
-        base_timestamp = time;
-        producer_id = (seen_sender sender).producer;
-        producer_epoch = (seen_sender sender).epoch;
-        base_sequence = (seen_sender sender).sequence;
-        transactional = transactional;
-        control = false;
+      base_timestamp = time;
+      producer_id = (seen_sender sender).producer;
+      producer_epoch = (seen_sender sender).epoch;
+      base_sequence = (seen_sender sender).sequence;
+      transactional = transactional;
+      control = false;
     } }
 {
     Fields {
