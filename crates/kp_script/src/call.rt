@@ -254,6 +254,20 @@ fn named_call<'a>(verb: &[u8], fields: &'a [u8], count: NodeId) -> Option<Call<'
     }
 }
 
+/// The delivery of the message whose number is the whole of these fields.
+#[inline(always)]
+fn delivery_of(fields: &[u8], count: NodeId) -> Option<Call<'_>>
+    ensures found { IfSome result (λ call.
+        AreFields count (codes "deliver") fields.now (seen_call call)) }
+    ensures none { IfNone result (AreNoFields count (codes "deliver") fields.now) }
+{
+    let _ = count; // a message is any node's
+    match number_below(fields, GREATEST_MESSAGE + 1) {
+        Some(number) => Some(Call::Deliver { number }),
+        None => None,
+    }
+}
+
 /// The call of this verb whose fields are numbers, the whole of these.
 #[inline(always)]
 fn numbers_call<'a>(verb: &[u8], fields: &'a [u8], count: NodeId) -> Option<Call<'a>>
@@ -284,9 +298,7 @@ fn numbers_call<'a>(verb: &[u8], fields: &'a [u8], count: NodeId) -> Option<Call
             node,
             act: PlainAct::Committed { from },
         }),
-        b"deliver" => number_below(fields, GREATEST_MESSAGE + 1).map(|number| Call::Deliver {
-            number,
-        }),
+        b"deliver" => delivery_of(fields, count),
         _ => named_call(verb, fields, count),
     }
 }
@@ -307,11 +319,14 @@ fn call_with<'a>(verb: &[u8], fields: &'a [u8], count: NodeId) -> Option<Call<'a
 
 /// The call that the whole line spells, where there are so many nodes: whichever it is.
 #[inline(never)]
-fn any_call(line: &[u8], count: NodeId) -> Option<Call<'_>>
+pub(crate) fn any_call(line: &[u8], count: NodeId) -> Option<Call<'_>>
     requires { length line.now ≤ 2100000 }
     ensures found { IfSome result (λ call. IsCallText count line.now (seen_call call)) }
     ensures none { IfNone result (SpellsNoCall count line.now) }
 {
+    if let Some(fields) = after(b"deliver ", line) {
+        return delivery_of(fields, count);
+    }
     match split_first_at(b' ', line) {
         Some((verb, fields)) => call_with(verb, fields, count),
         None => None,
@@ -319,9 +334,7 @@ fn any_call(line: &[u8], count: NodeId) -> Option<Call<'_>>
 }
 
 /// The call that the whole line spells, where there are so many nodes. Takes time proportional to the line, and no
-/// memory. Most lines of a script are appends, so those are told first. It is put into its callers, so that a call is built where it
-/// is stored.
-#[inline(always)]
+/// memory. Most lines of a script are appends, so those are told first.
 pub fn call_of(line: &[u8], count: NodeId) -> Option<Call<'_>>
     ensures found { IfSome result (λ call. IsCallText count line.now (seen_call call)) }
     ensures none { IfNone result (SpellsNoCall count line.now) }

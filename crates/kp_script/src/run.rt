@@ -1,15 +1,17 @@
 //! A script run from its bytes to its trace's bytes.
 
-ghost use Rattle.std.specs.Prelude.{◌≡◌, ◌+◌, ◌<◌, ◌≤◌, ◌^◌, ℕ, [], IfOk, IfErr, IfSome, OnErr, Err, length, map, take};
+ghost use Rattle.std.specs.Prelude.{◌≡◌, ◌+◌, ◌<◌, ◌≤◌, ◌^◌, ℕ, [], ◌∷◌, ◌++◌, IfOk, IfErr, IfSome, OnErr, Err, length, map, take};
 ghost use Rattle.std.specs.List.{AllByRecursion};
 ghost use Rattle.kp_types.specs.declared.refusal.Refusal.TheVariants.{BadScript, Device as DeviceFault, Memory as WantOfMemory};
 ghost use Rattle.kp_types.specs.Devices.{CountsFaults, CountsOne, IsDeviceFault, device_of, faults_of};
-ghost use Rattle.kp_script.specs.Call.{IsCall};
+ghost use Rattle.kp_script.specs.Call.{IsCall, Acts, Deliver};
 ghost use Rattle.kp_script.specs.Ended.{limits_in, AreLimited, WritesTo};
 ghost use Rattle.kp_script.specs.Playing.{BeginFrom, IsFirstWhole, IsWithin, PlayTo, PlaysOne, left_in};
 ghost use Rattle.kp_script.specs.Script.{IsFaultAt};
 ghost use Rattle.kp_script.specs.Seen.{seen_call, seen_header, seen_line};
-ghost use Rattle.kp_script.specs.Transcript.{IsRunRefusal, Writes, WritesFirst, WritesFront};
+ghost use Rattle.kp_script.specs.Trace.{trace_line};
+ghost use Rattle.kp_script.specs.Transcript.{IsRunRefusal, Writes, WritesFirst, WritesFront, refusals_in};
+ghost use Rattle.kp_world.specs.Answers.{outcome_of};
 
 use crate::call::{Call, Header};
 use crate::ended::Ended;
@@ -17,8 +19,9 @@ use crate::events::{LONGEST_VALUE, batch_of_value, event_of};
 use crate::script::{Line, parse};
 use crate::trace::{push_append, push_event};
 use kp_batch::{Parts, Speller};
+use kp_replica::{Act, PlainAct};
 use kp_types::{Counted, Limits, MAX_BATCH, NodeId, Refusal};
-use kp_world::World;
+use kp_world::{EventAnswer, World};
 use std::alloc::Global;
 use std::collections::VecDeque;
 use std::io::{Read, Write};
@@ -98,7 +101,75 @@ pub(crate) fn play_line<'a>(
             return Ok(u64::from(receipt.is_err()));
         }
     }
-    play_any(alloc, line, count, world, work, parts)
+    match line.call {
+        Call::Deliver { number } => play_delivery(alloc, line.number, number, world, work),
+        Call::Acts { node, act } => play_act(alloc, line.number, node, act, world, work),
+        _ => play_any(alloc, line, count, world, work, parts),
+    }
+}
+
+/// Puts the line of an event that names this node behind the text. Answers 1 where the event was refused, and else 0.
+#[inline(always)]
+fn tell(
+    text: &mut Vec<u8>,
+    number: u64,
+    node: NodeId,
+    outcome: &Result<EventAnswer, Refusal>,
+) -> Result<u64, Refusal>
+    ensures told { IfOk result (λ refused.
+        (text.new.items ≡ text.old.items ++ trace_line number node (outcome_of outcome.now))
+        × (refused ≡ refusals_in (outcome_of outcome.now ∷ []))) }
+    ensures few { IfOk result (λ refused. refused ≤ 1) }
+    ensures only { IfErr result (λ refusal. refusal ≡ WantOfMemory) }
+{
+    push_event(text, number, node, outcome)?;
+    Ok(u64::from(outcome.is_err()))
+}
+
+/// Does what [`play_line`] does for a delivery of this message. What the world answers is told where it lies.
+#[inline(never)]
+fn play_delivery(
+    alloc: Global,
+    line: u64,
+    message: u64,
+    world: &mut World,
+    work: &mut Work,
+) -> Result<u64, Refusal>
+    ensures played { IfOk result (λ refused.
+        PlaysOne (line, Deliver message) world.old world.new refused work.old.text.items work.new.text.items) }
+    ensures nodes { length world.new.nodes ≡ length world.old.nodes }
+    ensures few { IfOk result (λ refused. refused ≤ 1) }
+    ensures only { IfErr result (λ refusal. refusal ≡ WantOfMemory) }
+{
+    let delivered = world.deliver(alloc, message);
+    match &delivered {
+        Ok(outcome) => tell(&mut work.text, line, 0, outcome),
+        Err(_) => Err(Refusal::Memory),
+    }
+}
+
+/// Does what [`play_line`] does where a node acts. What the world answers is told where it lies.
+#[inline(never)]
+fn play_act(
+    alloc: Global,
+    line: u64,
+    node: NodeId,
+    act: PlainAct,
+    world: &mut World,
+    work: &mut Work,
+) -> Result<u64, Refusal>
+    requires { node < length world.old.nodes }
+    ensures played { IfOk result (λ refused.
+        PlaysOne (line, Acts node act) world.old world.new refused work.old.text.items work.new.text.items) }
+    ensures nodes { length world.new.nodes ≡ length world.old.nodes }
+    ensures few { IfOk result (λ refused. refused ≤ 1) }
+    ensures only { IfErr result (λ refusal. refusal ≡ WantOfMemory) }
+{
+    let acted = world.act(alloc, node, Act::Plain(act));
+    match &acted {
+        Ok(outcome) => tell(&mut work.text, line, node, outcome),
+        Err(_) => Err(Refusal::Memory),
+    }
 }
 
 /// Does what [`play_line`] does, for any line. It is no part of its caller, which would clear room for what it answers.
@@ -123,8 +194,7 @@ fn play_any<'a>(
     let Ok(outcome) = world.step(alloc, event) else {
         return Err(Refusal::Memory);
     };
-    push_event(&mut work.text, line, &outcome)?;
-    Ok(u64::from(outcome.is_err()))
+    tell(&mut work.text, line.number, line.call.node(), &outcome)
 }
 
 /// Plays lines from the first one on until their trace has so many bytes that it is written, and writes it. F33, and then nothing is

@@ -1,13 +1,16 @@
 //! The whole script, and its parser.
 
-ghost use Rattle.std.specs.Prelude.{◌≡◌, ℕ, [], ◌∷◌, ◌++◌, IfOk, IfErr, OnOk, Err};
+ghost use Rattle.std.specs.Prelude.{◌≡◌, ℕ, [], ◌∷◌, ◌++◌, IfOk, IfErr, IfSome, IfNone, OnOk, Err};
+ghost use Rattle.kp_script.specs.Call.{IsCallText, SpellsNoCall};
 ghost use Rattle.kp_script.specs.Script.{IsScript, IsFaultAt, IsScriptRefusal};
-ghost use Rattle.kp_script.specs.Seen.{lines_in, seen_script};
+ghost use Rattle.kp_script.specs.Seen.{lines_in, seen_call, seen_script};
 ghost use Rattle.kp_types.specs.declared.refusal.Refusal.TheVariants.{BadScript};
 
-use crate::call::{Call, Header, call_of, header_of};
-use crate::lines::next_counted;
-use kp_types::Refusal;
+use crate::call::{Call, Header, any_call, header_of};
+use crate::fields::append_of;
+use crate::lines::{LONGEST_LINE, next_counted};
+use crate::words::after;
+use kp_types::{NodeId, Refusal};
 use std::alloc::{AllocError, Global};
 use std::collections::VecDeque;
 use std::mem::replace;
@@ -59,6 +62,39 @@ fn push_line<'a>(
     Ok(())
 }
 
+/// Puts the call that the whole line spells behind those of the last piece, as the event of this line, and answers it; nothing where
+/// the line spells none. An append is put there by itself, so that it is built where it is stored. It fails where memory runs out.
+#[inline(always)]
+fn push_call<'a>(
+    alloc: Global,
+    pieces: &mut VecDeque<Vec<Line<'a>>>,
+    last: &mut Vec<Line<'a>>,
+    number: u64,
+    line: &'a [u8],
+    count: NodeId,
+) -> Result<Option<Call<'a>>, AllocError>
+    ensures call { IfOk result (λ told. IfSome told (λ call. IsCallText count line.now (seen_call call))) }
+    ensures put { IfOk result (λ told. IfSome told (λ call. lines_in pieces.new.items ++ last.new.items
+        ≡ (lines_in pieces.old.items ++ last.old.items) ++ record { number = number; call = call } ∷ [])) }
+    ensures none { IfOk result (λ told. IfNone told (SpellsNoCall count line.now)) }
+{
+    if line.len() > LONGEST_LINE {
+        return Ok(None);
+    }
+    if let Some(fields) = after(b"append ", line) {
+        let Some(call) = append_of(fields, count) else {
+            return Ok(None);
+        };
+        push_line(alloc, pieces, last, Line { number, call })?;
+        return Ok(Some(call));
+    }
+    let Some(call) = any_call(line, count) else {
+        return Ok(None);
+    };
+    push_line(alloc, pieces, last, Line { number, call })?;
+    Ok(Some(call))
+}
+
 /// The script that these bytes are. A refusal has the number of the first line that can't stand where it
 /// stands, or is one of memory. Takes time proportional to the bytes, and 56 bytes of memory for each line: the calls
 /// borrow their values and digits from the bytes.
@@ -83,14 +119,17 @@ pub fn parse(alloc: Global, bytes: &[u8]) -> Result<Script<'_>, Refusal>
         if events == MOST_EVENTS {
             return Err(Refusal::BadScript(next.number));
         }
-        let Some(call) = call_of(next.line, header.count) else {
+        let told = push_call(
+            alloc,
+            &mut pieces,
+            &mut last,
+            next.number,
+            next.line,
+            header.count,
+        )?;
+        let Some(_call) = told else {
             return Err(Refusal::BadScript(next.number));
         };
-        let line = Line {
-            number: next.number,
-            call,
-        };
-        push_line(alloc, &mut pieces, &mut last, line)?;
         events += 1;
         rest = next.rest;
         number = next.number + 1;

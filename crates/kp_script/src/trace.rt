@@ -14,7 +14,7 @@ ghost use Rattle.kp_script.specs.Seen.{seen_call};
 ghost use Rattle.kp_script.specs.Trace.{end_text, epoch_text, isr_text, leader_text, life_text, line_text, lines_text, nodes_text, record_text, reply_text, outcome_text, trace_line, trace_text};
 
 use crate::script::Line;
-use crate::text::{push_byte, push_hex, push_named, push_number};
+use crate::text::{push_at, push_byte, push_hex, push_named, push_number, push_spaced};
 use kp_model::{EpochEnd, Leader, LeaderAndIsr, NodeSet, Said};
 use kp_replica::{Answer, Receipt, Role, Shown};
 use kp_types::{Epoch, NodeId, Offset, Refusal};
@@ -27,8 +27,7 @@ fn push_line(text: &mut Vec<u8>, line: ReadRecord<'_>) -> Result<(), AllocError>
     ensures { OnOk result
         (text.new.items ≡ text.old.items ++ 32 ∷ line_text (line_of line.entry)) }
 {
-    push_byte(text, b' ')?;
-    push_number(text, line.offset)?;
+    push_spaced(text, line.offset)?;
     match line.value {
         Some(bytes) => {
             push_byte(text, b'=')?;
@@ -285,25 +284,9 @@ fn push_outcome(
     }
 }
 
-/// Appends what was answered to bytes that were handed to this node.
-#[inline(always)]
+/// Does what [`push_append`] does, whatever was answered.
+#[inline(never)]
 fn push_appended(
-    text: &mut Vec<u8>,
-    node: NodeId,
-    receipt: &Result<Receipt, Refusal>,
-) -> Result<(), AllocError>
-    ensures { OnOk result
-        (text.new.items ≡ text.old.items ++ outcome_text node (outcome_of (appended receipt.now))) }
-{
-    match receipt {
-        Ok(receipt) => push_receipt(text, node, receipt),
-        Err(refusal) => push_refusal(text, refusal),
-    }
-}
-
-/// Appends an append's line, as [`push_event`] does.
-#[inline(always)]
-pub(crate) fn push_append(
     text: &mut Vec<u8>,
     number: u64,
     node: NodeId,
@@ -314,23 +297,44 @@ pub(crate) fn push_append(
 {
     push_number(text, number)?;
     push_byte(text, b' ')?;
-    push_appended(text, node, receipt)?;
+    match receipt {
+        Ok(receipt) => push_receipt(text, node, receipt)?,
+        Err(refusal) => push_refusal(text, refusal)?,
+    }
     push_byte(text, b'\n')
 }
 
-/// Appends an event's line: the number of the script's line, and what was answered. Takes time proportional to the text that it
-/// appends, and fails where memory runs out.
+/// Appends an append's line, as [`push_event`] does. Most say where the batch stands.
+#[inline(always)]
+pub(crate) fn push_append(
+    text: &mut Vec<u8>,
+    number: u64,
+    node: NodeId,
+    receipt: &Result<Receipt, Refusal>,
+) -> Result<(), AllocError>
+    ensures { OnOk result (text.new.items ≡ text.old.items
+        ++ trace_line number node (outcome_of (appended receipt.now))) }
+{
+    match receipt {
+        Ok(receipt) if !receipt.duplicate => push_at(text, number, receipt.base),
+        _ => push_appended(text, number, node, receipt),
+    }
+}
+
+/// Appends the line of an event that names this node: the number of the script's line, and what was answered. Takes time
+/// proportional to the text that it appends, and fails where memory runs out.
 pub(crate) fn push_event(
     text: &mut Vec<u8>,
-    line: &Line<'_>,
+    number: u64,
+    node: NodeId,
     outcome: &Result<EventAnswer, Refusal>,
 ) -> Result<(), AllocError>
     ensures { OnOk result (text.new.items ≡ text.old.items
-        ++ trace_line line.now.number (node_of (seen_call line.now.call)) (outcome_of outcome.now)) }
+        ++ trace_line number node (outcome_of outcome.now)) }
 {
-    push_number(text, line.number)?;
+    push_number(text, number)?;
     push_byte(text, b' ')?;
-    push_outcome(text, line.call.node(), outcome)?;
+    push_outcome(text, node, outcome)?;
     push_byte(text, b'\n')
 }
 
@@ -347,7 +351,7 @@ pub fn push_trace(
         (map outcome_of outcomes.now)) }
 {
     for (line, outcome) in lines.iter().zip(outcomes) {
-        push_event(text, line, outcome)?;
+        push_event(text, line.number, line.call.node(), outcome)?;
     }
     Ok(())
 }

@@ -166,9 +166,10 @@ impl World {
     }
 
     /// The message of this number comes to the node to which it goes, or a proposal to the controller, which decides on it; F29
-    /// where no message has it. An `Err` says that there was no room for a message more, and nothing has happened.
+    /// where no message has it. An `Err` says that there was no room for a message more, and nothing has happened. It is what
+    /// [`World::step`] does with that event, whose cost it has.
     #[inline(never)]
-    fn deliver(
+    pub fn deliver(
         &mut self,
         alloc: Global,
         number: u64,
@@ -202,8 +203,10 @@ impl World {
         Ok(carry_out(&mut self.messages, outcome))
     }
 
-    /// The node does this. An `Err` gives the act back: there was no room for a message more, and nothing has happened.
-    fn act(
+    /// The node does this. An `Err` gives the act back: there was no room for a message more, and nothing has happened. It is what
+    /// [`World::step`] does with that event, whose cost it has.
+    #[inline(always)]
+    pub fn act(
         &mut self,
         alloc: Global,
         node: NodeId,

@@ -1,4 +1,4 @@
-use Rattle.std.proofs.Common.{◌≡◌, ◌+◌, ◌++◌, ◌∙◌, [], ◌∷◌, List, ap, append-nil, length, map, sym, subst, arith}
+use Rattle.std.proofs.Common.{◌≡◌, ◌+◌, ◌++◌, ◌∙◌, [], ◌∷◌, List, ap, append-nil, length, map, sym, subst, arith, rules}
 use Rattle.std.proofs.lemmas.Grind.{flat_map-append}
 use Rattle.kp_script.specs.Script.{IsFaultAt, IsScript}
 use Rattle.kp_script.specs.Seen.{lines_in, seen_header, seen_line}
@@ -33,13 +33,13 @@ returns-then-events-eq-MOST_EVENTS-clause-fault c = λ line e.
     (fault_of_count c.args.bytes.now (seen_header c.in-Some.header) (lines_in c.loop-next.pieces.items ++ c.loop-next.last.items) c.loop-next.number c.loop-next.rest.now next.number next.line.now (next.number + 1) next.rest.now
     c.loop-next.invariant.progress c.in-Ok-next_counted.ensures.found (sym c.loop-next.invariant.events ∙ c.if-events-eq-MOST_EVENTS.true))
 
-pub returns-in_default-call_of-clause-fault : goal.returns-in_default-call_of-clause-fault
-returns-in_default-call_of-clause-fault c = λ line e.
+pub returns-in_default-told-clause-fault : goal.returns-in_default-told-clause-fault
+returns-in_default-told-clause-fault c = λ line e.
     let same : c.in-Ok-next_counted.next.number ≡ line = cc in
     let next = c.in-Ok-next_counted.next in
     subst (IsFaultAt c.args.bytes.now) same
     (fault_of_call c.args.bytes.now (seen_header c.in-Some.header) (lines_in c.loop-next.pieces.items ++ c.loop-next.last.items) c.loop-next.number c.loop-next.rest.now next.number next.line.now (next.number + 1) next.rest.now
-    c.loop-next.invariant.progress c.in-Ok-next_counted.ensures.found c.in_default-call_of.ensures.none)
+    c.loop-next.invariant.progress c.in-Ok-next_counted.ensures.found (search rules))
 
 pub returns-clause-found : goal.returns-clause-found
 returns-clause-found c =

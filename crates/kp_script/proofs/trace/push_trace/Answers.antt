@@ -1,4 +1,4 @@
-use Rattle.std.proofs.Common.{rules, ◌≡◌, ◌++◌, length}
+use Rattle.std.proofs.Common.{rules, ℕ, ◌≡◌, ◌∙◌, ◌++◌, length, ap}
 use Rattle.kp_world.specs.Answers.{outcome_of}
 use Rattle.kp_script.specs.Trace.{trace_line}
 use Rattle.kp_script.proofs.Tracing.{grown, traced_more}
@@ -20,5 +20,7 @@ loop-line-preserved c =
     let more = traced_more (λ (l : Line). (l.number, node_of (seen_call l.call))) outcome_of c.args.lines.now c.args.outcomes.now (length c.loop-line.yielded)
     c.in-Some.line.now c.in-Some.outcome.now turn.0 turn.1 (turn.2 c.in-Some.line.now) (turn.3 c.in-Some.outcome.now) in
     let line : c.push_event.new.text.items ≡ c.loop-line.text.items ++ trace_line c.in-Some.line.now.number (node_of (seen_call c.in-Some.line.now.call)) (outcome_of c.in-Some.outcome.now) =
-    c.in_ok-push_event.ensures in
+    c.in_ok-push_event.ensures
+    ∙ ap (λ (node : ℕ). c.loop-line.text.items ++ trace_line c.in-Some.line.now.number node (outcome_of c.in-Some.outcome.now)) c.node.ensures
+    in
     rw length_push (grown _ _ _ _ _ _ line c.loop-line.invariant more)
