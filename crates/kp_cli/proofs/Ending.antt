@@ -1,7 +1,5 @@
 -- What a run and an inspection have written.
-use Rattle.std.proofs.Common.{◌≡◌, ◌⊎◌, ◌≤◌, IsSomeAnd, ℕ, List, Option, None, Some, IfSome, Result, Ok, Err, inl, inr, zero, suc, arith, nat_lt, sym, refl, ap, subst}
-use Rattle.std.proofs.lemmas.Bool.{lt-ltb}
-use mir.Val.{bool_byte}
+use Rattle.std.proofs.Common.{◌≡◌, ◌⊎◌, ◌≤◌, IsSomeAnd, ℕ, List, Option, None, Some, IfSome, Result, Err, inl, inr, sym, refl, subst}
 use Rattle.std.proofs.KnownBytes.{Keeps-refl}
 use Rattle.std.specs.Io.KnownBytes.{Keeps}
 use Rattle.kp_types.specs.declared.counted.Counted.{Counted}
@@ -24,7 +22,7 @@ use Rattle.kp_cli.specs.Line.{IsCallOf, file_of, keep_of}
 use Rattle.kp_cli.specs.Program.{Around, Asks, Ends, EndsAsked, EndsOpened, EndsUnopened, Known}
 use Rattle.kp_cli.specs.declared.call.Call.{Call}
 use Rattle.kp_cli.specs.declared.call.Call.TheVariants.{Race}
-use Rattle.kp_cli.specs.Perform.{CountsOneOfThree, Inspects, RunsScript, status_of}
+use Rattle.kp_cli.specs.Perform.{CountsOneOfThree, Inspects, RunsScript}
 
 pub inspects_front : (limits : Limits) (input old new : Option (List ℕ)) (refusal : Refusal) → IsDeviceFault refusal → WritesFront limits input old new
     → Inspects limits input old new (Err refusal)
@@ -45,11 +43,6 @@ run_refused input old new (refusals.BadScript line) only fault first front = fau
 run_refused input old new refusals.Device only fault first front = front
 run_refused input old new refusals.Memory only fault first front = (first refl, front)
 run_refused input old new _ only fault first front = absurd only
-
--- a run's status says whether an event was refused
-pub ran_status : (refused : ℕ) → bool_byte (nat_lt 0 refused) ≡ status_of (Ok refused)
-ran_status zero = refl
-ran_status (suc refused) = ap bool_byte (lt-ltb 0 (suc refused) (omega arith))
 
 -- a writer that is the same keeps what it holds
 pub same_kept : {W : Type 0} (contents : W → Option (List ℕ)) (a b : Counted W) → b ≡ a → Keeps (contents (device_of a)) (contents (device_of b))

@@ -5,6 +5,7 @@ ghost use Rattle.kp_types.specs.Devices.{faults_of};
 ghost use Rattle.kp_cli.specs.Piped.{Answers, EndsPipe, PipesAndKeeps};
 
 use crate::devices::Explained;
+use crate::running::end;
 use crate::telling::{refuse, refuse_since};
 use kp_script::{LineReader, Piped, play_pipe};
 use kp_types::{Counted, Folder, Refusal};
@@ -42,7 +43,7 @@ pub fn pipe<I: Read + Drop, W: Write, E: Write>(
     ensures { EndsPipe W.contents E.contents (I.remaining input) out.old out.new err.old err.new result }
 {
     match play_input(alloc, input, out) {
-        Ok(piped) => u8::from(piped.refused() > 0),
+        Ok(piped) => end(piped.refused(), piped),
         Err(refusal) => refuse(err, refusal),
     }
 }
@@ -69,7 +70,7 @@ pub fn pipe_and_keep<I: Read + Drop, K: Folder + Explained, W: Write, E: Write>(
         Err(refusal) => return refuse(err, refusal),
     };
     match piped.write_logs(alloc, folder) {
-        Ok(()) => u8::from(piped.refused() > 0),
+        Ok(()) => end(piped.refused(), piped),
         Err(refusal) => refuse_since(err, refusal, keep, folder, put),
     }
 }

@@ -1,11 +1,11 @@
 //! What the command line asks for, done.
 
-ghost use Rattle.std.specs.Prelude.{◌≡◌, ◌+◌, ◌<◌, ◌^◌, ℕ, false};
+ghost use Rattle.std.specs.Prelude.{◌≡◌, ◌+◌, ◌<◌, ◌^◌, ℕ, Ok, false};
 ghost use Rattle.kp_types.specs.Devices.{faults_of};
 ghost use Rattle.kp_race.specs.declared.outcome.Plan.{Plan as SomePlan};
 ghost use Rattle.kp_cli.specs.declared.call.Call.TheVariants.{Race};
 ghost use Rattle.kp_cli.specs.Line.{is_pipe};
-ghost use Rattle.kp_cli.specs.Perform.{Inspects, PerformsCall, PerformsReading, RunsAndKeeps, RunsScript};
+ghost use Rattle.kp_cli.specs.Perform.{Inspects, PerformsCall, PerformsReading, RunsAndKeeps, RunsScript, status_of};
 
 use crate::Call;
 use crate::devices::Explained;
@@ -17,6 +17,16 @@ use kp_script::play_script;
 use kp_types::{Counted, Folder, Limits, MAX_BATCH, NodeId, Refusal};
 use std::alloc::Global;
 use std::io::{Read, Write};
+use std::mem::forget;
+
+/// The exit status of a run that has come to its end, with so many events refused: 1 where there is one, else 0. What its nodes hold
+/// isn't given back piece by piece, as the program ends here, and its memory with it. O(1).
+pub(crate) fn end<T: Drop>(refused: u64, nodes: T) -> u8
+    ensures { result ≡ status_of (Ok refused) }
+{
+    forget(nodes);
+    u8::from(refused > 0)
+}
 
 /// Plays the script that the reader holds, of which this is the path, and answers the exit status.
 fn play<R: Read + Explained, W: Write, E: Write>(
@@ -35,7 +45,7 @@ fn play<R: Read + Explained, W: Write, E: Write>(
 {
     let faults = reader.faults();
     match play_script(alloc, reader, out) {
-        Ok(ended) => u8::from(ended.refused() > 0),
+        Ok(ended) => end(ended.refused(), ended),
         Err(refusal) => refuse_since(err, refusal, path, reader, faults),
     }
 }
@@ -139,7 +149,7 @@ pub fn run_and_keep<R: Read + Explained, K: Folder + Explained, W: Write, E: Wri
         Err(refusal) => return refuse_since(err, refusal, file, reader, read),
     };
     match ended.write_logs(alloc, folder) {
-        Ok(()) => u8::from(ended.refused() > 0),
+        Ok(()) => end(ended.refused(), ended),
         Err(refusal) => refuse_since(err, refusal, keep, folder, put),
     }
 }

@@ -1,7 +1,6 @@
-use Rattle.std.proofs.Common.{◌∙◌, ℕ, nat_lt, Ok, Err, inr, refl, ap}
-use mir.Val.{bool_byte}
+use Rattle.std.proofs.Common.{◌∙◌, ℕ, Ok, Err, inr, refl, ap}
 use Rattle.kp_types.specs.Devices.{faults_of}
-use Rattle.kp_cli.proofs.Ending.{ran_status}
+use Rattle.kp_cli.specs.Perform.{status_of}
 use Rattle.kp_cli.proofs.Lines.{told_since}
 use Rattle.kp_cli.proofs.piping.pipe_and_keep.Goals as goal
 
@@ -14,12 +13,12 @@ returns-in-Ok-write_logs g c = inr (
     (refl, c.in-Ok-write_logs.ensures.ok),
     c.in-Ok-write_logs.ensures.counted,
     refl,
-    c.from.ensures ∙ ap (λ (n : ℕ). bool_byte (nat_lt 0 n)) c.refused.ensures ∙ ran_status c.in-Ok.piped.refused,
+    c.end.ensures ∙ ap (λ (n : ℕ). status_of (Ok n)) c.refused.ensures,
   ),
 )
 
-pub returns : goal.returns
-returns g c = inr (
+pub returns-in-Err-write_logs : goal.returns-in-Err-write_logs
+returns-in-Err-write_logs g c = inr (
   c.in-Ok.piped,
   c.in-Ok.ensures,
   (

@@ -1,7 +1,7 @@
-use Rattle.std.proofs.Common.{◌∙◌, ℕ, nat_lt, Ok, Err, refl, ap}
-use mir.Val.{bool_byte}
+use Rattle.std.proofs.Common.{◌∙◌, ℕ, Ok, Err, refl, ap}
 use Rattle.kp_types.specs.Devices.{faults_of}
-use Rattle.kp_cli.proofs.Ending.{ran, ran_status, run_refused, same_kept}
+use Rattle.kp_cli.proofs.Ending.{ran, run_refused, same_kept}
+use Rattle.kp_cli.specs.Perform.{status_of}
 use Rattle.kp_cli.proofs.Lines.{told_since}
 use Rattle.kp_cli.proofs.running.play.Goals as goal
 
@@ -11,7 +11,7 @@ returns-in-Ok g c = (
   ran _ _ _ c.in-Ok.ended c.in-Ok.ensures.played,
   c.in-Ok.ensures.counted,
   refl,
-  c.from.ensures ∙ ap (λ (n : ℕ). bool_byte (nat_lt 0 n)) c.refused.ensures ∙ ran_status c.in-Ok.ended.refused,
+  c.end.ensures ∙ ap (λ (n : ℕ). status_of (Ok n)) c.refused.ensures,
 )
 
 pub returns-in-Err : goal.returns-in-Err

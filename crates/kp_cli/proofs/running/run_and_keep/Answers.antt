@@ -1,9 +1,9 @@
-use Rattle.std.proofs.Common.{◌∙◌, ℕ, nat_lt, Ok, Err, inl, inr, refl, ap}
-use mir.Val.{bool_byte}
+use Rattle.std.proofs.Common.{◌∙◌, ℕ, Ok, Err, inl, inr, refl, ap}
 use Rattle.kp_types.proofs.Filing.{put_none}
 use Rattle.kp_types.specs.Devices.{faults_of}
 use Rattle.kp_cli.specs.Told.{reason_of}
-use Rattle.kp_cli.proofs.Ending.{kept_counted, ran_status, run_refused, same_kept}
+use Rattle.kp_cli.proofs.Ending.{kept_counted, run_refused, same_kept}
+use Rattle.kp_cli.specs.Perform.{status_of}
 use Rattle.kp_cli.proofs.Lines.{no_reason, told_first, told_second, told_since}
 use Rattle.kp_cli.proofs.running.run_and_keep.Goals as goal
 
@@ -34,11 +34,11 @@ returns-in-Ok-write_logs g c = (
   inr (c.in-Ok.ended, c.in-Ok.ensures.played, (refl, c.in-Ok-write_logs.ensures.ok)),
   inl (c.in-Ok.ensures.counted, c.in-Ok-write_logs.ensures.counted),
   refl,
-  c.from.ensures ∙ ap (λ (n : ℕ). bool_byte (nat_lt 0 n)) c.refused.ensures ∙ ran_status c.in-Ok.ended.refused,
+  c.end.ensures ∙ ap (λ (n : ℕ). status_of (Ok n)) c.refused.ensures,
 )
 
-pub returns : goal.returns
-returns g c = (
+pub returns-in-Err-write_logs : goal.returns-in-Err-write_logs
+returns-in-Err-write_logs g c = (
   Err c.in-Err-write_logs.refusal,
   inr (c.in-Ok.ended, c.in-Ok.ensures.played, (c.in-Err-write_logs.ensures.only, c.in-Err-write_logs.ensures.err)),
   kept_counted c.in-Err-write_logs.refusal c.in-Err-write_logs.ensures.only _ _ _ _ _ _ c.in-Ok.ensures.counted c.in-Err-write_logs.ensures.counted,
