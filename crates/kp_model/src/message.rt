@@ -9,6 +9,7 @@ use crate::record::{LeaderAndIsr, NodeSet};
 use kp_batch::Batch;
 use kp_types::{Epoch, GREATEST_OFFSET, NodeId, Offset, Refusal};
 use std::alloc::Global;
+use std::marker::Model;
 use std::sync::Arc;
 
 /// A follower asks for the batches that come after its log. (Kafka protocol guide, 'Fetch'; KIP-320 for the epoch;
@@ -19,10 +20,10 @@ pub struct FetchRequest {
     pub from: NodeId,
     /// The leader that it follows, to whom the request goes.
     pub to: NodeId,
-    /// How often the asker had been restarted.
-    pub life: u64,
     /// The leader epoch in which it follows.
     pub epoch: Epoch,
+    /// How often the asker had been restarted.
+    pub life: u64,
     /// Its log's end, from 0.
     pub offset: Offset,
     /// The leader epoch of its last batch; none for an empty log.
@@ -49,6 +50,61 @@ pub struct EpochEnd {
     pub end: Offset,
 }
 
+/// Where the asked epoch ends in a leader's log, or that the log has no epoch at most that one, in sixteen bytes, as a run keeps
+/// every answer.
+#[derive(Drop)]
+pub struct DivergingEpoch {
+    end: Offset,
+    epoch: Epoch,
+    known: bool,
+}
+
+impl Model for DivergingEpoch {
+    ghost use Rattle.std.specs.Prelude.{Option};
+    ghost use Rattle.kp_model.specs.declared.message.EpochEnd.{EpochEnd};
+    ghost use Rattle.kp_model.specs.Diverging.{end_if};
+
+    ghost Value = { Option EpochEnd };
+
+    ghost view = { λ d. end_if d.known d.epoch d.end };
+}
+
+impl DivergingEpoch {
+    ghost use Rattle.std.specs.Prelude.{◌≡◌};
+
+    /// That the epoch ends there, or none. O(1).
+    pub fn new(end: Option<EpochEnd>) -> DivergingEpoch
+        ensures { result ≡ end }
+    {
+        match end {
+            Some(EpochEnd { epoch, end }) => DivergingEpoch {
+                end,
+                epoch,
+                known: true,
+            },
+            None => DivergingEpoch {
+                end: 0,
+                epoch: 0,
+                known: false,
+            },
+        }
+    }
+
+    /// Where the epoch ends; none where the log has no such epoch. O(1).
+    pub fn end(&self) -> Option<EpochEnd>
+        ensures { result ≡ self.now }
+    {
+        if self.known {
+            Some(EpochEnd {
+                epoch: self.epoch,
+                end: self.end,
+            })
+        } else {
+            None
+        }
+    }
+}
+
 /// What a leader finds for a request.
 #[derive(Drop)]
 pub enum Answered {
@@ -56,7 +112,7 @@ pub enum Answered {
     Batches(Fetched),
     /// It hasn't; so it tells where the asker's last epoch ends in its log. None where its log has no epoch at most
     /// that one. (KIP-101, KIP-279.)
-    Diverging(Option<EpochEnd>),
+    Diverging(DivergingEpoch),
 }
 
 /// What a leader answers to a request, with the request. It goes to the sender of the request.
@@ -97,6 +153,9 @@ pub enum MessageBody {
     Proposal(Proposal),
     Decision(Decision),
 }
+
+// A run keeps every message.
+const _: () = prove!(size_of::<MessageBody>() == 64);
 
 // Whether a log can keep the batch. O(1).
 fn test_batch(batch: &Batch) -> Result<(), Refusal>
@@ -197,7 +256,7 @@ impl MessageBody {
                     count: fetched.batches.len() as u64,
                     watermark: fetched.watermark,
                 },
-                Answered::Diverging(end) => Said::Diverging(*end),
+                Answered::Diverging(end) => Said::Diverging(end.end()),
             },
             MessageBody::Proposal(proposal) => Said::Proposes {
                 isr: proposal.isr,
@@ -222,7 +281,9 @@ impl MessageBody {
                         batches: Arc::try_clone(&fetched.batches)?,
                         watermark: fetched.watermark,
                     }),
-                    Answered::Diverging(end) => Answered::Diverging(*end),
+                    Answered::Diverging(end) => {
+                        Answered::Diverging(DivergingEpoch::new(end.end()))
+                    }
                 };
                 Ok(MessageBody::FetchAnswer(FetchAnswer {
                     request: answer.request,
