@@ -11,6 +11,7 @@ pub mod Refusing
 pub mod HexLaws
 pub mod HexText
 pub mod Values
+pub mod Sections
 pub mod Senders
 pub mod Verbs
 pub mod Markers
@@ -25,5 +26,5 @@ pub mod Played
 pub mod Answering
 pub mod Limited
 pub mod KeptLogs
-pub mod LeftLines
+pub mod LeftCalls
 pub mod Counting

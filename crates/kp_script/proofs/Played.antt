@@ -34,8 +34,6 @@ use Rattle.kp_script.specs.Told.{IsTold, AreTold, Tells, offer_of}
 use Rattle.kp_script.specs.Trace.{trace_line, trace_text}
 use Rattle.kp_script.specs.Script.{Script, IsScript}
 use Rattle.kp_script.specs.Transcript.{IsTraceOf, is_refusal, largest_batch, numbered, refusals_in, WritesFirst, WritesFront}
-use Rattle.kp_script.specs.Seen.{seen_line}
-use Rattle.kp_script.specs.declared.script.Line.{Line}
 use Rattle.kp_script.proofs.Lawful.{lawful_act, lawful_bytes, lawful_values}
 use Rattle.kp_script.proofs.Logs.{shown_logs}
 use Rattle.kp_script.proofs.Telling.{AreTold-length}
@@ -138,58 +136,49 @@ one_out call old new refused text q = subst (λ (n : ℕ). PlayedOut (call ∷ [
 
 -- ---- parts of the lines
 
-pub first_part : (P : ℕ × Call → Type 0) (xs ys : List Line) → AllByRecursion P (map seen_line (xs ++ ys)) → AllByRecursion P (map seen_line xs)
+pub first_part : (P : ℕ × Call → Type 0) (xs ys : List (ℕ × Call)) → AllByRecursion P (xs ++ ys) → AllByRecursion P xs
 first_part P [] ys h = tt
 first_part P (x ∷ xs) ys h = (h.0, first_part P xs ys h.1)
 
-second_part : (P : ℕ × Call → Type 0) (xs ys : List Line) → AllByRecursion P (map seen_line (xs ++ ys)) → AllByRecursion P (map seen_line ys)
+second_part : (P : ℕ × Call → Type 0) (xs ys : List (ℕ × Call)) → AllByRecursion P (xs ++ ys) → AllByRecursion P ys
 second_part P [] ys h = h
 second_part P (x ∷ xs) ys h = second_part P xs ys h.1
 
-pub same_lawful : (count : ℕ) (all items : List Line) → all ≡ items → AllByRecursion (λ call. IsCall count call.1) (map seen_line items)
-    → AllByRecursion (λ call. IsCall count call.1) (map seen_line all)
-same_lawful count all items is h = subst (λ (xs : List Line). AllByRecursion (λ call. IsCall count call.1) (map seen_line xs)) (sym is) h
+pub same_lawful : (count : ℕ) (all items : List (ℕ × Call)) → all ≡ items → AllByRecursion (λ call. IsCall count call.1) items
+    → AllByRecursion (λ call. IsCall count call.1) all
+same_lawful count all items is h = subst (λ (xs : List (ℕ × Call)). AllByRecursion (λ call. IsCall count call.1) xs) (sym is) h
 
-pub rest_lawful : (count : ℕ) (all done rest : List Line) → all ≡ done ++ rest → AllByRecursion (λ call. IsCall count call.1) (map seen_line all)
-    → AllByRecursion (λ call. IsCall count call.1) (map seen_line rest)
+pub rest_lawful : (count : ℕ) (all done rest : List (ℕ × Call)) → all ≡ done ++ rest → AllByRecursion (λ call. IsCall count call.1) all
+    → AllByRecursion (λ call. IsCall count call.1) rest
 rest_lawful count all done rest is h =
-    second_part (λ call. IsCall count call.1) done rest (subst (λ (xs : List Line). AllByRecursion (λ call. IsCall count call.1) (map seen_line xs)) is h)
+    second_part (λ call. IsCall count call.1) done rest (subst (λ (xs : List (ℕ × Call)). AllByRecursion (λ call. IsCall count call.1) xs) is h)
 
 -- Lines that are done, those that come next, and the others behind them.
-pub record Parts (all done rest next others : List Line) : Type 0 where
+pub record Parts (all done rest next others : List (ℕ × Call)) : Type 0 where
   pub lines_are : all ≡ done ++ (next ++ others)
   pub rest_is : rest ≡ next ++ others
 
-pub parts : (all done rest next others : List Line) (n : ℕ) → all ≡ done ++ rest → next ≡ take n rest → others ≡ drop n rest → Parts all done rest next others
+pub parts : (all done rest next others : List (ℕ × Call)) (n : ℕ) → all ≡ done ++ rest → next ≡ take n rest → others ≡ drop n rest → Parts all done rest next others
 parts all done rest next others n is front back =
     let whole_rest : rest ≡ next ++ others =
-    sym (take-append-drop n rest) ∙ ap (λ (xs : List Line). xs ++ drop n rest) (sym front) ∙ ap (λ (ys : List Line). next ++ ys) (sym back) in
-    record { lines_are = is ∙ ap (λ (ys : List Line). done ++ ys) whole_rest; rest_is = whole_rest }
+    sym (take-append-drop n rest) ∙ ap (λ (xs : List (ℕ × Call)). xs ++ drop n rest) (sym front) ∙ ap (λ (ys : List (ℕ × Call)). next ++ ys) (sym back) in
+    record { lines_are = is ∙ ap (λ (ys : List (ℕ × Call)). done ++ ys) whole_rest; rest_is = whole_rest }
 
-module _ (count : ℕ) (all done rest next others : List Line) (p : Parts all done rest next others) (h : AllByRecursion (λ call. IsCall count call.1) (map seen_line all)) where
-  behind : AllByRecursion (λ call. IsCall count call.1) (map seen_line (next ++ others))
+module _ (count : ℕ) (all done rest next others : List (ℕ × Call)) (p : Parts all done rest next others) (h : AllByRecursion (λ call. IsCall count call.1) all) where
+  behind : AllByRecursion (λ call. IsCall count call.1) (next ++ others)
   behind =
       second_part (λ call. IsCall count call.1) done (next ++ others)
-      (subst (λ (xs : List Line). AllByRecursion (λ call. IsCall count call.1) (map seen_line xs)) p.lines_are h)
+      (subst (λ (xs : List (ℕ × Call)). AllByRecursion (λ call. IsCall count call.1) xs) p.lines_are h)
 
-  pub next_lawful : AllByRecursion (λ call. IsCall count call.1) (map seen_line next)
+  pub next_lawful : AllByRecursion (λ call. IsCall count call.1) next
   next_lawful = first_part (λ call. IsCall count call.1) next others behind
 
-  pub others_lawful : AllByRecursion (λ call. IsCall count call.1) (map seen_line others)
+  pub others_lawful : AllByRecursion (λ call. IsCall count call.1) others
   others_lawful = second_part (λ call. IsCall count call.1) next others behind
 
-  pub rest_calls_lawful : AllByRecursion (λ call. IsCall count call.1) (map seen_line next ++ map seen_line others)
-  rest_calls_lawful = subst (AllByRecursion (λ call. IsCall count call.1)) (map-append seen_line next others) behind
-
-pub nothing_left : (xs : List Line) → length xs ≡ 0 → xs ≡ []
+pub nothing_left : (xs : List (ℕ × Call)) → length xs ≡ 0 → xs ≡ []
 nothing_left [] e = refl
 nothing_left (x ∷ xs) e = absurd (omega arith)
-
--- the same of the calls
-pub calls_are : (all done rest next others : List Line) → Parts all done rest next others → map seen_line all ≡ map seen_line done ++ (map seen_line next ++ map seen_line others)
-calls_are all done rest next others p =
-    ap (map seen_line) p.lines_are ∙ map-append seen_line done (next ++ others)
-    ∙ ap (λ (ys : List (ℕ × Call)). map seen_line done ++ ys) (map-append seen_line next others)
 
 -- ---- what has been played
 

@@ -3,6 +3,7 @@ pub mod Call
 pub mod Lines
 pub mod Script
 pub mod Read
+pub mod Sections
 pub mod Seen
 pub mod Trace
 pub mod Told
@@ -11,5 +12,6 @@ pub mod Ended
 pub mod Playing
 pub mod Kept
 pub mod Reads
+pub mod Parsed
 pub mod Piped
 pub mod Piping

@@ -1,6 +1,5 @@
 -- What playing some of a script's calls does to the world and to the trace.
 use Rattle.std.specs.Prelude.{◌≡◌, ◌++◌, ◌≤◌, ℕ, List, [], ◌∷◌, drop, length, map, Option, Result}
-use Rattle.std.specs.declared.vec.Vec.{Vec}
 use Rattle.std.specs.Io.KnownBytes.{Appends}
 use Rattle.kp_types.specs.declared.limits.Limits.{Limits}
 use Rattle.kp_types.specs.declared.refusal.Refusal.{Refusal}
@@ -12,25 +11,24 @@ use Rattle.kp_world.specs.Shown.{Stage}
 use Rattle.kp_world.specs.declared.event.EventAnswer.{EventAnswer}
 use Rattle.kp_script.specs.Call.{Call, Header, node_of}
 use Rattle.kp_script.specs.Ended.{limits_in}
-use Rattle.kp_script.specs.Seen.{lines_in}
-use Rattle.kp_script.specs.declared.script.Line.{Line}
+use Rattle.kp_script.specs.Parsed.{calls_in}
 use Rattle.kp_script.specs.Told.{AreTold}
 use Rattle.kp_script.specs.Trace.{trace_line, trace_text}
 use Rattle.kp_script.specs.Transcript.{largest_batch, numbered, refusals_in}
 
--- the lines that are left of a script's pieces, where so many of the first piece are played
-abbrev pub left_in : {Z : Type 0} → ℕ → List (Vec Line Z) → List Line
-left_in from pieces = drop from (lines_in pieces)
+-- the calls that are left of a script's sections, where so many of the first section are played
+abbrev pub left_in : ℕ → List (List (ℕ × Call)) → List (ℕ × Call)
+left_in from sections = drop from (calls_in sections)
 
--- The first piece has so many lines, and no others.
-abbrev pub IsFirstWhole : {Z : Type 0} → ℕ → List (Vec Line Z) → Type 0
-IsFirstWhole lines [] = ⊥
-IsFirstWhole lines (piece ∷ others) = lines ≡ length piece.items
+-- The first section has so many calls, and no others.
+abbrev pub IsFirstWhole : ℕ → List (List (ℕ × Call)) → Type 0
+IsFirstWhole calls [] = ⊥
+IsFirstWhole calls (section ∷ others) = calls ≡ length section
 
--- The first piece has so many lines, or more.
-abbrev pub IsWithin : {Z : Type 0} → ℕ → List (Vec Line Z) → Type 0
+-- The first section has so many calls, or more.
+abbrev pub IsWithin : ℕ → List (List (ℕ × Call)) → Type 0
 IsWithin from [] = from ≡ 0
-IsWithin from (piece ∷ others) = from ≤ length piece.items
+IsWithin from (section ∷ others) = from ≤ length section
 
 -- The calls tell events that lead from a stage to another one with these answers, whatever came before.
 pub record LeadTo (calls : List (ℕ × Call)) (old new : Stage) (answers : List (Result EventAnswer Refusal)) : Type 0 where

@@ -1,16 +1,12 @@
 -- What the parser's values say, apart from where they lie in memory.
-use Rattle.std.specs.Prelude.{ℕ, Bool, List, [], ◌∷◌, ◌-◌, ◌^◌, ◌==◌, map, Option, Some, None, if◌then◌else◌}
-use Rattle.std.specs.List.{flat_map}
-use Rattle.std.specs.declared.vec.Vec.{Vec}
+use Rattle.std.specs.Prelude.{ℕ, Bool, List, [], ◌∷◌, ◌-◌, ◌^◌, ◌==◌, Option, Some, None, if◌then◌else◌}
 use Rattle.kp_script.specs.Call.{Call, Header, Sender, Elect, Append, Raw, Acts, Deliver, pieces}
 use Rattle.kp_script.specs.Hex.{bytes_of}
 use Rattle.kp_script.specs.declared.call.Call.{Call as ParsedCall}
 use Rattle.kp_script.specs.declared.call.Call.TheVariants as parsed
 use Rattle.kp_script.specs.declared.call.Header.{Header as ParsedHeader}
 use Rattle.kp_script.specs.declared.call.Sender.{Sender as ParsedSender}
-use Rattle.kp_script.specs.Script.{Script}
 use Rattle.kp_script.specs.declared.script.Line.{Line as ParsedLine}
-use Rattle.kp_script.specs.declared.script.Script.{Script as ParsedScript}
 
 abbrev pub seen_header : ParsedHeader → Header
 seen_header header = record { count = header.count; segment = header.segment; interval = header.interval }
@@ -40,10 +36,3 @@ seen_call (parsed.Deliver number) = Deliver number
 
 abbrev pub seen_line : ParsedLine → ℕ × Call
 seen_line line = (line.number, seen_call line.call)
-
--- the lines of all pieces, in their order
-abbrev pub lines_in : {Z : Type 0} → List (Vec ParsedLine Z) → List ParsedLine
-lines_in pieces = flat_map (λ piece. piece.items) pieces
-
-abbrev pub seen_script : ParsedScript → Script
-seen_script script = record { header = seen_header script.header; calls = map seen_line (lines_in script.pieces.items) }

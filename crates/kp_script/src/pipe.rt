@@ -21,6 +21,7 @@ use crate::reader::LineReader;
 use crate::run::{Work, limits_of, play_line};
 use crate::script::Line;
 use crate::trace::push_refusal;
+use kp_batch::Speller;
 use kp_types::{Counted, Folder, NodeId, Refusal};
 use kp_world::World;
 use std::alloc::Global;
@@ -156,7 +157,7 @@ fn answer_event<W: Write>(
             work.text.clear();
             let refused = play_line(
                 alloc,
-                &line,
+                line,
                 running.count,
                 &mut running.world,
                 work,
@@ -320,7 +321,7 @@ pub fn play_pipe<R: BufRead, W: Write>(
     kp_model::runs_keep_count();
     kp_model::runs_are_safe();
     kp_model::no_delivery_is_refused_oddly();
-    let mut work = Work::new(alloc);
+    let mut work = Work::new(alloc, Speller::new(alloc));
     let mut running = None;
     let mut refused = 0;
     for read in 0..u64::MAX {

@@ -1,22 +1,25 @@
 //! A script run from its bytes to its trace's bytes.
 
-ghost use Rattle.std.specs.Prelude.{◌≡◌, ◌+◌, ◌<◌, ◌≤◌, ◌^◌, ℕ, [], ◌∷◌, ◌++◌, IfOk, IfErr, IfSome, OnErr, Err, length, map, take};
+ghost use Rattle.std.specs.Prelude.{◌≡◌, ◌+◌, ◌<◌, ◌≤◌, ◌^◌, ℕ, [], ◌∷◌, ◌++◌, IfOk, IfErr, IfSome, OnErr, Err, length, drop, slice_index_or, take};
 ghost use Rattle.std.specs.List.{AllByRecursion};
 ghost use Rattle.kp_types.specs.declared.refusal.Refusal.TheVariants.{BadScript, Device as DeviceFault, Memory as WantOfMemory};
 ghost use Rattle.kp_types.specs.Devices.{CountsFaults, CountsOne, IsDeviceFault, device_of, faults_of};
-ghost use Rattle.kp_script.specs.Call.{IsCall, Acts, Deliver};
+ghost use Rattle.kp_script.specs.Call.{Call as SpelledCall, IsCall, Acts, Deliver};
 ghost use Rattle.kp_script.specs.Ended.{limits_in, AreLimited, WritesTo};
 ghost use Rattle.kp_script.specs.Playing.{BeginFrom, IsFirstWhole, IsWithin, PlayTo, PlaysOne, left_in};
+ghost use Rattle.kp_script.specs.Parsed.{IsScriptOf, seen_script};
 ghost use Rattle.kp_script.specs.Script.{IsFaultAt};
 ghost use Rattle.kp_script.specs.Seen.{seen_call, seen_header, seen_line};
+ghost use Rattle.kp_script.specs.Sections.{lone_call};
 ghost use Rattle.kp_script.specs.Trace.{trace_line};
 ghost use Rattle.kp_script.specs.Transcript.{IsRunRefusal, Writes, WritesFirst, WritesFront, refusals_in};
 ghost use Rattle.kp_world.specs.Answers.{outcome_of};
 
 use crate::call::{Call, Header};
 use crate::ended::Ended;
-use crate::events::{LONGEST_VALUE, batch_of_value, event_of};
-use crate::script::{Line, parse};
+use crate::events::{batch_of_value, event_of};
+use crate::script::{Line, Script, parse};
+use crate::section::{Lone, Section};
 use crate::trace::{push_append, push_event};
 use kp_batch::{Parts, Speller};
 use kp_replica::{Act, PlainAct};
@@ -37,11 +40,12 @@ pub(crate) struct Work {
 }
 
 impl Work {
-    pub(crate) fn new(alloc: Global) -> Work
+    /// No text, with this to spell batches.
+    pub(crate) fn new(alloc: Global, speller: Speller) -> Work
         ensures { result.text.items ≡ [] }
     {
         Work {
-            speller: Speller::new(alloc),
+            speller,
             text: Vec::new(alloc),
         }
     }
@@ -65,46 +69,111 @@ pub(crate) fn limits_of(header: &Header) -> Limits
     }
 }
 
-/// Makes the line's event happen in the world, and puts its line of the trace behind the text. Answers 1 where it was refused, and
-/// else 0. F33. Most lines are appends of one value: those have a way of their own, which answers a receipt.
+/// Hands the node the batch of this append, and puts its line of the trace behind the text. Answers 1 where it was refused, and else
+/// 0. F33. A world answers an append by its receipt alone.
 #[inline(always)]
-pub(crate) fn play_line<'a>(
+fn play_lone(
+    lone: &Lone<'_>,
+    count: NodeId,
+    world: &mut World,
+    work: &mut Work,
+) -> Result<u64, Refusal>
+    requires call { IsCall count (lone_call lone.now).1 }
+    requires short { length lone.now.value.now ≤ 1000000 }
+    requires nodes { length world.old.nodes ≡ count }
+    ensures played { IfOk result (λ refused.
+        PlaysOne (lone_call lone.now) world.old world.new refused work.old.text.items work.new.text.items) }
+    ensures nodes { length world.new.nodes ≡ count }
+    ensures few { IfOk result (λ refused. refused ≤ 1) }
+    ensures only { IfErr result (λ refusal. refusal ≡ WantOfMemory) }
+{
+    let _ = count;
+    let speller = &mut work.speller;
+    let bytes = batch_of_value(
+        speller,
+        lone.time,
+        lone.sender,
+        lone.transactional,
+        lone.value,
+    )?;
+    let receipt = world.produce(lone.node, bytes);
+    push_append(&mut work.text, lone.number, lone.node, &receipt)?;
+    Ok(u64::from(receipt.is_err()))
+}
+
+/// Does what [`play_line`] does, for any line.
+#[inline(always)]
+fn play_other<'a>(
     alloc: Global,
-    line: &Line<'a>,
+    line: Line<'a>,
     count: NodeId,
     world: &mut World,
     work: &mut Work,
     parts: &mut Vec<Parts<'a>>,
 ) -> Result<u64, Refusal>
-    requires call { IsCall count (seen_call line.now.call) }
+    requires call { IsCall count (seen_call line.call) }
     requires nodes { length world.old.nodes ≡ count }
     ensures played { IfOk result (λ refused.
-        PlaysOne (seen_line line.now) world.old world.new refused work.old.text.items work.new.text.items) }
+        PlaysOne (seen_line line.entry) world.old world.new refused work.old.text.items work.new.text.items) }
     ensures nodes { length world.new.nodes ≡ count }
     ensures few { IfOk result (λ refused. refused ≤ 1) }
     ensures only { IfErr result (λ refusal. refusal ≡ WantOfMemory) }
 {
-    if let Call::Append {
-        node,
-        transactional,
-        lone,
-        time,
-        sender,
-        values,
-    } = line.call
-    {
-        if lone && values.len() <= LONGEST_VALUE {
-            let speller = &mut work.speller;
-            let bytes = batch_of_value(speller, time, sender, transactional, values)?;
-            let receipt = world.produce(node, bytes);
-            push_append(&mut work.text, line.number, node, &receipt)?;
-            return Ok(u64::from(receipt.is_err()));
-        }
-    }
     match line.call {
         Call::Deliver { number } => play_delivery(alloc, line.number, number, world, work),
         Call::Acts { node, act } => play_act(alloc, line.number, node, act, world, work),
         _ => play_any(alloc, line, count, world, work, parts),
+    }
+}
+
+/// Makes the line's event happen in the world, and puts its line of the trace behind the text. Answers 1 where it was refused, and
+/// else 0. F33. Most lines are appends of one value: those have a way of their own, which answers a receipt.
+pub(crate) fn play_line<'a>(
+    alloc: Global,
+    line: Line<'a>,
+    count: NodeId,
+    world: &mut World,
+    work: &mut Work,
+    parts: &mut Vec<Parts<'a>>,
+) -> Result<u64, Refusal>
+    requires call { IsCall count (seen_call line.call) }
+    requires nodes { length world.old.nodes ≡ count }
+    ensures played { IfOk result (λ refused.
+        PlaysOne (seen_line line.entry) world.old world.new refused work.old.text.items work.new.text.items) }
+    ensures nodes { length world.new.nodes ≡ count }
+    ensures few { IfOk result (λ refused. refused ≤ 1) }
+    ensures only { IfErr result (λ refusal. refusal ≡ WantOfMemory) }
+{
+    match line.lone() {
+        Some(lone) => play_lone(&lone, count, world, work),
+        None => play_other(alloc, line, count, world, work, parts),
+    }
+}
+
+/// Does what [`play_line`] does, for the event at this place of the section.
+#[inline(always)]
+fn play_at<'a>(
+    alloc: Global,
+    section: &'a Section,
+    at: usize,
+    count: NodeId,
+    world: &mut World,
+    work: &mut Work,
+    parts: &mut Vec<Parts<'a>>,
+) -> Result<u64, Refusal>
+    requires within { at < length section.now }
+    requires call { (other : ℕ × SpelledCall) → IsCall count (slice_index_or section.now at other).1 }
+    requires nodes { length world.old.nodes ≡ count }
+    ensures played { IfOk result (λ refused. (other : ℕ × SpelledCall)
+        → PlaysOne (slice_index_or section.now at other) world.old world.new refused
+        work.old.text.items work.new.text.items) }
+    ensures nodes { length world.new.nodes ≡ count }
+    ensures few { IfOk result (λ refused. refused ≤ 1) }
+    ensures only { IfErr result (λ refusal. refusal ≡ WantOfMemory) }
+{
+    match section.lone(at) {
+        Some(lone) => play_lone(&lone, count, world, work),
+        None => play_other(alloc, section.line(at), count, world, work, parts),
     }
 }
 
@@ -176,16 +245,16 @@ fn play_act(
 #[inline(never)]
 fn play_any<'a>(
     alloc: Global,
-    line: &Line<'a>,
+    line: Line<'a>,
     count: NodeId,
     world: &mut World,
     work: &mut Work,
     parts: &mut Vec<Parts<'a>>,
 ) -> Result<u64, Refusal>
-    requires call { IsCall count (seen_call line.now.call) }
+    requires call { IsCall count (seen_call line.call) }
     requires nodes { length world.old.nodes ≡ count }
     ensures played { IfOk result (λ refused.
-        PlaysOne (seen_line line.now) world.old world.new refused work.old.text.items work.new.text.items) }
+        PlaysOne (seen_line line.entry) world.old world.new refused work.old.text.items work.new.text.items) }
     ensures nodes { length world.new.nodes ≡ count }
     ensures few { IfOk result (λ refused. refused ≤ 1) }
     ensures only { IfErr result (λ refusal. refusal ≡ WantOfMemory) }
@@ -197,27 +266,30 @@ fn play_any<'a>(
     tell(&mut work.text, line.number, line.call.node(), &outcome)
 }
 
-/// Plays lines from the first one on until their trace has so many bytes that it is written, and writes it. F33, and then nothing is
+/// Plays lines of the section from this place on until their trace has so many bytes that it is written, and writes it. F33, and then nothing is
 /// written; F32 where the writer failed, and then a beginning of their trace is.
 fn play_lines<W: Write>(
     alloc: Global,
-    lines: &[Line<'_>],
+    section: &Section,
+    from: usize,
     count: NodeId,
     world: &mut World,
     work: &mut Work,
     writer: &mut Counted<W>,
 ) -> Result<Played, Refusal>
-    requires calls { AllByRecursion (λ call. IsCall count call.1) (map seen_line lines.now) }
+    requires within { from ≤ length section.now }
+    requires calls { AllByRecursion (λ call. IsCall count call.1) (drop from section.now) }
     requires nodes { length world.old.nodes ≡ count }
     requires writes { faults_of writer.old + 1 < 2 ^ 64 }
     ensures played { IfOk result (λ played.
-        PlayTo (map seen_line (take played.lines lines.now)) world.old world.new played.refused
+        PlayTo (take played.lines (drop from section.now)) world.old world.new played.refused
         (W.contents (device_of writer.old)) (W.contents (device_of writer.new))) }
-    ensures some { IfOk result (λ played. 0 < length lines.now → 0 < played.lines) }
-    ensures within { IfOk result (λ played. played.lines ≤ length lines.now) }
+    ensures some { IfOk result (λ played. from < length section.now → 0 < played.lines) }
+    ensures within { IfOk result (λ played. from + played.lines ≤ length section.now) }
+    ensures fits { IfOk result (λ played. from + played.lines < 2 ^ 64) }
     ensures few { IfOk result (λ played. played.refused ≤ played.lines) }
-    ensures begun { result ≡ Err DeviceFault → (n : ℕ) × (n ≤ length lines.now)
-        × BeginFrom (map seen_line (take n lines.now)) world.old
+    ensures begun { result ≡ Err DeviceFault → (n : ℕ) × (from + n ≤ length section.now)
+        × BeginFrom (take n (drop from section.now)) world.old
         (W.contents (device_of writer.old)) (W.contents (device_of writer.new)) }
     ensures untouched { result ≡ Err WantOfMemory → writer.new ≡ writer.old }
     ensures nodes { length world.new.nodes ≡ count }
@@ -225,11 +297,20 @@ fn play_lines<W: Write>(
     ensures counted { CountsFaults result (faults_of writer.old) (faults_of writer.new) }
 {
     let mut parts = Vec::new(alloc);
+    let left = section.len() - from;
     let mut played = 0;
     let mut refused = 0;
     work.text.clear();
-    while played < lines.len() && work.text.len() < TEXT_AT_ONCE {
-        refused += play_line(alloc, &lines[played], count, world, work, &mut parts)?;
+    while played < left && work.text.len() < TEXT_AT_ONCE {
+        refused += play_at(
+            alloc,
+            section,
+            from + played,
+            count,
+            world,
+            work,
+            &mut parts,
+        )?;
         played += 1;
     }
     writer.write_all(&work.text)?;
@@ -239,22 +320,40 @@ fn play_lines<W: Write>(
     })
 }
 
-/// Lets the first piece go, with its memory, where so many lines are all that it has. Answers how many of the then first piece are
-/// behind.
-fn left_behind(pieces: &mut VecDeque<Vec<Line<'_>>>, lines: usize) -> usize
-    requires { IsWithin lines pieces.old.items }
-    ensures left { left_in result pieces.new.items ≡ left_in lines pieces.old.items }
-    ensures within { IsWithin result pieces.new.items }
-    ensures fewer { length pieces.new.items ≤ length pieces.old.items }
-    ensures gone { IsFirstWhole lines pieces.old.items → length pieces.new.items < length pieces.old.items }
+/// Lets the first section go, with its memory, where so many lines are all that it has. Answers how many of the then first section
+/// are behind.
+fn left_behind(sections: &mut VecDeque<Section>, lines: usize) -> usize
+    requires { IsWithin lines sections.old.items }
+    ensures left { left_in result sections.new.items ≡ left_in lines sections.old.items }
+    ensures within { IsWithin result sections.new.items }
+    ensures fewer { length sections.new.items ≤ length sections.old.items }
+    ensures gone { IsFirstWhole lines sections.old.items → length sections.new.items < length sections.old.items }
 {
-    match pieces.front() {
-        Some(piece) if piece.len() == lines => {
-            let _ = pieces.pop_front();
+    match sections.front() {
+        Some(section) if section.len() == lines => {
+            let _ = sections.pop_front();
             0
         }
         _ => lines,
     }
+}
+
+/// The script that the reader has left, all of it, and what spells its batches: into the memory first that its text was read into.
+/// F31 with the first line at fault; F33; F32 where the device failed. Takes time and memory proportional to the script.
+fn read_script<R: Read>(
+    alloc: Global,
+    reader: &mut Counted<R>,
+) -> Result<(Script, Speller), Refusal>
+    requires { faults_of reader.old + 1 < 2 ^ 64 }
+    ensures found { IfOk result (λ read. IsScriptOf (R.remaining (device_of reader.old)) (seen_script read.0)) }
+    ensures fault { (line : ℕ) → result ≡ Err (BadScript line)
+        → IfSome (R.remaining (device_of reader.old)) (λ input. IsFaultAt input line) }
+    ensures only { IfErr result IsRunRefusal }
+    ensures counted { CountsFaults result (faults_of reader.old) (faults_of reader.new) }
+{
+    let input = reader.read_all(alloc)?;
+    let script = parse(alloc, &input)?;
+    Ok((script, Speller::over(alloc, input)))
 }
 
 /// Plays the script that the reader has left, and writes its trace: a line for each event. Answers how many
@@ -262,8 +361,9 @@ fn left_behind(pieces: &mut VecDeque<Vec<Line<'_>>>, lines: usize) -> usize
 /// is written; F33, and then the lines of the first events are, or nothing; F32 where a device failed, and then a
 /// beginning of the trace is. All lines are read before the first event is played, and the lines of some events are
 /// written before the next ones are played. No batch of the logs has more than [`MAX_BATCH`] bytes. Takes time proportional to the script, its trace and the batches that
-/// messages carry, and memory to the script, to what the nodes' logs keep of it and to all messages; the nodes and the
-/// messages stay as long as the answer does.
+/// messages carry, and memory to the script, to what the nodes' logs keep of it and to all messages: at first to the script's text, to
+/// its values and digits with 56 bytes for each event; batches are spelled into the text's memory, and a section of the others is given
+/// back once it is played; the nodes and the messages stay as long as the answer does.
 pub fn play_script<R: Read, W: Write>(
     alloc: Global,
     reader: &mut Counted<R>,
@@ -290,18 +390,25 @@ pub fn play_script<R: Read, W: Write>(
     kp_model::no_delivery_is_refused_oddly();
     kp_model::batches_keep_their_size();
     kp_replica::bytes_are_an_offer();
-    let input = reader.read_all(alloc)?;
-    let mut script = parse(alloc, &input)?;
+    let (script, speller) = read_script(alloc, reader)?;
+    let mut script = script;
     let header = script.header;
     let mut world = World::start(alloc, header.count, &limits_of(&header))?;
-    let mut work = Work::new(alloc);
+    let mut work = Work::new(alloc, speller);
     let mut refused = 0;
     let mut from = 0;
-    while let Some(piece) = script.pieces.front() {
-        let (_, rest) = piece.split_at(from);
-        let played = play_lines(alloc, rest, header.count, &mut world, &mut work, writer)?;
+    while let Some(section) = script.sections.front() {
+        let played = play_lines(
+            alloc,
+            section,
+            from,
+            header.count,
+            &mut world,
+            &mut work,
+            writer,
+        )?;
         refused += played.refused;
-        from = left_behind(&mut script.pieces, from + played.lines);
+        from = left_behind(&mut script.sections, from + played.lines);
     }
     Ok(Ended::new(refused, header.count, world))
 }

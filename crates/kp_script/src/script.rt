@@ -1,14 +1,16 @@
 //! The whole script, and its parser.
 
-ghost use Rattle.std.specs.Prelude.{◌≡◌, ℕ, [], ◌∷◌, ◌++◌, IfOk, IfErr, IfSome, IfNone, OnOk, Err};
-ghost use Rattle.kp_script.specs.Call.{IsCallText, SpellsNoCall};
+ghost use Rattle.std.specs.Prelude.{◌≡◌, ℕ, [], ◌∷◌, ◌++◌, List, Ok, true, false, IfOk, IfErr, IfSome, IfNone, OnOk, Err};
+ghost use Rattle.kp_script.specs.Call.{Call as SpelledCall, IsCallText, SpellsNoCall};
+ghost use Rattle.kp_script.specs.Parsed.{calls_in, seen_script};
 ghost use Rattle.kp_script.specs.Script.{IsScript, IsFaultAt, IsScriptRefusal};
-ghost use Rattle.kp_script.specs.Seen.{lines_in, seen_call, seen_script};
+ghost use Rattle.kp_script.specs.Seen.{seen_line};
 ghost use Rattle.kp_types.specs.declared.refusal.Refusal.TheVariants.{BadScript};
 
 use crate::call::{Call, Header, any_call, header_of};
 use crate::fields::append_of;
 use crate::lines::{LONGEST_LINE, next_counted};
+use crate::section::Section;
 use crate::words::after;
 use kp_types::{NodeId, Refusal};
 use std::alloc::{AllocError, Global};
@@ -27,78 +29,74 @@ pub struct Line<'a> {
     pub call: Call<'a>,
 }
 
-// A script keeps up to a million of them.
-const _: () = prove!(size_of::<Line<'static>>() == 56);
-
-/// How many events a piece of a script has at most.
-const PIECE: usize = 4_096;
+/// How many events a section of a script has at most.
+const SECTION: usize = 4_096;
 
 /// A header, and the events in their order.
 #[derive(Drop)]
-pub struct Script<'a> {
+pub struct Script {
     /// What the first line that counts says.
     pub header: Header,
-    /// The events, piece by piece, so that a run gives back the memory of those that it has played.
-    pub pieces: VecDeque<Vec<Line<'a>>>,
+    /// The events, section by section, so that a run gives back the memory of those that it has played.
+    pub sections: VecDeque<Section>,
 }
 
-/// Puts the event behind those of the last piece, which goes to the others where it is full, and a new one begins. It fails where
+/// Puts the event behind those of the last section, which goes to the others where it is full, and a new one begins. It fails where
 /// memory runs out.
-fn push_line<'a>(
+#[inline(always)]
+fn push_line(
     alloc: Global,
-    pieces: &mut VecDeque<Vec<Line<'a>>>,
-    last: &mut Vec<Line<'a>>,
-    line: Line<'a>,
+    sections: &mut VecDeque<Section>,
+    last: &mut Section,
+    line: Line<'_>,
 ) -> Result<(), AllocError>
-    ensures { OnOk result (lines_in pieces.new.items ++ last.new.items
-        ≡ (lines_in pieces.old.items ++ last.old.items) ++ line.entry ∷ []) }
+    ensures { OnOk result (calls_in sections.new.items ++ last.new
+        ≡ (calls_in sections.old.items ++ last.old) ++ seen_line line.entry ∷ []) }
 {
-    if last.len() == PIECE {
-        let next = Vec::with_capacity(alloc, PIECE)?;
-        pieces.push_back(replace(last, next))?;
+    if last.len() == SECTION {
+        let next = Section::with_capacity(alloc, SECTION)?;
+        sections.push_back(replace(last, next))?;
     }
-    last.reserve(1)?;
-    last.push_reserved(line);
-    Ok(())
+    last.push(line)
 }
 
-/// Puts the call that the whole line spells behind those of the last piece, as the event of this line, and answers it; nothing where
-/// the line spells none. An append is put there by itself, so that it is built where it is stored. It fails where memory runs out.
+/// Puts the call that the whole line spells behind those of the last section, as the event of this line, and answers whether it
+/// spells one. An append is put there by itself, so that it is built where it is stored. It fails where memory runs out.
 #[inline(always)]
-fn push_call<'a>(
+fn push_call(
     alloc: Global,
-    pieces: &mut VecDeque<Vec<Line<'a>>>,
-    last: &mut Vec<Line<'a>>,
+    sections: &mut VecDeque<Section>,
+    last: &mut Section,
     number: u64,
-    line: &'a [u8],
+    line: &[u8],
     count: NodeId,
-) -> Result<Option<Call<'a>>, AllocError>
-    ensures call { IfOk result (λ told. IfSome told (λ call. IsCallText count line.now (seen_call call))) }
-    ensures put { IfOk result (λ told. IfSome told (λ call. lines_in pieces.new.items ++ last.new.items
-        ≡ (lines_in pieces.old.items ++ last.old.items) ++ record { number = number; call = call } ∷ [])) }
-    ensures none { IfOk result (λ told. IfNone told (SpellsNoCall count line.now)) }
+) -> Result<bool, AllocError>
+    ensures put { result ≡ Ok true → (call : SpelledCall) × IsCallText count line.now call
+        × (calls_in sections.new.items ++ last.new
+        ≡ (calls_in sections.old.items ++ last.old) ++ (number, call) ∷ []) }
+    ensures none { result ≡ Ok false → SpellsNoCall count line.now }
 {
     if line.len() > LONGEST_LINE {
-        return Ok(None);
+        return Ok(false);
     }
     if let Some(fields) = after(b"append ", line) {
         let Some(call) = append_of(fields, count) else {
-            return Ok(None);
+            return Ok(false);
         };
-        push_line(alloc, pieces, last, Line { number, call })?;
-        return Ok(Some(call));
+        push_line(alloc, sections, last, Line { number, call })?;
+        return Ok(true);
     }
     let Some(call) = any_call(line, count) else {
-        return Ok(None);
+        return Ok(false);
     };
-    push_line(alloc, pieces, last, Line { number, call })?;
-    Ok(Some(call))
+    push_line(alloc, sections, last, Line { number, call })?;
+    Ok(true)
 }
 
 /// The script that these bytes are. A refusal has the number of the first line that can't stand where it
-/// stands, or is one of memory. Takes time proportional to the bytes, and 56 bytes of memory for each line: the calls
-/// borrow their values and digits from the bytes.
-pub fn parse(alloc: Global, bytes: &[u8]) -> Result<Script<'_>, Refusal>
+/// stands, or is one of memory. Takes time proportional to the bytes, and memory for the values and digits of the events, with 56
+/// bytes for each event: the bytes needn't stay.
+pub fn parse(alloc: Global, bytes: &[u8]) -> Result<Script, Refusal>
     ensures found { IfOk result (λ script. IsScript bytes.now (seen_script script)) }
     ensures fault { (line : ℕ) → result ≡ Err (BadScript line) → IsFaultAt bytes.now line }
     ensures only { IfErr result IsScriptRefusal }
@@ -110,8 +108,8 @@ pub fn parse(alloc: Global, bytes: &[u8]) -> Result<Script<'_>, Refusal>
     let Some(header) = header_of(first.line) else {
         return Err(Refusal::BadScript(first.number));
     };
-    let mut pieces = VecDeque::new(alloc);
-    let mut last = Vec::new(alloc);
+    let mut sections = VecDeque::new(alloc);
+    let mut last = Section::new(alloc);
     let mut events = 0;
     let mut rest = first.rest;
     let mut number = first.number + 1;
@@ -119,21 +117,21 @@ pub fn parse(alloc: Global, bytes: &[u8]) -> Result<Script<'_>, Refusal>
         if events == MOST_EVENTS {
             return Err(Refusal::BadScript(next.number));
         }
-        let told = push_call(
+        let is_call = push_call(
             alloc,
-            &mut pieces,
+            &mut sections,
             &mut last,
             next.number,
             next.line,
             header.count,
         )?;
-        let Some(_call) = told else {
+        if !is_call {
             return Err(Refusal::BadScript(next.number));
-        };
+        }
         events += 1;
         rest = next.rest;
         number = next.number + 1;
     }
-    pieces.push_back(last)?;
-    Ok(Script { header, pieces })
+    sections.push_back(last)?;
+    Ok(Script { header, sections })
 }

@@ -154,6 +154,14 @@ fn one_value(alloc: Global) -> Result<String, Refusal> {
     Ok(hex(alloc, bytes.as_slice())?)
 }
 
+// And once more, spelled into memory in which other bytes stand.
+fn one_value_over(alloc: Global) -> Result<String, Refusal> {
+    let mut memory = Vec::new(alloc);
+    memory.resize(70, 1)?;
+    let bytes = Speller::over(alloc, memory).spell_value(&PLAIN, b"a")?;
+    Ok(hex(alloc, bytes.as_slice())?)
+}
+
 // Built and spelled, the batch has these bytes.
 fn has_bytes(rt: &impl Abort, alloc: Global, fields: &Fields, parts: &[Parts<'_>], known: &str) {
     is(rt, built(alloc, fields, parts), known);
@@ -165,6 +173,7 @@ fn batches_have_the_known_bytes(rt: HostRuntime) {
     let alloc = rt.alloc();
     has_bytes(&rt, alloc, &PLAIN, &[ONE], ONE_HEX);
     is(&rt, one_value(alloc), ONE_HEX);
+    is(&rt, one_value_over(alloc), ONE_HEX);
     has_bytes(&rt, alloc, &PRODUCED, &THREE, THREE_HEX);
     has_bytes(&rt, alloc, &CONTROL, &[COMMIT], COMMIT_HEX);
 }

@@ -13,7 +13,7 @@ use kp_control::{decided, elected, pack, unpack};
 use kp_marker::{HandedMarker, Kind, Marker};
 use kp_model::{LeaderAndIsr, Proposal};
 use kp_replica::{Act, Answer, PlainAct, Receipt};
-use kp_script::{Call, Line, push_trace};
+use kp_script::{Call, Line, Section, push_trace};
 use kp_types::{Limits, MAX_BATCH, NodeId, Refusal};
 use kp_world::{Event, EventAnswer, Trace, run};
 use std::alloc::{AllocError, Global};
@@ -46,6 +46,29 @@ fn trace_of(alloc: Global, outcomes: &[Result<EventAnswer, Refusal>]) -> Result<
         Ok(text) => Ok(text),
         Err(_) => Err(Refusal::BadRecord(0)),
     }
+}
+
+// Whether a section gives back the events that are put into it.
+fn is_kept(alloc: Global) -> Result<bool, Refusal> {
+    let first = Line {
+        number: 2,
+        call: Call::Elect { node: 1 },
+    };
+    let last = Line {
+        number: 5,
+        call: Call::Raw {
+            node: 0,
+            digits: b"7f",
+        },
+    };
+    let mut section = Section::new(alloc);
+    section.push(first)?;
+    section.push(Line { number: 3, ..last })?;
+    section.push(last)?;
+    if section.len() != 3 {
+        return Ok(false);
+    }
+    Ok(section.line(0) == first && section.line(2) == last)
 }
 
 // The word of three nodes' record, at the start and after an election.
@@ -180,6 +203,7 @@ fn three_twice(alloc: Global) -> Result<String, Refusal> {
 // The duplicate's receipt has the last offset and the epoch of the batch that stands.
 #[test]
 fn receipts_name_what_stands(rt: HostRuntime) {
+    assert_eq!(rt; is_kept(rt.alloc()), Ok(true));
     is(
         &rt,
         three_twice(rt.alloc()),

@@ -6,8 +6,8 @@ use kp_batch::Batch;
 use kp_control::{decided, elected};
 use kp_log::PartitionLog;
 use kp_model::{
-    Answered, EpochEnd, FetchAnswer, FetchRequest, Fetched, LeaderAndIsr, MessageBody, NodeSet,
-    Proposal,
+    Answered, DivergingEpoch, EpochEnd, FetchAnswer, FetchRequest, Fetched, LeaderAndIsr,
+    MessageBody, NodeSet, Proposal,
 };
 use kp_replica::{Act, Answer, Broker, Effect, IsrChange, PlainAct, Role};
 use kp_types::{Epoch, NodeId, Offset, Refusal};
@@ -109,10 +109,10 @@ fn push_answered(text: &mut String, answered: &Answered) -> Result<(), AllocErro
             let (count, watermark) = (fetched.batches.len(), fetched.watermark);
             write!(text, "batches {count} mark {watermark}")
         }
-        Answered::Diverging(Some(found)) => {
-            write!(text, "diverges epoch {} end {}", found.epoch, found.end)
-        }
-        Answered::Diverging(None) => text.push_str("diverges no epoch"),
+        Answered::Diverging(diverging) => match diverging.end() {
+            Some(found) => write!(text, "diverges epoch {} end {}", found.epoch, found.end),
+            None => text.push_str("diverges no epoch"),
+        },
     }
 }
 
@@ -382,7 +382,8 @@ impl Play {
             Call::Part(asked, life, end) => {
                 let end = end.map(|(epoch, end)| EpochEnd { epoch, end });
                 let request = fetch_request(*asked, *life);
-                self.hear(alloc, text, request, Answered::Diverging(end))
+                let diverging = DivergingEpoch::new(end);
+                self.hear(alloc, text, request, Answered::Diverging(diverging))
             }
             _ => Err(Refusal::BadCount),
         }

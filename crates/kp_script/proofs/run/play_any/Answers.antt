@@ -11,8 +11,8 @@ returns-clause-played c =
     IfOk-weaker c.tell.result _ _
     (λ refused told. record {
       answer = c.in-Ok.outcome;
-      lead = led_one (seen_line c.args.line.now) c.in_ok-event.event c.in-Ok.outcome c.args.world.now c.step.new.self c.in_ok-event.ensures.told c.in-Ok.ensures.step;
+      lead = led_one (seen_line c.args.line) c.in_ok-event.event c.in-Ok.outcome c.args.world.now c.step.new.self c.in_ok-event.ensures.told c.in-Ok.ensures.step;
       refused_is = told.1;
-      text_is = told.0 ∙ ap (λ (node : ℕ). c.args.work.now.text.items ++ trace_line c.args.line.now.number node (outcome_of c.in-Ok.outcome)) c.node.ensures;
+      text_is = told.0 ∙ ap (λ (node : ℕ). c.args.work.now.text.items ++ trace_line c.args.line.number node (outcome_of c.in-Ok.outcome)) c.node.ensures;
     })
     c.tell.ensures.told

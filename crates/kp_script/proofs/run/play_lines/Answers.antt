@@ -1,11 +1,9 @@
-use Rattle.std.proofs.Common.{◌≡◌, ◌∙◌, ℕ, ◌+◌, List, ◌∷◌, ◌++◌, [], take, map, sym, ap, subst, arith}
-use Rattle.std.proofs.lemmas.List.{map-append, take_more}
-use Rattle.kp_script.specs.Call.{Call, IsCall}
-use Rattle.kp_script.specs.Seen.{seen_call, seen_line}
+use Rattle.std.proofs.Common.{◌≡◌, ◌∙◌, ℕ, ◌+◌, ◌<◌, List, ◌∷◌, ◌++◌, [], take, drop, length, length-drop, get_or, sym, ap, subst, arith}
+use Rattle.std.proofs.lemmas.List.{get_or-drop, take_more}
+use Rattle.kp_script.specs.Call.{Call, Elect, IsCall}
 use Rattle.kp_script.specs.Playing.{PlayedOut}
-use Rattle.kp_script.specs.declared.script.Line.{Line}
 use Rattle.kp_script.proofs.Played.{out_more, out_none}
-use Rattle.kp_script.proofs.Telling.{each_at_line}
+use Rattle.kp_script.proofs.Telling.{each_at}
 use Rattle.kp_script.proofs.run.play_lines.Goals as goal
 
 pub loop-played-init : goal.loop-played-init
@@ -16,26 +14,28 @@ loop-played-init g c = record {
   few = omega arith;
 }
 
-pub play_line-requires-clause-call : goal.play_line-requires-clause-call
-play_line-requires-clause-call g c =
-    let line = c.index-lines-played.result in
-    subst (λ (l : Line). IsCall c.args.count (seen_call l.call)) (sym c.index-lines-played.is)
-    (each_at_line c.args.count c.args.lines.now c.loop-played.played line c.requires.calls (omega (arith, c.loop-played-test.true)))
+pub play_at-requires-clause-call : goal.play_at-requires-clause-call
+play_at-requires-clause-call g c = λ other.
+    let calls = drop c.args.from c.args.section.now in
+    let inside : c.loop-played.played < length calls = omega (arith, c.loop-played-test.true, length-drop c.args.from c.args.section.now) in
+    subst (λ (call : ℕ × Call). IsCall c.args.count call.1) (get_or-drop c.args.from c.args.section.now c.loop-played.played other)
+    (each_at c.args.count calls c.loop-played.played other c.requires.calls inside)
 
 pub loop-played-preserved : goal.loop-played-preserved
 loop-played-preserved g c =
     let k = c.loop-played.played in
-    let lines : List Line = c.args.lines.now in
-    let line = c.index-lines-played.result in
-    let more : map seen_line (take (k + 1) lines) ≡ map seen_line (take k lines) ++ seen_line line ∷ [] =
-    ap (map seen_line) (take_more lines k line (omega (arith, c.loop-played-test.true)) ∙ ap (λ (l : Line). take k lines ++ l ∷ []) (sym c.index-lines-played.is))
-    ∙ map-append seen_line (take k lines) (line ∷ []) in
+    let calls : List (ℕ × Call) = drop c.args.from c.args.section.now in
+    let other : ℕ × Call = (0, Elect 0) in
+    let call : ℕ × Call = get_or c.args.section.now (c.args.from + k) other in
+    let more : take (k + 1) calls ≡ take k calls ++ call ∷ [] =
+    take_more calls k other (omega (arith, c.loop-played-test.true, length-drop c.args.from c.args.section.now))
+    ∙ ap (λ (l : ℕ × Call). take k calls ++ l ∷ []) (get_or-drop c.args.from c.args.section.now k other) in
     record {
       within = omega (arith, c.loop-played-test.true);
       out =
-          subst (λ (calls : List (ℕ × Call)). PlayedOut calls c.args.world.now c.play_line.new.world (c.loop-played.refused + c.in_ok-refused.field-0) c.play_line.new.work.text.items) (sym more)
-          (out_more (map seen_line (take k lines)) (seen_line line) c.args.world.now c.loop-played.world c.play_line.new.world c.loop-played.refused c.in_ok-refused.field-0 c.loop-played.work.text.items
-          c.play_line.new.work.text.items c.loop-played.invariant.out c.in_ok-refused.ensures.played);
+          subst (λ (calls : List (ℕ × Call)). PlayedOut calls c.args.world.now c.play_at.new.world (c.loop-played.refused + c.in_ok-refused.field-0) c.play_at.new.work.text.items) (sym more)
+          (out_more (take k calls) call c.args.world.now c.loop-played.world c.play_at.new.world c.loop-played.refused c.in_ok-refused.field-0 c.loop-played.work.text.items
+          c.play_at.new.work.text.items c.loop-played.invariant.out (c.in_ok-refused.ensures.played other));
       nodes = c.in_ok-refused.ensures.nodes;
       few = omega (arith, c.loop-played.invariant.few, c.in_ok-refused.ensures.few);
     }

@@ -1,15 +1,14 @@
-use Rattle.std.proofs.Common.{◌≡◌, ◌-◌, ◌≤◌, length, map, take}
-use Rattle.kp_script.specs.Seen.{seen_line}
+use Rattle.std.proofs.Common.{◌≡◌, ◌-◌, ◌≤◌, length, take, drop}
 use Rattle.kp_script.specs.Playing.{PlayedOut}
 use Rattle.kp_script.proofs.run.play_lines.Given as goal
 
 abbrev pub invariant-loop-played : goal.invariant-loop-played
 invariant-loop-played g l = record {
-  within : l.played ≤ length l.lines;
-  out : PlayedOut (map seen_line (take l.played l.lines)) l.fn.world l.world l.refused l.work.text.items;
+  within : l.played ≤ l.left;
+  out : PlayedOut (take l.played (drop l.from l.section)) l.fn.world l.world l.refused l.work.text.items;
   nodes : length l.world.nodes ≡ l.count;
   few : l.refused ≤ l.played;
 }
 
 abbrev pub decreases-loop-played : goal.decreases-loop-played
-decreases-loop-played g l = length l.lines - l.played
+decreases-loop-played g l = l.left - l.played
