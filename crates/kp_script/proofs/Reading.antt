@@ -2,6 +2,7 @@
 use Rattle.std.proofs.Common.{◌≡◌, ℕ, ◌+◌, ◌≤◌, List, [], ◌∷◌, ◌++◌, refl, ap, ◌∙◌, subst, arith, codes, inl, inr, length, map, sym, append_assoc, append-nil, length-append}
 use Rattle.std.specs.List.{AllByRecursion}
 use Rattle.std.proofs.lemmas.List.{length-map, map-append}
+use Rattle.kp_types.proofs.Elements.{all_push}
 use Rattle.kp_script.specs.Call.{Call, Header, call_text, IsCall, IsHeaderText, IsCallText, SpellsNoHeader, SpellsNoCall}
 use Rattle.kp_script.specs.Lines.{lines, counted, counted_from}
 use Rattle.kp_script.specs.Script.{BeginsScript, IsFaultAt, IsScript}
@@ -36,10 +37,6 @@ pub progress_none : (bytes : List ℕ) (header : Header) (first : ℕ × List �
 progress_none bytes header first number rest spelled whole =
     record { first = first; spelled = spelled; whole = whole; calls = tt; few = omega arith }
 
-all_one : {X : Type 0} (P : X → Type 0) (xs : List X) (x : X) → AllByRecursion P xs → P x → AllByRecursion P (xs ++ x ∷ [])
-all_one P [] x all last = (last, tt)
-all_one P (y ∷ ys) x all last = (all.0, all_one P ys x all.1 last)
-
 -- a call more is read
 pub progress_more : (bytes : List ℕ) (header : Header) (items : List (ℕ × Call)) (number : ℕ) (rest : List ℕ) (place : ℕ) (text : List ℕ) (call : Call) (after : ℕ) (left : List ℕ) →
     Progress bytes header items number rest → counted_from number rest ≡ (place, text) ∷ counted_from after left → IsCallText header.count text call → length items + 1 ≤ 1000000 →
@@ -54,7 +51,7 @@ progress_more bytes header items number rest place text call after left p here i
           ∙ ap (λ (l : List (ℕ × List ℕ)). p.first ∷ l)
           (sym (append_assoc (map text_of items) (text_of (place, call) ∷ []) (counted_from after left))
           ∙ ap (λ (l : List (ℕ × List ℕ)). l ++ counted_from after left) (sym (map-append text_of items ((place, call) ∷ []))));
-      calls = all_one (λ call. IsCall header.count call.1) items (place, call) p.calls is.0;
+      calls = all_push (λ call. IsCall header.count call.1) items (place, call) p.calls is.0;
       few = omega (arith, length-append items ((place, call) ∷ []), few);
     }
 
