@@ -6,9 +6,9 @@ ghost use Rattle.kp_types.specs.Devices.{faults_of};
 ghost use Rattle.kp_types.specs.declared.counted.Counted.{Counted as SomeCounted};
 ghost use Rattle.kp_race.specs.declared.outcome.Plan.{Plan as SomePlan};
 ghost use Rattle.kp_cli.specs.declared.call.Call.TheVariants.{Race};
-ghost use Rattle.kp_cli.specs.Line.{is_pipe};
+ghost use Rattle.kp_cli.specs.Line.{file_of, is_pipe};
 ghost use Rattle.kp_cli.specs.Perform.{PerformsCall};
-ghost use Rattle.kp_cli.specs.Program.{Asked, Ends, ExplainsBy, IsAsked, IsLeft, LeavesPipe};
+ghost use Rattle.kp_cli.specs.Program.{Asked, Ends, EndsAsked, ExplainsBy, IsAsked, IsLeft, LeavesPipe};
 
 use crate::Call;
 use crate::devices::{KeptFolder, Source};
@@ -112,31 +112,72 @@ pub fn main_with<
           err_left = err.new;
         }) result.status }
 {
-    let mut file = file;
-    let mut folder = folder;
     let words = match words {
         Ok(words) => words,
         Err(fault) => return leave(refuse_words(err, fault), file, folder),
     };
-    let call = match call_of(alloc, words.as_slice()) {
-        Ok(call) => call,
+    match call_of(alloc, words.as_slice()) {
+        Ok(call) => called(alloc, &call, file, folder, input, races, out, err),
         Err(error) => {
             let status = explain(alloc, error.kind(), &error, out, err);
-            return leave(status, file, folder);
+            leave(status, file, folder)
         }
-    };
+    }
+}
+
+/// Does what [`main_with`] does, with words that ask for this call.
+fn called<
+    F: Source + Drop,
+    K: KeptFolder + Drop,
+    I: Read + Drop,
+    W: Write,
+    E: Write,
+    X: Fn(NodeId, Plan) -> Result<Outcome, Refusal>,
+>(
+    alloc: Global,
+    call: &Call,
+    file: F,
+    folder: K,
+    input: I,
+    races: &X,
+    out: &mut Counted<W>,
+    err: &mut Counted<E>,
+) -> Left<F, K>
+    requires races { (nodes : ℕ) (plan : SomePlan) → (call.now ≡ Race nodes plan) → X.pre races.now nodes plan }
+    requires writes { faults_of out.old + 1 < 2 ^ 64 }
+    requires complaints { faults_of err.old + 1 < 2 ^ 64 }
+    ensures { EndsAsked (record {
+      opens = F.opens;
+      takes = K.takes;
+      races = X.post races.now;
+      streams = record { remaining = F.remaining; file_fault = F.fault_is; held = W.contents; told = E.contents };
+      shelf = record { entries = K.entries; folder_fault = K.fault_is };
+    }) call.now (file_of call.now) (record {
+      input = I.remaining input;
+      file = file;
+      file_left = result.file;
+      folder = folder;
+      folder_left = result.folder;
+      out = out.old;
+      out_left = out.new;
+      err = err.old;
+      err_left = err.new;
+    }) result.status }
+{
     if call.is_pipe() {
         return piped(alloc, call.keep(), input, file, folder, out, err);
     }
     let Some(path) = call.file() else {
-        return performed(alloc, &call, races, file, folder, out, err);
+        return performed(alloc, call, races, file, folder, out, err);
     };
+    let mut file = file;
     if let Err(fault) = file.open(path) {
         return leave(refuse_path(err, path, fault), file, folder);
     }
     let Some(keep) = call.keep() else {
-        return performed(alloc, &call, races, file, folder, out, err);
+        return performed(alloc, call, races, file, folder, out, err);
     };
+    let mut folder = folder;
     if let Err(fault) = folder.take(keep) {
         return leave(refuse_path(err, keep, fault), file, folder);
     }
