@@ -140,7 +140,7 @@ fn message_of<B: BoardName>(letter: Object<B>) -> Result<Message<B>, Object<B>>
     ensures other { IfErr result (λ o. o ≡ letter) }
     ensures no_message { OnErr result ((body : MessageBody) → (pass : ModelMessage) → letter ≡ message body pass → ⊥) }
 {
-    match letter.kind {
+    match letter.into_kind() {
         Kind::Message(message) => Ok(message),
         kind => Err(Object { kind }),
     }

@@ -1,7 +1,7 @@
 //! What a handle holds.
 
 ghost use Rattle.std.specs.Prelude.{◌≡◌, IfOk, IfErr};
-ghost use Rattle.kp_embed.specs.Objects.{empty};
+ghost use Rattle.kp_embed.specs.Objects.{empty, object_view};
 ghost use Rattle.kp_embed.specs.declared.misuse.Misuse.TheVariants.{NoRoom};
 
 use crate::misuse::Misuse;
@@ -62,9 +62,15 @@ pub enum Kind<B: BoardName> {
 }
 
 /// What a handle holds. A clause sees no name of a board.
-#[derive(Drop)]
 pub struct Object<B: BoardName> {
     pub(crate) kind: Kind<B>,
+}
+
+// By hand, so that a function that drops an object calls this, and isn't proved with what drops each kind.
+impl<B: BoardName> Drop for Object<B> {
+    fn drop(self) {
+        let Object { kind: _ } = self;
+    }
 }
 
 impl<B: BoardName> Model for Object<B> {
@@ -73,6 +79,16 @@ impl<B: BoardName> Model for Object<B> {
     ghost Value = { ObjectView };
 
     ghost view = { λ o. object_view o.kind };
+}
+
+impl<B: BoardName> Object<B> {
+    /// What it is.
+    pub(crate) fn into_kind(self) -> Kind<B>
+        ensures { object_view result ≡ self }
+    {
+        let Object { kind } = self;
+        kind
+    }
 }
 
 /// Room for an object, which holds nothing yet.

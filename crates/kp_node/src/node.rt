@@ -14,12 +14,23 @@ use std::marker::Model;
 use std::sync::Arc;
 
 /// A broker node, up or down, with its own pass of a board, which shows it. A clause sees both. Threads share it in a `Mutex`.
-#[derive(Drop)]
 pub struct Node<B: BoardName> {
     pub(crate) alloc: Global,
     pub(crate) board: Arc<Board<B>, Global>,
     pub(crate) broker: Broker,
     pub(crate) pass: NodePass<B>,
+}
+
+// By hand, so that a function that drops a node calls this, and isn't proved with what drops each of its parts.
+impl<B: BoardName> Drop for Node<B> {
+    fn drop(self) {
+        let Node {
+            alloc: _,
+            board: _,
+            broker: _,
+            pass: _,
+        } = self;
+    }
 }
 
 impl<B: BoardName> Model for Node<B> {
