@@ -50,8 +50,8 @@ pub struct EpochEnd {
     pub end: Offset,
 }
 
-/// Where the asked epoch ends in a leader's log, or that the log has no epoch at most that one, in sixteen bytes, as a run keeps
-/// every answer.
+/// Where the asked epoch ends in a leader's log, or that the log has no epoch at most that one (KIP-101, KIP-279), in sixteen
+/// bytes, as a run keeps every answer.
 #[derive(Drop)]
 pub struct DivergingEpoch {
     end: Offset,
