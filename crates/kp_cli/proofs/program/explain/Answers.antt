@@ -1,4 +1,4 @@
-use Rattle.std.proofs.Common.{inl, string_bytes}
+use Rattle.std.proofs.Common.{inl, string_bytes, rules}
 use Rattle.kp_cli.proofs.Lines.{helps, print_failed}
 use Rattle.kp_cli.proofs.program.explain.Goals as goal
 
@@ -13,3 +13,6 @@ returns-in-DisplayHelp g c =
           c.args.err.now c.refuse-in-Err.new.err c.in-Err.refusal c.refuse-in-Err.result c.as_bytes.ensures.value c.in-Err.ensures.only
           c.in-Err.ensures.err c.in-Err.ensures.counted c.refuse-in-Err.ensures.told c.refuse-in-Err.ensures.status),
     )
+
+pub returns-in-Ok-write_all-2 : goal.returns-in-Ok-write_all-2
+returns-in-Ok-write_all-2 g c = search rules

@@ -1,4 +1,4 @@
-use Rattle.std.proofs.Common.{◌≡◌, ◌∙◌, ℕ, ◌+◌, ◌<◌, List, ◌∷◌, ◌++◌, [], take, drop, length, length-drop, get_or, sym, ap, subst, arith}
+use Rattle.std.proofs.Common.{◌≡◌, ◌∙◌, ℕ, ◌+◌, ◌<◌, List, ◌∷◌, ◌++◌, [], take, drop, length, length-drop, get_or, sym, ap, subst, arith, rules}
 use Rattle.std.proofs.lemmas.List.{get_or-drop, take_more}
 use Rattle.kp_script.specs.Call.{Call, Elect, IsCall}
 use Rattle.kp_script.specs.Playing.{PlayedOut}
@@ -39,3 +39,6 @@ loop-played-preserved g c =
       nodes = c.in_ok-refused.ensures.nodes;
       few = omega (arith, c.loop-played.invariant.few, c.in_ok-refused.ensures.few);
     }
+
+pub returns-clause-played : goal.returns-clause-played
+returns-clause-played g c = search rules

@@ -1,4 +1,4 @@
-use Rattle.std.proofs.Common.{◌≡◌, ◌≤◌, Some, None, inl, inr, refl, sym, ap, subst, ◌∙◌}
+use Rattle.std.proofs.Common.{◌≡◌, ◌≤◌, Some, None, inl, inr, refl, sym, ap, subst, ◌∙◌, rules}
 use Rattle.kp_types.proofs.Causes.{only_cause, only_none}
 use Rattle.kp_model.specs.World.{LeaderAndIsr}
 use Rattle.kp_model.specs.Controller.{elected}
@@ -55,3 +55,6 @@ returns-else-exchange-clause-refused g c =
         passed = c.if-exchange.ensures.1;
       },
     )
+
+pub returns-else-exchange-clause-pass : goal.returns-else-exchange-clause-pass
+returns-else-exchange-clause-pass g c = search rules

@@ -1,4 +1,4 @@
-use Rattle.std.proofs.Common.{sym, subst}
+use Rattle.std.proofs.Common.{sym, subst, rules}
 use Rattle.std.specs.Prelude.{IfOk, IfErr}
 use Rattle.kp_model.specs.Set.{record_of}
 use Rattle.kp_model.specs.Event.{Receive, Refused}
@@ -77,3 +77,6 @@ returns-clause-refused g c =
     let does : Does m new (Receive sent) (followed_reply call.result) =
     was_taken q m new sent c.args.answer.now batches.0 unread (followed_reply call.result) tied.0 tied.1 told c.requires.letter batches.1 call.ensures.event c.store_end.ensures.run in
     subst (λ (s : SeatedNode). IfErr call.result (λ refusal. Does s.node new (Receive sent) (Refused refusal))) c.self.view_is (refused_always m new (Receive sent) call.result does)
+
+pub publish_mark-requires-clause-mark : goal.publish_mark-requires-clause-mark
+publish_mark-requires-clause-mark g c = search rules

@@ -1,4 +1,4 @@
-use Rattle.std.proofs.Common.{◌≡◌, true, false, ℕ, List, Option, Some, None, refl, ap, subst, sym}
+use Rattle.std.proofs.Common.{◌≡◌, true, false, ℕ, List, Option, Some, None, refl, ap, subst, sym, rules}
 use Rattle.std.specs.Option.{option_map}
 use Rattle.kp_model.specs.Log.{end_of}
 use Rattle.kp_model.specs.World.{Leads, Follows}
@@ -42,3 +42,6 @@ returns-clause-event c = λ within.
     let P : NumberedNode → Type 0 =
     λ x. DoesUnder r x (record m { state = record m.state { kept = Some l.epoch; mode = Follows (record { leader = l.node; epoch = l.epoch }) } }) Adopt (NowFollows l.node l.epoch) in
     subst P c.self.view_is (done, (refl, refl))
+
+pub returns-then-node-self-clause-adopted : goal.returns-then-node-self-clause-adopted
+returns-then-node-self-clause-adopted c = search rules
