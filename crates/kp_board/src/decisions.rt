@@ -56,7 +56,7 @@ impl<B: BoardName> Board<B> {
             × (d.proposal.known.version < d.decided.version)) }
         ensures refused { IfErr result (λ refusal. IsUndecided (letter message.body) refusal) }
     {
-        let Message { body, mut pass } = message;
+        let (body, mut pass) = message.into_parts();
         let MessageBody::Proposal(proposal) = body else {
             return Err(Refusal::StaleAnswer);
         };

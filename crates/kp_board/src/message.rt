@@ -8,9 +8,26 @@ use kp_model::MessageBody;
 /// A message between nodes, or between a node and the controller: its body beside its pass. A clause sees that the message which the
 /// pass shows, one that was sent in the board's run, has this body's letter: who sent it to whom, what it asks for, and what it
 /// answers. (Own rule.)
-#[derive(Drop)]
 pub struct Message<B: BoardName> {
     pub body: MessageBody,
     pub pass: MessagePass<B>,
     pub ghost tied: { letter_of pass ≡ letter body },
+}
+
+// By hand, so that a function that drops a message calls this, and isn't proved with what drops each of its parts.
+impl<B: BoardName> Drop for Message<B> {
+    fn drop(self) {
+        let Message { body: _, pass: _ } = self;
+    }
+}
+
+impl<B: BoardName> Message<B> {
+    /// Its body, and the pass that shows it. O(1).
+    pub fn into_parts(self) -> (MessageBody, MessagePass<B>)
+        ensures body { result.0 ≡ self.body }
+        ensures pass { result.1 ≡ self.pass }
+    {
+        let Message { body, pass } = self;
+        (body, pass)
+    }
 }

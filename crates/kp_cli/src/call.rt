@@ -8,7 +8,7 @@ use kp_race::Plan;
 use kp_types::NodeId;
 
 /// What the command line asks for.
-#[derive(Debug, Drop)]
+#[derive(Drop)]
 pub enum Call {
     /// Run the script at the path `file` and print its trace.
     Run {

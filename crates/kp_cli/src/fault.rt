@@ -1,17 +1,16 @@
 //! Why a file or a folder can't be had.
 
-ghost use Rattle.std.specs.Prelude.{◌≡◌};
+ghost use Rattle.std.specs.Prelude.{◌≡◌, Some};
 ghost use Rattle.std.specs.IoError.{error_kind};
 ghost use Rattle.kp_cli.specs.Faults.{fault_of, fault_text, folder_fault_of, refusal_of};
 
 use kp_types::Refusal;
-use std::fmt::Debug;
+use std::fmt;
 use std::io::{self, ErrorKind};
 use thiserror::Error;
 
 /// Why a file can't be opened or read, or a folder not be taken or written, or the words not be read.
 #[derive(Clone, Copy, Debug, PartialEq, Eq, Error)]
-#[error("{}", self.text())]
 pub enum Fault {
     /// No file stands at the path.
     NoSuchFile,
@@ -116,5 +115,14 @@ impl Fault {
             Fault::NotText => "an argument isn't UTF-8",
             Fault::Other => "the system gave no reason that is known here",
         }
+    }
+}
+
+/// How it is told: its text.
+impl fmt::Display for Fault {
+    ghost output = { λ fault. Some (fault_text fault) };
+
+    fn fmt<W: fmt::Write>(&self, f: &mut fmt::Formatter<W>) -> fmt::Result {
+        f.write_str(self.text())
     }
 }

@@ -4,10 +4,10 @@ ghost use Rattle.std.specs.Prelude.{◌≡◌, ◌<◌, ◌^◌, IfOk, IsSomeAnd
 ghost use Rattle.std.specs.Prelude.{map, string_bytes, true};
 ghost use Rattle.std.specs.Option.{option_map};
 ghost use Rattle.std.specs.Str.Parse.{IsNumeral, digits_value, without_leading_plus};
-ghost use Rattle.clap.specs.Words.{FailsBy, app_of, fault_of, first_of, found_of, one_of, rows_of, rule_of};
+ghost use Rattle.clap.specs.Words.{App, FailsBy, app_of, fault_of, first_of, found_of, one_of, rows_of, rule_of};
 ghost use Rattle.clap.specs.Words.{subcommand_of, subcommand_rows_of, with_rule, with_subcommand};
 ghost use Rattle.clap.specs.declared.builder.command.Command.TheViews.{out-Command};
-ghost use Rattle.kp_cli.specs.Line.{IsCallOf, IsRaceOf, NamesCall, NamesRace, file_rule, inspect_app, interval_rule, keep_rule, kpart, kpart_reading, kpart_racing, pipe_app};
+ghost use Rattle.kp_cli.specs.Line.{IsCallOf, IsRaceOf, NamesCall, NamesRace, file_rule, inspect_app, interval_rule, keep_rule, kpart, pipe_app};
 ghost use Rattle.kp_cli.specs.Line.{kpart_app, race_app, race_rule, racers_app, run_app, segment_rule};
 
 use crate::Call;
@@ -107,8 +107,8 @@ fn with_argument<'a>(command: Command<'a>, argument: Arg<'a>) -> Result<Command<
 }
 
 fn run_command<'a>(alloc: Global) -> Result<Command<'a>, AllocError>
-    ensures { IfOk result (λ command. (app_of command ≡ run_app)
-        × ((out-Command command).has_globals ≡ false)) }
+    ensures rule { IfOk result (λ command. app_of command ≡ run_app) }
+    ensures local { IfOk result (λ command. (out-Command command).has_globals ≡ false) }
 {
     let command = Command::new(alloc, "run").about("Runs a script and prints its trace");
     let command = with_argument(command, file_argument(alloc, "the script to run"))?;
@@ -116,8 +116,8 @@ fn run_command<'a>(alloc: Global) -> Result<Command<'a>, AllocError>
 }
 
 fn inspect_command<'a>(alloc: Global) -> Result<Command<'a>, AllocError>
-    ensures { IfOk result (λ command. (app_of command ≡ inspect_app)
-        × ((out-Command command).has_globals ≡ false)) }
+    ensures rule { IfOk result (λ command. app_of command ≡ inspect_app) }
+    ensures local { IfOk result (λ command. (out-Command command).has_globals ≡ false) }
 {
     let command = Command::new(alloc, "inspect").about(
         "Reads a log and prints its batches, segments and tables",
@@ -129,8 +129,8 @@ fn inspect_command<'a>(alloc: Global) -> Result<Command<'a>, AllocError>
 
 /// What a race is told of who takes part: `race --nodes N --producers P`.
 fn racers_command<'a>(alloc: Global) -> Result<Command<'a>, AllocError>
-    ensures { IfOk result (λ command. (app_of command ≡ racers_app)
-        × ((out-Command command).has_globals ≡ false)) }
+    ensures rule { IfOk result (λ command. app_of command ≡ racers_app) }
+    ensures local { IfOk result (λ command. (out-Command command).has_globals ≡ false) }
 {
     let nodes = "how many nodes, from 1 to 7";
     let producers = "how many producers, from 1 to 8";
@@ -144,8 +144,8 @@ fn racers_command<'a>(alloc: Global) -> Result<Command<'a>, AllocError>
 }
 
 fn race_command<'a>(alloc: Global) -> Result<Command<'a>, AllocError>
-    ensures { IfOk result (λ command. (app_of command ≡ race_app)
-        × ((out-Command command).has_globals ≡ false)) }
+    ensures rule { IfOk result (λ command. app_of command ≡ race_app) }
+    ensures local { IfOk result (λ command. (out-Command command).has_globals ≡ false) }
 {
     let batches = "how many batches of one record by each producer, from 0 to 10000";
     let moves = "how many elections meanwhile, from 0 to 1000";
@@ -157,8 +157,8 @@ fn race_command<'a>(alloc: Global) -> Result<Command<'a>, AllocError>
 }
 
 fn pipe_command<'a>(alloc: Global) -> Result<Command<'a>, AllocError>
-    ensures { IfOk result (λ command. (app_of command ≡ pipe_app)
-        × ((out-Command command).has_globals ≡ false)) }
+    ensures rule { IfOk result (λ command. app_of command ≡ pipe_app) }
+    ensures local { IfOk result (λ command. (out-Command command).has_globals ≡ false) }
 {
     let command = Command::new(alloc, "pipe").about(
         "Plays a script's lines from standard input, and answers each before it reads the next one",
@@ -166,15 +166,18 @@ fn pipe_command<'a>(alloc: Global) -> Result<Command<'a>, AllocError>
     with_argument(command, keep_argument(alloc))
 }
 
-/// The command with one more subcommand.
+/// The command with one more subcommand, where memory was there for both. It has the `?` of each, so that a way out drops a
+/// command here alone.
 fn add_subcommand<'a>(
-    command: Command<'a>,
-    subcommand: Command<'a>,
+    command: Result<Command<'a>, AllocError>,
+    subcommand: Result<Command<'a>, AllocError>,
 ) -> Result<Command<'a>, AllocError>
-    requires { (out-Command subcommand).has_globals ≡ false }
-    ensures { IfOk result (λ made. app_of made ≡ with_subcommand (app_of command.entry) (app_of subcommand.entry).top) }
+    requires { IfOk subcommand (λ sub. (out-Command sub).has_globals ≡ false) }
+    ensures { (app sub : App) → IfOk command.entry (λ c. app_of c ≡ app) → IfOk subcommand.entry (λ s. app_of s ≡ sub)
+        → IfOk result (λ made. app_of made ≡ with_subcommand app sub.top) }
 {
-    command.subcommand(subcommand)
+    let subcommand = subcommand?;
+    command?.subcommand(subcommand)
 }
 
 /// The program, with no subcommand yet.
@@ -187,31 +190,13 @@ fn program<'a>(alloc: Global) -> Command<'a>
         .subcommand_required(true)
 }
 
-/// What reads a file.
-fn reading_command<'a>(alloc: Global) -> Result<Command<'a>, AllocError>
-    ensures { IfOk result (λ command. app_of command ≡ kpart_reading) }
-{
-    let run = run_command(alloc)?;
-    let reading = add_subcommand(program(alloc), run)?;
-    let inspect = inspect_command(alloc)?;
-    add_subcommand(reading, inspect)
-}
-
-/// What reads a file, and races.
-fn racing_command<'a>(alloc: Global) -> Result<Command<'a>, AllocError>
-    ensures { IfOk result (λ command. app_of command ≡ kpart_racing) }
-{
-    let race = race_command(alloc)?;
-    let reading = reading_command(alloc)?;
-    add_subcommand(reading, race)
-}
-
 fn whole_command<'a>(alloc: Global) -> Result<Command<'a>, AllocError>
     ensures { IfOk result (λ command. app_of command ≡ kpart) }
 {
-    let pipe = pipe_command(alloc)?;
-    let racing = racing_command(alloc)?;
-    add_subcommand(racing, pipe)
+    let running = add_subcommand(Ok(program(alloc)), run_command(alloc));
+    let reading = add_subcommand(running, inspect_command(alloc));
+    let racing = add_subcommand(reading, race_command(alloc));
+    add_subcommand(racing, pipe_command(alloc))
 }
 
 /// The matches that clap has for `words`, of which the first is the program's name.

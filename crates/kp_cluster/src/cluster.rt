@@ -157,9 +157,7 @@ impl<B: BoardName, C: Carry<Parcel<B>>> Cluster<B, C> {
         let place = self.workers.len() as u8;
         self.workers.reserve(1)?;
         let worker = start_one(rt, place, job, &self.carrier, gate, stack)?;
-        let Ok(()) = self.workers.push(worker) else {
-            unreachable!()
-        };
+        self.workers.push_reserved(worker);
         Ok(())
     }
 

@@ -13,7 +13,7 @@ pub trait Gate {
 }
 
 /// Lets each step through.
-#[derive(Debug, Clone, Copy)]
+#[derive(Clone, Copy)]
 pub struct Open;
 
 impl Gate for Open {

@@ -12,7 +12,6 @@ use std::sync::{Arc, Mutex, Wait};
 use std::thread;
 
 /// Whose parcels a worker handles.
-#[derive(Drop)]
 pub(crate) enum Job<B: BoardName> {
     /// This node's; a message for the controller goes to that place.
     Node {
@@ -23,6 +22,19 @@ pub(crate) enum Job<B: BoardName> {
     Controller {
         board: Arc<Board<B>, Global>,
     },
+}
+
+// By hand, so that a function that drops a job calls this, and isn't proved with what drops each of its parts.
+impl<B: BoardName> Drop for Job<B> {
+    fn drop(self) {
+        match self {
+            Job::Node {
+                node: _,
+                controller: _,
+            } => {}
+            Job::Controller { board: _ } => {}
+        }
+    }
 }
 
 impl<B: BoardName> Job<B> {

@@ -12,7 +12,7 @@ use kp_types::{NodeId, Refusal};
 use std::sync::{Mutex, Wait};
 
 /// What became of a worker's step.
-#[derive(Debug, Clone, Copy, PartialEq, Eq)]
+#[derive(Clone, Copy, PartialEq, Eq)]
 pub enum Done {
     /// There was no parcel.
     Idle,

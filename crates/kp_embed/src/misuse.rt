@@ -1,7 +1,7 @@
 //! What keeps a call of handles from being made.
 
 /// Why a call wasn't made. Nothing has changed then. (Own rule.)
-#[derive(Clone, Copy, Debug, PartialEq, Eq)]
+#[derive(Clone, Copy, PartialEq, Eq)]
 pub enum Misuse {
     /// The handle is closed.
     Closed,

@@ -14,7 +14,7 @@ use std::sync::Arc;
 
 /// A follower asks for the batches that come after its log. (Kafka protocol guide, 'Fetch'; KIP-320 for the epoch;
 /// own: the last epoch and the life.)
-#[derive(Clone, Copy, Debug, PartialEq, Eq)]
+#[derive(Clone, Copy, PartialEq, Eq)]
 pub struct FetchRequest {
     /// Who asks.
     pub from: NodeId,
@@ -42,7 +42,7 @@ pub struct Fetched {
 }
 
 /// Where a leader epoch ends in a leader's log.
-#[derive(Clone, Copy, Debug, PartialEq, Eq)]
+#[derive(Clone, Copy, PartialEq, Eq)]
 pub struct EpochEnd {
     /// The greatest leader epoch at most the asked one that the leader's log has.
     pub epoch: Epoch,
@@ -125,7 +125,7 @@ pub struct FetchAnswer {
 }
 
 /// A leader asks the controller for another in-sync set. (KIP-497; Kafka protocol guide, 'AlterPartition'.)
-#[derive(Clone, Copy, Debug, PartialEq, Eq)]
+#[derive(Clone, Copy, PartialEq, Eq)]
 pub struct Proposal {
     /// Who asks.
     pub from: NodeId,
@@ -136,7 +136,7 @@ pub struct Proposal {
 }
 
 /// What the controller says to a proposal, with the proposal. It goes to the sender of the proposal.
-#[derive(Clone, Copy, Debug, PartialEq, Eq)]
+#[derive(Clone, Copy, PartialEq, Eq)]
 pub struct Decision {
     /// As it came.
     pub proposal: Proposal,
@@ -198,7 +198,7 @@ impl Fetched {
 }
 
 /// What a message says, to be told: no share of a batch.
-#[derive(Clone, Copy, Debug, PartialEq, Eq)]
+#[derive(Clone, Copy)]
 pub enum Said {
     /// A follower asks for the batches after its log: by the log's end, and by its last batch's leader epoch, none for an
     /// empty log.

@@ -14,7 +14,7 @@ fn places(members: [bool; NODE_PLACES])
 }
 
 /// A set of nodes.
-#[derive(Clone, Copy, Debug, PartialEq, Eq)]
+#[derive(Clone, Copy, PartialEq, Eq)]
 pub struct NodeSet {
     /// Whether each node is in it, by its number.
     pub members: [bool; NODE_PLACES],
@@ -80,14 +80,14 @@ impl NodeSet {
 }
 
 /// Who leads, in which leader epoch.
-#[derive(Clone, Copy, Debug, PartialEq, Eq)]
+#[derive(Clone, Copy, PartialEq, Eq)]
 pub struct Leader {
     pub node: NodeId,
     pub epoch: Epoch,
 }
 
 /// The controller's record. Every change raises its version. (Kafka replication design.)
-#[derive(Clone, Copy, Debug, PartialEq, Eq)]
+#[derive(Clone, Copy, PartialEq, Eq)]
 pub struct LeaderAndIsr {
     /// None before the first election.
     pub leader: Option<Leader>,

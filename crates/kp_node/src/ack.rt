@@ -11,7 +11,7 @@ use kp_replica::Receipt;
 use kp_types::Offset;
 
 /// Whether a receipt's batch is committed.
-#[derive(Clone, Copy, Debug, PartialEq, Eq)]
+#[derive(Clone, Copy, PartialEq, Eq)]
 pub enum Ack {
     /// It lies below the node's high watermark.
     Yes,

@@ -196,7 +196,7 @@ impl<B: BoardName> Node<B> {
           told = self.new.pass.told;
         } }
     {
-        let Message { body, pass } = message;
+        let (body, pass) = message.into_parts();
         match body {
             MessageBody::FetchRequest(request) => match self.serve_fetch(request, pass) {
                 Ok(answer) => Ok(Some(answer)),

@@ -16,7 +16,7 @@ use std::sync::{Mutex, Wait};
 const MOST_PIECES: u32 = 1_000_000;
 
 // A batch below a node's watermark, by its place and what fixes its bytes.
-#[derive(Clone, Copy, Debug, PartialEq, Eq)]
+#[derive(Clone, Copy, PartialEq, Eq)]
 struct Committed {
     base: Offset,
     epoch: Epoch,

@@ -3,7 +3,7 @@
 use kp_types::{NodeId, Offset};
 
 /// How many producers hand in how many batches each, and how many elections there are meanwhile. (Own rule.)
-#[derive(Clone, Copy, Debug, PartialEq, Eq)]
+#[derive(Clone, Copy, PartialEq, Eq)]
 pub struct Plan {
     /// Producers, each in a thread of its own: producer p has the id p, its epoch 0, and sequence numbers from 0 on.
     pub producers: u8,
@@ -14,7 +14,7 @@ pub struct Plan {
 }
 
 /// What came of a race. (Own rule.)
-#[derive(Clone, Copy, Debug, PartialEq, Eq)]
+#[derive(Clone, Copy, PartialEq, Eq)]
 pub struct Outcome {
     pub nodes: NodeId,
     /// How many batches producers have a receipt of, each counted once.

@@ -96,7 +96,7 @@ fn batch_of(speller: &mut Speller, number: u8, sequence: u16) -> Result<Handed, 
 }
 
 // What a try to hand in a batch came to.
-#[derive(Drop)]
+#[derive(Clone, Copy)]
 enum Tried {
     // A node took it.
     Took(Receipt),

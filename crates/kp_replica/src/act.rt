@@ -17,7 +17,7 @@ use kp_types::Offset;
 use kp_visible::ReadRecords;
 
 /// What a node does that is handed no bytes. (Kafka replication design.)
-#[derive(Clone, Copy, Debug, PartialEq, Eq)]
+#[derive(Clone, Copy)]
 pub enum PlainAct {
     /// It takes up the controller's record.
     Adopt,

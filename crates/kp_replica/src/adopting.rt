@@ -6,7 +6,7 @@ use kp_model::{Leader, LeaderAndIsr};
 use kp_types::{Epoch, NodeId, Offset, Refusal};
 
 /// The part that a node took up.
-#[derive(Clone, Copy, Debug, PartialEq, Eq)]
+#[derive(Clone, Copy, PartialEq, Eq)]
 pub enum Role {
     /// It leads from its log's end on.
     Leads { epoch: Epoch, start: Offset },

@@ -11,7 +11,7 @@ use kp_model::{Decision, Leader, LeaderAndIsr, MessageBody, NodeSet, Proposal};
 use kp_types::{NodeId, Refusal};
 
 /// A change of the in-sync replicas, for which their leader asks.
-#[derive(Clone, Copy, Debug, PartialEq, Eq)]
+#[derive(Clone, Copy, PartialEq, Eq)]
 pub enum IsrChange {
     /// This node joins them, or stays.
     Join(NodeId),
@@ -20,7 +20,7 @@ pub enum IsrChange {
 }
 
 /// What a leader learned from a decision of the controller.
-#[derive(Clone, Copy, Debug, PartialEq, Eq)]
+#[derive(Clone, Copy, PartialEq, Eq)]
 pub struct Learned {
     /// The in-sync replicas, as it knows them now.
     pub isr: NodeSet,

@@ -22,7 +22,7 @@ const NODES: u64 = MOST_NODES as u64;
 const GREATEST_MESSAGE: u64 = 2_147_483_647;
 
 /// How many nodes there are, and the limits of their segments and indexes.
-#[derive(Clone, Copy, Debug, PartialEq, Eq)]
+#[derive(Clone, Copy, PartialEq, Eq)]
 pub struct Header {
     /// How many nodes there are, 1 to 7.
     pub count: u8,
@@ -34,7 +34,7 @@ pub struct Header {
 
 /// What an append says of its producer (KIP-98). Each field may be absent without the others: then it is -1, the greatest number
 /// of its type, as in a batch.
-#[derive(Clone, Copy, Debug, PartialEq, Eq)]
+#[derive(Clone, Copy)]
 pub struct Sender {
     epoch: u16,
     sequence: u32,
@@ -95,7 +95,7 @@ impl Sender {
 }
 
 /// What an event's line asks for.
-#[derive(Clone, Copy, Debug, PartialEq, Eq)]
+#[derive(Clone, Copy)]
 pub enum Call<'a> {
     /// The controller elects the node leader, of a new leader epoch.
     Elect {

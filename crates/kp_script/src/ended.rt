@@ -11,11 +11,21 @@ use std::marker::Model;
 
 /// What a script's run leaves: how many of its events were refused, and the nodes of its last world, of which the logs are
 /// lent.
-#[derive(Drop)]
 pub struct Ended {
     refused: u64,
     count: NodeId,
     world: World,
+}
+
+// By hand, so that a function that drops what a run left calls this, and isn't proved with what drops each of its parts.
+impl Drop for Ended {
+    fn drop(self) {
+        let Ended {
+            refused: _,
+            count: _,
+            world: _,
+        } = self;
+    }
 }
 
 impl Model for Ended {

@@ -273,6 +273,17 @@ fn counting_channels<B: BoardName, R: Wait + Copy + Drop>(
     Ok(Watched::new(channels, shared))
 }
 
+// The same, shared, and what they count into.
+fn counted_channels<B: BoardName, R: Wait + Copy + Drop>(
+    rt: &R,
+    alloc: Global,
+) -> Result<(Arc<Waiting, Global>, Arc<Counting<B, R>, Global>), Refusal> {
+    let waiting = Arc::new(alloc, Waiting::new())?;
+    let channels = counting_channels(rt, alloc, &waiting)?;
+    let carrier = Arc::new(alloc, channels)?;
+    Ok((waiting, carrier))
+}
+
 type Carrier<B, R> = Arc<Rough<B, Counting<B, R>, R>, Global>;
 
 // A carrier over them, by which messages fare so.
@@ -387,10 +398,9 @@ fn leaves<
     B: BoardName + Send + Sync + 'static,
     R: Threads + Wait + Copy + Drop + Send + Sync + 'static,
 >(rt: &R, alloc: Global, nodes: &Vec<Shared<B>>) -> Result<bool, Refusal> {
-    let gate = Arc::new(alloc, Open)?;
-    let waiting = Arc::new(alloc, Waiting::new())?;
-    let carrier = Arc::new(alloc, counting_channels(rt, alloc, &waiting)?)?;
     let leader = nodes.first().ok_or(Refusal::BadCount)?;
+    let (waiting, carrier) = counted_channels::<B, R>(rt, alloc)?;
+    let gate = Arc::new(alloc, Open)?;
     let cluster = started(rt, alloc, nodes, Arc::try_clone(&carrier)?, gate)?;
     let is_gone = ask_until_gone(rt, &**leader, &*carrier, &*waiting);
     stop_all(rt, cluster);
@@ -474,7 +484,11 @@ pub(crate) const CHOICES: [Choice; 6] = [
 
 // As above; and where each message is lost no watermark rises, since no leader hears from a follower.
 fn holds_alone(choice: Choice, outcome: &Outcome) -> bool {
-    holds(&PLAN, outcome) && (choice != Choice::Lose || outcome.committed == 0)
+    let is_as_low = match choice {
+        Choice::Lose => outcome.committed == 0,
+        _ => true,
+    };
+    is_as_low && holds(&PLAN, outcome)
 }
 
 #[test]

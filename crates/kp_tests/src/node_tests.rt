@@ -68,7 +68,16 @@ fn is_kept(alloc: Global) -> Result<bool, Refusal> {
     if section.len() != 3 {
         return Ok(false);
     }
-    Ok(section.line(0) == first && section.line(2) == last)
+    Ok(match (section.line(0).call, section.line(2).call) {
+        (
+            Call::Elect { node: 1 },
+            Call::Raw {
+                node: 0,
+                digits: b"7f",
+            },
+        ) => { (section.line(0).number, section.line(2).number) == (2, 5) }
+        _ => false,
+    })
 }
 
 // The word of three nodes' record, at the start and after an election.

@@ -1,9 +1,9 @@
 //! Producers, their transactions, and what a leader does with what they send (KIP-98).
 //! A batch of one record has 69 bytes, of three 85, and a marker 78.
 
-use crate::logs::{LIMITS, batch_of, log_of, there_and_back, told_of};
+use crate::logs::{LIMITS, batch_of, log_of, push_answer, there_and_back, told_of};
 use crate::shown::is;
-use kp_admit::{Admission, admit};
+use kp_admit::admit;
 use kp_log::PartitionLog;
 use kp_producers::Producers;
 use kp_txns::Txns;
@@ -132,15 +132,19 @@ fn a_leader_admits_by_its_tables(rt: HostRuntime) {
 }
 
 // What a leader does with a marker that a client hands it.
-fn handed(alloc: Global) -> Result<Admission, Refusal> {
+fn handed(alloc: Global) -> Result<String, Refusal> {
     let marker = batch_of(alloc, "a9.3.7")?;
-    Ok(admit(&Producers::new(alloc), &Txns::new(alloc), &marker))
+    let mut text = String::new(alloc);
+    push_answer(
+        &mut text,
+        admit(&Producers::new(alloc), &Txns::new(alloc), &marker),
+    )?;
+    Ok(text)
 }
 
 #[test]
 fn a_marker_is_no_clients(rt: HostRuntime) {
-    let refused = Admission::Refused(Refusal::ControlFromClient);
-    assert_eq!(rt; handed(rt.alloc()), Ok(refused));
+    is(&rt, handed(rt.alloc()), "F30 ControlFromClient ");
 }
 
 // Where the log is stable at 4 and at 5, once its transaction is ended by the marker at 4.

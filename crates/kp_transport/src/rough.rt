@@ -10,7 +10,7 @@ use std::alloc::Global;
 use std::sync::{Arc, Mutex, Wait};
 
 /// What happens to a message. (Own rule.)
-#[derive(Debug, Clone, Copy, PartialEq, Eq)]
+#[derive(Clone, Copy)]
 pub enum Choice {
     /// It is lost.
     Lose,

@@ -45,7 +45,7 @@ pub const MAX_INDEX_INTERVAL: u32 = 1_048_576;
 
 /// The sizes of a log, in bytes. After Kafka's `segment.bytes`, `index.interval.bytes` and
 /// `max.message.bytes`.
-#[derive(Clone, Copy, Debug, PartialEq, Eq)]
+#[derive(Clone, Copy, PartialEq, Eq)]
 pub struct Limits {
     /// The most bytes of a segment that has more than one batch.
     pub segment_bytes: u32,

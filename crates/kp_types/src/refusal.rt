@@ -10,7 +10,7 @@ use std::fmt;
 
 /// Why a call was refused. Numbers and names are those that the program prints; where Kafka's protocol
 /// has an error code for it, that stands beside it.
-#[derive(Clone, Copy, Debug, PartialEq, Eq)]
+#[derive(Clone, Copy, PartialEq, Eq)]
 pub enum Refusal {
     /// Fewer bytes than the batch needs.
     Truncated,
@@ -147,6 +147,13 @@ impl fmt::Display for Refusal {
             Some(place) => write!(f, " {place}"),
             None => Ok(()),
         }
+    }
+}
+
+/// The same text.
+impl fmt::Debug for Refusal {
+    fn fmt<W: fmt::Write>(&self, f: &mut fmt::Formatter<W>) -> fmt::Result {
+        fmt::Display::fmt(self, f)
     }
 }
 

@@ -18,7 +18,7 @@ returns-in_err-decision-clause-refused g c =
     let same : record_of c.record_of_word.result ≡ x.0 = c.record_of_word.ensures x.0 x.1 in
     let cause : decide_cause x.0 p ≡ Some f = ap (λ (s : LeaderAndIsr). decide_cause s p) (sym same) ∙ only_cause _ (decide_cause (record_of c.record_of_word.result) p) f c.in_err-decision.ensures.refused in
     let shows = subst (λ (o : Option Refusal). ShowsAfter o x.0 p c.exchange_decided-found.new.pass) cause x.2 in
-    let why = subst (λ (l : Letter). IsUndecided l f) (sym (ap letter c.in-Proposal.is)) (x.0, cause, shows.1) in
+    let why = subst (λ (l : Letter). IsUndecided l f) (sym (ap letter (sym c.into_parts-body.ensures.body ∙ c.in-Proposal.is))) (x.0, cause, shows.1) in
     handed_on c.from_residual.result f _ c.from_residual.ensures.1 why
 
 pub returns-clause-decided : goal.returns-clause-decided
@@ -29,7 +29,7 @@ returns-clause-decided g c =
     let free : decide_cause x.0 p ≡ None = ap (λ (s : LeaderAndIsr). decide_cause s p) (sym same) ∙ only_none _ (decide_cause (record_of c.record_of_word.result) p) c.in_ok-decision.decision c.in_ok-decision.ensures.refused in
     let shows = subst (λ (o : Option Refusal). ShowsAfter o x.0 p c.exchange_decided-found.new.pass) free x.2 in
     let made : decision_of c.in_ok-decision.decision ≡ decision x.0 p = c.in_ok-decision.ensures.decided ∙ ap (λ (s : LeaderAndIsr). decision s p) same in
-    (p, x.0, ap letter c.in-Proposal.is, shows.0, ap (λ (d : Decision). Deciding d) made, free, shows.1)
+    (p, x.0, ap letter (sym c.into_parts-body.ensures.body ∙ c.in-Proposal.is), shows.0, ap (λ (d : Decision). Deciding d) made, free, shows.1)
 
 pub returns-clause-newer : goal.returns-clause-newer
 returns-clause-newer g c =
