@@ -15,7 +15,7 @@ PASSED = "\ntest result: ok\n"
 # All that one which doesn't has on standard output: where its assertion stands.
 STOPPED = r"\ntest stopped at src/\w+\.rt:\d+:\d+\n"
 # What names want of memory: the text of a refusal, or a found value that has one.
-NAMED = r"F33 Memory( in place of .*)?\n|assertion `left == right` failed.*\n  left: .*(Err\(Memory\)|F33 Memory).*\n right: .*\n"
+NAMED = r"F33 Memory( in place of .*)?\n|assertion `left == right` failed.*\n  left: .*F33 Memory.*\n right: .*\n"
 
 # Those that hold also where one growth is refused. Where all later ones are, too, they may say a text that has F33 in it.
 ALWAYS = (
