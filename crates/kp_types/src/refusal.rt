@@ -152,6 +152,8 @@ impl fmt::Display for Refusal {
 
 /// The same text.
 impl fmt::Debug for Refusal {
+    ghost debug_output = { λ refusal. Some (refusal_text refusal) };
+
     fn fmt<W: fmt::Write>(&self, f: &mut fmt::Formatter<W>) -> fmt::Result {
         fmt::Display::fmt(self, f)
     }
