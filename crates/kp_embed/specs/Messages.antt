@@ -57,6 +57,11 @@ Alters change x y answer =
     × IfErr answer (λ refusal. Does x.node y.node (change_act change) (Refused refusal))
     × ((c : ModelRecord) → IsRefusedOnlyBy (cause c x.node.number x.node.state (change_act change)) answer) × OnErr answer (y ≡ x)
 
+-- it proposed this change, or asked its leader where there is none
+abbrev pub Sends : Option IsrChange → SeatedNode → SeatedNode → Result Posted Refusal → Type 0
+Sends None = Asks
+Sends (Some change) = Alters change
+
 -- this message came to it, as `Node::step` takes it
 abbrev pub Steps : Posted → SeatedNode → SeatedNode → Result (Option Posted) Refusal → Type 0
 Steps m x y answer =

@@ -5,7 +5,7 @@ ghost use Rattle.kp_model.specs.World.{Message as ModelMessage};
 ghost use Rattle.kp_model.specs.declared.message.MessageBody.{MessageBody};
 ghost use Rattle.kp_embed.specs.Called.{NodeMet};
 ghost use Rattle.kp_embed.specs.Objects.{message};
-ghost use Rattle.kp_embed.specs.Messages.{Alters, Asks, DecideCalled, DecideMet, SendCalled, StepCalled, Decided, StepMet, Took, answer_of, handle_left, post_of, posted, posts_of, refusal_of};
+ghost use Rattle.kp_embed.specs.Messages.{DecideCalled, DecideMet, SendCalled, Sends, StepCalled, Decided, StepMet, Took, answer_of, handle_left, post_of, posted, posts_of, refusal_of};
 
 use crate::handle::{Handle, Unnamed, fill, is_open, put, take, take_two};
 use crate::misuse::Misuse;
@@ -17,33 +17,42 @@ use kp_replica::IsrChange;
 use kp_types::Refusal;
 use std::alloc::Global;
 
-fn ask_object<B: BoardName>(object: &mut Object<B>) -> Called<Message<B>>
-    ensures { NodeMet object.old object.new result (λ x y sent. Asks x y (post_of sent)) }
+// The node proposes the change, or asks its leader where there is none.
+fn sent_by<B: BoardName>(
+    node: &mut Node<B>,
+    proposed: Option<IsrChange>,
+) -> Result<Message<B>, Refusal>
+    ensures { Sends proposed node.old node.new (post_of result) }
+{
+    match proposed {
+        None => node.ask(),
+        Some(change) => node.alter(change),
+    }
+}
+
+fn send_object<B: BoardName>(
+    object: &mut Object<B>,
+    proposed: Option<IsrChange>,
+) -> Called<Message<B>>
+    ensures { NodeMet object.old object.new result (λ x y sent. Sends proposed x y (post_of sent)) }
 {
     match &mut object.kind {
-        Kind::Node(node) => Ok(node.ask()),
+        Kind::Node(node) => Ok(sent_by(node, proposed)),
         _ => Err(Misuse::OtherKind),
     }
 }
 
-fn alter_object<B: BoardName>(object: &mut Object<B>, change: IsrChange) -> Called<Message<B>>
-    ensures { NodeMet object.old object.new result (λ x y sent. Alters change x y (post_of sent)) }
-{
-    match &mut object.kind {
-        Kind::Node(node) => Ok(node.alter(change)),
-        _ => Err(Misuse::OtherKind),
-    }
-}
-
-/// Asks the node's leader, as `Node::ask` does, and puts the message into a closed handle.
+/// Proposes a change of the in-sync replicas, as `Node::alter` does, or asks the node's leader, as `Node::ask` does, where there is none.
+/// The message comes into a closed handle.
 #[tactic(auto, using(crate::proofs::Bad::node_closed, crate::proofs::Bad::node_kind, crate::proofs::Bad::out_closed, crate::proofs::Bad::out_kind))]
-pub(crate) fn ask<B: BoardName + Unnamed>(
+pub(crate) fn send<B: BoardName + Unnamed>(
     alloc: Global,
     node: &mut Handle,
+    proposed: Option<IsrChange>,
     out: &mut Handle,
 ) -> Called<()>
     requires { IfSome node.old.object (λ _. node.old.table ≡ B.table) }
-    ensures called { SendCalled node.old.object node.new.object out.old.object out.new.object result Asks }
+    ensures called { SendCalled node.old.object node.new.object out.old.object out.new.object result (Sends proposed) }
     ensures cluster { node.new.table ≡ node.old.table }
     ensures named { IfOk result (λ done. OnOk done (out.new.table ≡ B.table)) }
 {
@@ -52,43 +61,7 @@ pub(crate) fn ask<B: BoardName + Unnamed>(
     }
     let made = room::<B>(alloc)?;
     let mut object = take::<B>(alloc, node)?;
-    let answer = ask_object(&mut object);
-    put(node, object);
-    match answer {
-        Ok(Ok(sent)) => {
-            fill(
-                out,
-                made,
-                Object {
-                    kind: Kind::Message(sent),
-                },
-            );
-            Ok(Ok(()))
-        }
-        Ok(Err(refusal)) => Ok(Err(refusal)),
-        Err(misuse) => Err(misuse),
-    }
-}
-
-/// Proposes a change of the in-sync replicas, as `Node::alter` does, and puts the message into a closed handle.
-#[tactic(auto, using(crate::proofs::Bad::node_closed, crate::proofs::Bad::node_kind, crate::proofs::Bad::out_closed, crate::proofs::Bad::out_kind))]
-pub(crate) fn alter<B: BoardName + Unnamed>(
-    alloc: Global,
-    node: &mut Handle,
-    change: IsrChange,
-    out: &mut Handle,
-) -> Called<()>
-    requires { IfSome node.old.object (λ _. node.old.table ≡ B.table) }
-    ensures called { SendCalled node.old.object node.new.object out.old.object out.new.object result (Alters change) }
-    ensures cluster { node.new.table ≡ node.old.table }
-    ensures named { IfOk result (λ done. OnOk done (out.new.table ≡ B.table)) }
-{
-    if is_open(out) {
-        return Err(Misuse::InUse);
-    }
-    let made = room::<B>(alloc)?;
-    let mut object = take::<B>(alloc, node)?;
-    let answer = alter_object(&mut object, change);
+    let answer = send_object(&mut object, proposed);
     put(node, object);
     match answer {
         Ok(Ok(sent)) => {

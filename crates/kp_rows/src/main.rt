@@ -167,8 +167,43 @@ fn show_taken(rt: &HostRuntime, folder: &GivenFolder) -> io::Result<()> {
     show_folder(rt, folder)
 }
 
-/// Does one command line, as the whole program does it, and shows the folder that was taken. Of words that are no call it prints
-/// the kind of clap's refusal, where the text went, and the status; of help and the version the text too.
+/// The words, each in memory of its own.
+fn handed(rt: &HostRuntime, words: &[&str]) -> io::Result<Vec<String>> {
+    let mut handed = Vec::new(rt.alloc());
+    for word in words {
+        handed.push(word.to_string(rt.alloc())?)?;
+    }
+    Ok(handed)
+}
+
+/// Of words that are no call, prints the kind of clap's refusal, where the text went, and the status.
+fn show_kind(rt: &HostRuntime, words: &[&str], told: &[u8], status: u8) -> io::Result<()> {
+    match call_of(rt.alloc(), words) {
+        Ok(_) => Ok(()),
+        Err(error) => {
+            let kind = error.kind();
+            let place = if told.is_empty() { "error" } else { "output" };
+            println!(rt; "no call: {kind:?} on standard {place}, status {status}")
+        }
+    }
+}
+
+/// Prints what a command line left: of words that are no call the kind of the refusal, then the text, the complaint and the status, and
+/// last the folder that was taken.
+fn show_left(
+    rt: &HostRuntime,
+    words: &[&str],
+    told: &[u8],
+    complaint: &[u8],
+    status: u8,
+    folder: &GivenFolder,
+) -> io::Result<()> {
+    show_kind(rt, words, told, status)?;
+    show(rt, told, complaint, status)?;
+    show_taken(rt, folder)
+}
+
+/// Does one command line, as the whole program does it, and shows what it leaves.
 fn perform_words<X: Fn(NodeId, Plan) -> Result<Outcome, Refusal>>(
     rt: &HostRuntime,
     words: &[&str],
@@ -178,33 +213,28 @@ fn perform_words<X: Fn(NodeId, Plan) -> Result<Outcome, Refusal>>(
 ) -> io::Result<()>
     requires { (nodes : ℕ) (plan : SomePlan) → nodes ≤ 7 → X.pre races.now nodes plan }
 {
+    let handed = handed(rt, words)?;
     let mut out = Counted::new(Faulty::new(Vec::new(rt.alloc()), failing.write));
     let mut err = Counted::new(Vec::new(rt.alloc()));
-    let file = GivenFile::of(rt, Vec::new(rt.alloc()), failing.read);
-    let folder = GivenFolder::new(rt.alloc(), failing.put);
-    let mut handed = Vec::new(rt.alloc());
-    for word in words {
-        handed.push(word.to_string(rt.alloc())?)?;
-    }
     let left = main_with(
         rt.alloc(),
         Ok(handed),
-        file,
-        folder,
+        GivenFile::of(rt, Vec::new(rt.alloc()), failing.read),
+        GivenFolder::new(rt.alloc(), failing.put),
         Faulty::new(input, failing.read),
         races,
         &mut out,
         &mut err,
     );
-    let status = left.status;
-    let told = out.device().bytes.as_slice();
-    if let Err(error) = call_of(rt.alloc(), words) {
-        let kind = error.kind();
-        let place = if told.is_empty() { "error" } else { "output" };
-        println!(rt; "no call: {kind:?} on standard {place}, status {status}")?;
-    }
-    show(rt, told, err.device().as_slice(), status)?;
-    show_taken(rt, left.folder.device())
+    let (told, complaint) = (out.device().bytes.as_slice(), err.device().as_slice());
+    show_left(
+        rt,
+        words,
+        told,
+        complaint,
+        left.status,
+        left.folder.device(),
+    )
 }
 
 /// Does one command line, of which a race isn't run: this comes of it, and its nodes are those that were asked for.

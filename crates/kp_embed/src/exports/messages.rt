@@ -8,7 +8,7 @@ ghost use Rattle.kp_embed.specs.Outs.{change_in};
 ghost use Rattle.kp_embed.specs.declared.misuse.Misuse.{Misuse};
 
 use crate::handle::Handle;
-use crate::messages::{alter, ask, decide, step};
+use crate::messages::{decide, send, step};
 use crate::numbers::{misuse_number, refusal_number};
 use crate::outs::change_in;
 use std::alloc::Global;
@@ -22,7 +22,7 @@ pub extern "C" fn kp_ask(alloc: Global, node: &mut Handle, message: &mut Handle)
     ensures cluster { node.new.table ≡ node.old.table }
     ensures named { result ≡ 0 → message.new.table ≡ node.old.table }
 {
-    match ask::<Brand>(alloc, node, message) {
+    match send::<Brand>(alloc, node, None, message) {
         Ok(Ok(())) => 0,
         Ok(Err(refusal)) => refusal_number(&refusal),
         Err(misuse) => misuse_number(&misuse),
@@ -43,7 +43,7 @@ pub extern "C" fn kp_alter(
     ensures cluster { node.new.table ≡ node.old.table }
     ensures named { result ≡ 0 → message.new.table ≡ node.old.table }
 {
-    match alter::<Brand>(alloc, node, change_in(joins, which), message) {
+    match send::<Brand>(alloc, node, Some(change_in(joins, which)), message) {
         Ok(Ok(())) => 0,
         Ok(Err(refusal)) => refusal_number(&refusal),
         Err(misuse) => misuse_number(&misuse),
