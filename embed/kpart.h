@@ -4,15 +4,15 @@
  * free. It has no thread and no lock, and never waits. The host owns threads and locks.
  *
  * WHAT IS PROVED. The library is crates/kp_embed, written in Rattle: each function below is proved safe, to end, and to
- * meet its contract, which stands in crates/kp_embed/src/exports/ and speaks of what the handles hold, before and after.
- * At each function stands the word of the contract that carries it (crates/kp_embed/specs/), and the call of kp_node or
+ * meet its contract, which stands in crates/kp_embed/src/ and speaks of what the handles hold, before and after.
+ * At each function stands the word of the contract that carries it (crates/kp_handles/specs/), and the call of kp_node or
  * kp_board whose clauses that word repeats. Also proved: a handle is Send, so it may go from thread to thread.
  * WHAT IS NOT PROVED. That callers keep the duties below; that malloc, realloc and free do what C says; the C compiler and
  * linker. Of the numbers from 65 on it is proved that each comes only where what it says is so, but for KP_NO_ROOM, of which it
  * is proved only that nothing has changed. Where several are so, any of them may be answered. What a call writes through a
  * parameter is written at KP_DONE alone, but for `place` of a receipt; else it is as it was.
- * The layer's own unsafe lines are two: `Box::from_raw` in src/loose.rt, and `unsafe impl Send for Handle` in
- * src/handle.rt. Both are proved, as are the casts of a box's pointer in src/handle.rt (proofs/handle, proofs/loose).
+ * The layer's own unsafe lines are two, in crates/kp_handles: `Box::from_raw` in src/loose.rt, and `unsafe impl Send for
+ * Handle` in src/handle.rt. Both are proved, as are the casts of a box's pointer there (proofs/handle, proofs/loose).
  *
  * DUTIES OF THE CALLER, which nothing checks:
  *  1. A kp_handle is all zero before its first use ("kp_handle h = {0};"). From then on only the library reads or writes its

@@ -37,7 +37,7 @@ unsafe extern "C" {
     fn kp_batch(batches: &mut Handle, index: usize, to: *mut u8, length: usize) -> u32;
 }
 
-// SAFETY: the library proves that a handle may go from thread to thread (`unsafe impl Send for Handle` of kp_embed).
+// SAFETY: the library proves that a handle may go from thread to thread (`unsafe impl Send for Handle` of kp_handles).
 unsafe impl Send for Handle {}
 
 impl Handle {

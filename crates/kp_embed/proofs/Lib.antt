@@ -1,10 +1,1 @@
-pub mod Bad
-pub mod Handles
-pub mod Names
-pub mod Naming
 pub mod OneCluster
-pub mod Parts
-pub mod Posts
-pub mod Values
-pub mod Waiting
-pub mod Words

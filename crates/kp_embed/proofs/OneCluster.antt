@@ -2,8 +2,8 @@
 use Rattle.std.proofs.Common.{◌≡◌, refl, sym}
 use Rattle.std.specs.Prelude.{Option, Some, None, IfSome}
 use Rattle.atomic_table.specs.Seated.{TableId}
-use Rattle.kp_embed.specs.Called.{AreOfOne, table_of}
-use Rattle.kp_embed.specs.Objects.{ObjectView}
+use Rattle.kp_handles.specs.Called.{AreOfOne, table_of}
+use Rattle.kp_handles.specs.Objects.{ObjectView}
 
 pub first_is : (o : Option ObjectView) (t u : TableId) → IfSome o (λ _. t ≡ table_of o t u)
 first_is None t u = tt

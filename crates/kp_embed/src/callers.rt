@@ -1,101 +1,70 @@
 //! Calls of a caller's pass alone.
+ghost use Rattle.std.specs.Prelude.{◌≡◌, ℕ, Result, Option};
+ghost use Rattle.kp_types.specs.declared.refusal.Refusal.{Refusal};
+ghost use Rattle.kp_model.specs.declared.record.LeaderAndIsr.{LeaderAndIsr};
+ghost use Rattle.kp_handles.specs.declared.misuse.Misuse.{Misuse};
+ghost use Rattle.kp_handles.specs.Called.{CallerCalled};
+ghost use Rattle.kp_handles.specs.CallerCalls.{Elects, Looks, LearnsMark};
+ghost use Rattle.kp_handles.specs.Numbers.{answer_number, mark_number};
+ghost use Rattle.kp_handles.specs.Outs.{WritesMark, WritesOut, record_out};
 
-ghost use Rattle.std.specs.Prelude.{◌≡◌, IfSome, Ok};
-ghost use Rattle.kp_embed.specs.Called.{CallerCalled, CallerMet};
-ghost use Rattle.kp_embed.specs.CallerCalls.{Elects, Looks, LearnsMark};
-
-use crate::handle::{Handle, Unnamed, put, take};
-use crate::misuse::Misuse;
-use crate::nodes::Called;
-use crate::object::{Caller, Kind, Object};
-use kp_board::BoardName;
-use kp_model::LeaderAndIsr;
-use kp_types::{NodeId, Offset};
+use kp_handles::{
+    Handle, Misuse, RecordOut, elect, misuse_number, record, refusal_number, watermark,
+};
 use std::alloc::Global;
+use std::marker::Brand;
 
-fn elect_object<B: BoardName>(object: &mut Object<B>, node: NodeId) -> Called<LeaderAndIsr>
-    ensures { CallerMet object.old object.new result (Elects node) }
+/// Tries once to elect a node.
+#[unsafe(no_mangle)]
+pub extern "C" fn kp_elect(alloc: Global, pass: &mut Handle, node: u8, found: &mut RecordOut) -> u32
+    ensures called { (answer : Result (Result LeaderAndIsr Refusal) Misuse) × (result ≡ answer_number answer)
+        × CallerCalled pass.old.object pass.new.object answer (Elects node)
+        × WritesOut record_out answer found.old found.new }
+    ensures cluster { pass.new.table ≡ pass.old.table }
 {
-    match &mut object.kind {
-        Kind::Caller(caller) => Ok(caller.board.elect(&mut caller.pass, node)),
-        _ => Err(Misuse::OtherKind),
-    }
-}
-
-/// Tries once to elect the node, as `Board::elect` does.
-pub(crate) fn elect<B: BoardName + Unnamed>(
-    alloc: Global,
-    handle: &mut Handle,
-    node: NodeId,
-) -> Called<LeaderAndIsr>
-    requires { IfSome handle.old.object (λ _. handle.old.table ≡ B.table) }
-    ensures called { CallerCalled handle.old.object handle.new.object result (Elects node) }
-    ensures cluster { handle.new.table ≡ handle.old.table }
-{
-    let mut object = take::<B>(alloc, handle)?;
-    let answer = elect_object(&mut object, node);
-    put(handle, object);
-    answer
-}
-
-fn look<B: BoardName>(caller: &mut Caller<B>) -> LeaderAndIsr
-    ensures board { caller.new.board.value ≡ caller.old.board.value }
-    ensures looks { Looks caller.old.board.value caller.old.pass caller.new.pass (Ok result) }
-{
-    caller.board.record(&mut caller.pass)
-}
-
-fn record_object<B: BoardName>(object: &mut Object<B>) -> Called<LeaderAndIsr>
-    ensures { CallerMet object.old object.new result Looks }
-{
-    match &mut object.kind {
-        Kind::Caller(caller) => Ok(Ok(look(caller))),
-        _ => Err(Misuse::OtherKind),
-    }
-}
-
-/// Looks at the controller's record, as `Board::record` does.
-pub(crate) fn record<B: BoardName + Unnamed>(
-    alloc: Global,
-    handle: &mut Handle,
-) -> Called<LeaderAndIsr>
-    requires { IfSome handle.old.object (λ _. handle.old.table ≡ B.table) }
-    ensures called { CallerCalled handle.old.object handle.new.object result Looks }
-    ensures cluster { handle.new.table ≡ handle.old.table }
-{
-    let mut object = take::<B>(alloc, handle)?;
-    let answer = record_object(&mut object);
-    put(handle, object);
-    answer
-}
-
-fn watermark_object<B: BoardName>(object: &mut Object<B>, node: NodeId) -> Called<Option<Offset>>
-    ensures { CallerMet object.old object.new result (LearnsMark node) }
-{
-    match &mut object.kind {
-        Kind::Caller(caller) => {
-            if node < caller.board.nodes() {
-                Ok(Ok(Some(caller.board.watermark(&mut caller.pass, node))))
-            } else {
-                Ok(Ok(None))
-            }
+    match elect::<Brand>(alloc, pass, node) {
+        Ok(Ok(seen)) => {
+            *found = RecordOut::of(&seen);
+            0
         }
-        _ => Err(Misuse::OtherKind),
+        Ok(Err(refusal)) => refusal_number(&refusal),
+        Err(misuse) => misuse_number(&misuse),
     }
 }
 
-/// Looks at a node's high watermark, as `Board::watermark` does; None where the board has no such node.
-pub(crate) fn watermark<B: BoardName + Unnamed>(
-    alloc: Global,
-    handle: &mut Handle,
-    node: NodeId,
-) -> Called<Option<Offset>>
-    requires { IfSome handle.old.object (λ _. handle.old.table ≡ B.table) }
-    ensures called { CallerCalled handle.old.object handle.new.object result (LearnsMark node) }
-    ensures cluster { handle.new.table ≡ handle.old.table }
+/// Looks at the controller's record.
+#[unsafe(no_mangle)]
+pub extern "C" fn kp_record(alloc: Global, pass: &mut Handle, found: &mut RecordOut) -> u32
+    ensures called { (answer : Result (Result LeaderAndIsr Refusal) Misuse) × (result ≡ answer_number answer)
+        × CallerCalled pass.old.object pass.new.object answer Looks
+        × WritesOut record_out answer found.old found.new }
+    ensures cluster { pass.new.table ≡ pass.old.table }
 {
-    let mut object = take::<B>(alloc, handle)?;
-    let answer = watermark_object(&mut object, node);
-    put(handle, object);
-    answer
+    match record::<Brand>(alloc, pass) {
+        Ok(Ok(seen)) => {
+            *found = RecordOut::of(&seen);
+            0
+        }
+        Ok(Err(refusal)) => refusal_number(&refusal),
+        Err(misuse) => misuse_number(&misuse),
+    }
+}
+
+/// Looks at a node's high watermark.
+#[unsafe(no_mangle)]
+pub extern "C" fn kp_watermark(alloc: Global, pass: &mut Handle, node: u8, offset: &mut u64) -> u32
+    ensures called { (answer : Result (Result (Option ℕ) Refusal) Misuse) × (result ≡ mark_number answer)
+        × CallerCalled pass.old.object pass.new.object answer (LearnsMark node)
+        × WritesMark answer offset.old offset.new }
+    ensures cluster { pass.new.table ≡ pass.old.table }
+{
+    match watermark::<Brand>(alloc, pass, node) {
+        Ok(Ok(Some(seen))) => {
+            *offset = seen;
+            0
+        }
+        Ok(Ok(None)) => misuse_number(&Misuse::OutOfRange),
+        Ok(Err(refusal)) => refusal_number(&refusal),
+        Err(misuse) => misuse_number(&misuse),
+    }
 }

@@ -1,205 +1,92 @@
 //! How a cluster, its nodes and passes are opened, and how a handle is closed.
+ghost use Rattle.std.specs.Prelude.{◌≡◌, None, Result, IfErr, OnErr, OnOk};
+ghost use Rattle.kp_handles.specs.Numbers.{done_number};
+ghost use Rattle.kp_handles.specs.Opening.{BadBoard, BadOpening, IsCluster, OpensCaller, OpensNode};
+ghost use Rattle.kp_handles.specs.Outs.{limits_in};
+ghost use Rattle.kp_handles.specs.declared.misuse.Misuse.{Misuse};
+ghost use Rattle.kp_handles.specs.declared.misuse.Misuse.TheVariants.{Closed};
 
-ghost use Rattle.std.specs.Prelude.{◌≡◌, ◌⊎◌, ◌+◌, ◌*◌, ℕ, IfSome, IfNone, IfOk, IfErr, OnOk, OnErr, None, Some, map, [], ◌∷◌};
-ghost use Rattle.kp_board.specs.Views.{new_caller};
-ghost use Rattle.kp_embed.specs.Objects.{cluster_view, node};
-ghost use Rattle.kp_embed.specs.declared.misuse.Misuse.TheVariants.{Closed, NoRoom, OutOfRange};
-ghost use Rattle.kp_embed.specs.Opening.{BadCluster, BadOpening, IsCluster, NoneLeft, OpensNode, OpensCaller};
-
-use crate::handle::{Handle, Unnamed, fill, is_open, put, take};
-use crate::misuse::Misuse;
-use crate::object::{Caller, Cluster, Kind, Object, room};
-use bytes::BytesMut;
-use kp_board::{Board, BoardName, FreshPass, Opened};
-use kp_node::Node;
-use kp_types::Limits;
+use kp_board::Opened;
+use kp_handles::{
+    Handle, LimitsIn, Misuse, close, is_open, misuse_number, open, open_caller, open_node,
+};
+use kp_types::{Limits, MOST_NODES};
 use std::alloc::Global;
-use std::sync::Arc;
+use std::marker::Brand;
 
-fn cluster_of<B: BoardName>(
-    alloc: Global,
-    opened: Opened,
-    limits: &Limits,
-) -> Result<Object<B>, Misuse>
-    requires { opened ≡ B.table }
-    ensures made { IfOk result (λ o. (n : ℕ) × (2 * n + 1 ≡ opened.words) × IsCluster n limits.now (Some o)) }
-    ensures only { IfErr result (λ why. why ≡ NoRoom) }
+// Opens a board of so many nodes, under a name of which its table alone is known.
+fn open_board(alloc: Global, cluster: &mut Handle, nodes: u8, limits: &Limits) -> Result<(), Misuse>
+    ensures opened { OnOk result (IsCluster nodes limits.now cluster.new.object × (cluster.old.object ≡ None)) }
+    ensures same { OnErr result (cluster.new ≡ cluster.old) }
+    ensures only { IfErr result (BadBoard nodes cluster.old.object) }
 {
-    let Ok((board, waiting)) = Board::<B>::new(alloc, opened) else {
+    if nodes > MOST_NODES {
+        return Err(Misuse::OutOfRange);
+    }
+    if is_open(cluster) {
+        return Err(Misuse::InUse);
+    }
+    let Ok(opened) = Opened::new(alloc, nodes) else {
         return Err(Misuse::NoRoom);
     };
-    match Arc::new(alloc, board) {
-        Ok(board) => Ok(Object {
-            kind: Kind::Cluster(Cluster {
-                board,
-                waiting,
-                limits: *limits,
-            }),
-        }),
+    match open::<Brand>(alloc, opened, limits, cluster) {
+        Ok(()) => Ok(()),
         Err(_) => Err(Misuse::NoRoom),
     }
 }
 
-/// Puts a new board under its name into a closed handle.
-pub(crate) fn open<B: BoardName + Unnamed>(
-    alloc: Global,
-    opened: Opened,
-    limits: &Limits,
-    handle: &mut Handle,
-) -> Result<(), Misuse>
-    requires name { opened ≡ B.table }
-    requires closed { handle.old.object ≡ None }
-    ensures made { OnOk result ((n : ℕ) × (2 * n + 1 ≡ opened.words) × IsCluster n limits.now handle.new.object) }
-    ensures same { OnErr result (handle.new ≡ handle.old) }
-    ensures only { IfErr result (λ why. why ≡ NoRoom) }
+/// Opens a board of so many nodes.
+#[unsafe(no_mangle)]
+pub extern "C" fn kp_open(alloc: Global, cluster: &mut Handle, nodes: u8, limits: &LimitsIn) -> u32
+    ensures called { (answer : Result (Unit {0}) Misuse) × (result ≡ done_number answer)
+        × OnOk answer (IsCluster nodes (limits_in limits.now) cluster.new.object × (cluster.old.object ≡ None))
+        × OnErr answer (cluster.new ≡ cluster.old) × IfErr answer (BadBoard nodes cluster.old.object) }
 {
-    let made = room::<B>(alloc)?;
-    let object = cluster_of::<B>(alloc, opened, limits)?;
-    fill(handle, made, object);
-    Ok(())
-}
-
-#[tactic(auto, using(crate::proofs::Waiting::first_waiting, crate::proofs::Waiting::none_waiting))]
-fn next_pass<B: BoardName>(waiting: &mut Vec<FreshPass<B>>) -> Option<FreshPass<B>>
-    ensures next { IfSome result (λ f. map (λ w. w.pass) waiting.old.items ≡ f.pass ∷ map (λ w. w.pass) waiting.new.items) }
-    ensures none { IfNone result ((waiting.new ≡ waiting.old) × (map (λ w. w.pass) waiting.old.items ≡ [])) }
-{
-    if waiting.is_empty() {
-        return None;
-    }
-    Some(waiting.remove(0))
-}
-
-fn node_of<B: BoardName>(alloc: Global, cluster: &mut Cluster<B>) -> Result<Node<B>, Misuse>
-    ensures opened { IfOk result (λ n. OpensNode (Some (cluster_view cluster.old)) (Some (cluster_view cluster.new)) (Some (node n))) }
-    ensures same { OnErr result (cluster_view cluster.new ≡ cluster_view cluster.old) }
-    ensures only { IfErr result (λ why. (why ≡ NoRoom) ⊎ ((why ≡ OutOfRange) × NoneLeft (cluster_view cluster.old))) }
-{
-    let Ok(board) = Arc::try_clone(&cluster.board) else {
-        return Err(Misuse::NoRoom);
-    };
-    match next_pass(&mut cluster.waiting) {
-        Some(pass) => Ok(Node::new(alloc, board, pass, &cluster.limits)),
-        None => Err(Misuse::OutOfRange),
-    }
-}
-
-#[tactic(auto, using(crate::proofs::Bad::bad_cluster, crate::proofs::Bad::no_room))]
-fn next_node<B: BoardName>(alloc: Global, object: &mut Object<B>) -> Result<Object<B>, Misuse>
-    ensures opened { IfOk result (λ o. OpensNode (Some object.old) (Some object.new) (Some o)) }
-    ensures same { OnErr result (object.new ≡ object.old) }
-    ensures only { IfErr result (BadCluster object.old) }
-{
-    match &mut object.kind {
-        Kind::Cluster(cluster) => match node_of(alloc, cluster) {
-            Ok(node) => Ok(Object {
-                kind: Kind::Node(node),
-            }),
-            Err(misuse) => Err(misuse),
-        },
-        _ => Err(Misuse::OtherKind),
-    }
-}
-
-fn caller_of<B: BoardName>(alloc: Global, cluster: &Cluster<B>) -> Result<Caller<B>, Misuse>
-    ensures made { IfOk result (λ c. (c.board.value ≡ cluster.now.board.value) × (c.pass ≡ new_caller cluster.now.board.value)) }
-    ensures only { IfErr result (λ why. why ≡ NoRoom) }
-{
-    match Arc::try_clone(&cluster.board) {
-        Ok(board) => {
-            let pass = board.pass();
-            let block = BytesMut::new(alloc);
-            Ok(Caller { board, pass, block })
-        }
-        Err(_) => Err(Misuse::NoRoom),
-    }
-}
-
-#[tactic(auto, using(crate::proofs::Bad::bad_cluster, crate::proofs::Bad::no_room))]
-fn new_caller<B: BoardName>(alloc: Global, object: &mut Object<B>) -> Result<Object<B>, Misuse>
-    ensures opened { IfOk result (λ o. OpensCaller (Some object.old) (Some object.new) (Some o)) }
-    ensures same { OnErr result (object.new ≡ object.old) }
-    ensures only { IfErr result (BadCluster object.old) }
-{
-    match &mut object.kind {
-        Kind::Cluster(cluster) => match caller_of(alloc, cluster) {
-            Ok(caller) => Ok(Object {
-                kind: Kind::Caller(caller),
-            }),
-            Err(misuse) => Err(misuse),
-        },
-        _ => Err(Misuse::OtherKind),
+    match open_board(alloc, cluster, nodes, &limits.limits()) {
+        Ok(()) => 0,
+        Err(misuse) => misuse_number(&misuse),
     }
 }
 
 /// Opens the cluster's next node.
-#[tactic(auto, using(crate::proofs::Bad::bad_opening, crate::proofs::Bad::closed_opening))]
-pub(crate) fn open_node<B: BoardName + Unnamed>(
-    alloc: Global,
-    cluster: &mut Handle,
-    node: &mut Handle,
-) -> Result<(), Misuse>
-    requires { IfSome cluster.old.object (λ _. cluster.old.table ≡ B.table) }
-    ensures opened { OnOk result (OpensNode cluster.old.object cluster.new.object node.new.object × (node.old.object ≡ None) × (node.new.table ≡ cluster.old.table)) }
-    ensures same { OnErr result ((cluster.new.object ≡ cluster.old.object) × (node.new ≡ node.old)) }
-    ensures only { IfErr result (BadOpening cluster.old.object node.old.object) }
+#[unsafe(no_mangle)]
+pub extern "C" fn kp_open_node(alloc: Global, cluster: &mut Handle, node: &mut Handle) -> u32
+    ensures called { (answer : Result (Unit {0}) Misuse) × (result ≡ done_number answer)
+        × OnOk answer (OpensNode cluster.old.object cluster.new.object node.new.object × (node.old.object ≡ None) × (node.new.table ≡ cluster.old.table))
+        × OnErr answer ((cluster.new.object ≡ cluster.old.object) × (node.new ≡ node.old))
+        × IfErr answer (BadOpening cluster.old.object node.old.object) }
     ensures table { cluster.new.table ≡ cluster.old.table }
 {
-    if is_open(node) {
-        return Err(Misuse::InUse);
-    }
-    let made = room::<B>(alloc)?;
-    let mut object = take::<B>(alloc, cluster)?;
-    let next = next_node(alloc, &mut object);
-    put(cluster, object);
-    match next {
-        Ok(next) => {
-            fill(node, made, next);
-            Ok(())
-        }
-        Err(misuse) => Err(misuse),
+    match open_node::<Brand>(alloc, cluster, node) {
+        Ok(()) => 0,
+        Err(misuse) => misuse_number(&misuse),
     }
 }
 
 /// Opens a new caller's pass of the cluster.
-#[tactic(auto, using(crate::proofs::Bad::bad_opening, crate::proofs::Bad::closed_opening))]
-pub(crate) fn open_caller<B: BoardName + Unnamed>(
-    alloc: Global,
-    cluster: &mut Handle,
-    caller: &mut Handle,
-) -> Result<(), Misuse>
-    requires { IfSome cluster.old.object (λ _. cluster.old.table ≡ B.table) }
-    ensures opened { OnOk result (OpensCaller cluster.old.object cluster.new.object caller.new.object × (caller.old.object ≡ None) × (caller.new.table ≡ cluster.old.table)) }
-    ensures same { OnErr result ((cluster.new.object ≡ cluster.old.object) × (caller.new ≡ caller.old)) }
-    ensures only { IfErr result (BadOpening cluster.old.object caller.old.object) }
+#[unsafe(no_mangle)]
+pub extern "C" fn kp_open_pass(alloc: Global, cluster: &mut Handle, pass: &mut Handle) -> u32
+    ensures called { (answer : Result (Unit {0}) Misuse) × (result ≡ done_number answer)
+        × OnOk answer (OpensCaller cluster.old.object cluster.new.object pass.new.object × (pass.old.object ≡ None) × (pass.new.table ≡ cluster.old.table))
+        × OnErr answer ((cluster.new.object ≡ cluster.old.object) × (pass.new ≡ pass.old))
+        × IfErr answer (BadOpening cluster.old.object pass.old.object) }
     ensures table { cluster.new.table ≡ cluster.old.table }
 {
-    if is_open(caller) {
-        return Err(Misuse::InUse);
-    }
-    let made = room::<B>(alloc)?;
-    let mut object = take::<B>(alloc, cluster)?;
-    let next = new_caller(alloc, &mut object);
-    put(cluster, object);
-    match next {
-        Ok(next) => {
-            fill(caller, made, next);
-            Ok(())
-        }
-        Err(misuse) => Err(misuse),
+    match open_caller::<Brand>(alloc, cluster, pass) {
+        Ok(()) => 0,
+        Err(misuse) => misuse_number(&misuse),
     }
 }
 
-/// Drops what the handle holds, with its memory.
-pub(crate) fn close<B: BoardName + Unnamed>(
-    alloc: Global,
-    handle: &mut Handle,
-) -> Result<(), Misuse>
-    requires { IfSome handle.old.object (λ _. handle.old.table ≡ B.table) }
+/// Closes a handle, with all that it holds.
+#[unsafe(no_mangle)]
+pub extern "C" fn kp_close(alloc: Global, handle: &mut Handle) -> u32
     ensures closed { handle.new.object ≡ None }
-    ensures was_closed { OnErr result (handle.new ≡ handle.old) }
-    ensures only { IfErr result (λ why. (why ≡ Closed) × (handle.old.object ≡ None)) }
+    ensures called { (answer : Result (Unit {0}) Misuse) × (result ≡ done_number answer)
+        × OnErr answer (handle.new ≡ handle.old) × IfErr answer (λ why. (why ≡ Closed) × (handle.old.object ≡ None)) }
 {
-    let _object = take::<B>(alloc, handle)?;
-    Ok(())
+    match close::<Brand>(alloc, handle) {
+        Ok(()) => 0,
+        Err(misuse) => misuse_number(&misuse),
+    }
 }

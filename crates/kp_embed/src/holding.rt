@@ -1,246 +1,118 @@
 //! What comes of what a handle holds.
+ghost use Rattle.std.specs.Prelude.{◌≡◌, ℕ, length, Result, IfErr, IfOk, OnErr, OnOk};
+ghost use Rattle.kp_handles.specs.Holding.{BadBatch, BadCount, BadLetter, BadValue, HasAddressee, HasCount, HasRecord, HasSize, NoBatch, NoRecord, WritesBatch, WritesValue};
+ghost use Rattle.kp_handles.specs.Numbers.{done_number};
+ghost use Rattle.kp_handles.specs.declared.misuse.Misuse.{Misuse};
+ghost use Rattle.kp_handles.specs.declared.outs.ValueOut.{ValueOut};
 
-ghost use Rattle.std.specs.Prelude.{◌≡◌, ◌<◌, Some, length, IfSome, IfOk, IfErr, OnOk, OnErr};
-ghost use Rattle.kp_visible.specs.Lines.{line_of};
-ghost use Rattle.kp_embed.specs.Holding.{BadBatch, BadCount, BadLetter, BadPartOf, BadValue, HasAddressee, HasCount, HasRecord, HasSize, NoBatch, NoRecord, Writes, WritesBatch, WritesSpelling, WritesValue, batch_size, value_bytes, value_size};
-ghost use Rattle.kp_embed.specs.Objects.{batches, records};
-ghost use Rattle.kp_embed.specs.declared.misuse.Misuse.TheVariants.{BadLength};
-
-use crate::handle::{Handle, Unnamed, put, take};
-use crate::misuse::Misuse;
-use crate::object::{Kind, Object};
-use crate::outs::{ValueOut, addressee_out};
-use kp_batch::Batch;
-use kp_board::BoardName;
-use kp_visible::ReadRecord;
+use kp_handles::{
+    Handle, ValueOut, addressee, batch_size, count, misuse_number, record_at, write_batch,
+    write_value,
+};
 use std::alloc::Global;
-
-fn count_object<B: BoardName>(object: &Object<B>) -> Result<usize, Misuse>
-    ensures found { IfOk result (HasCount (Some object.now)) }
-    ensures only { IfErr result (BadCount (Some object.now)) }
-{
-    match &object.kind {
-        Kind::Batches(batches) => Ok(batches.len()),
-        Kind::Records(records) => Ok(records.len()),
-        Kind::Segments(segments) => Ok(segments.len()),
-        _ => Err(Misuse::OtherKind),
-    }
-}
+use std::marker::Brand;
 
 /// How many batches, records or segments stand in the handle.
-#[tactic(auto, using(crate::proofs::Bad::closed_count))]
-pub(crate) fn count<B: BoardName + Unnamed>(
-    alloc: Global,
-    handle: &mut Handle,
-) -> Result<usize, Misuse>
-    requires { IfSome handle.old.object (λ _. handle.old.table ≡ B.table) }
-    ensures found { IfOk result (HasCount handle.old.object) }
-    ensures only { IfErr result (BadCount handle.old.object) }
+#[unsafe(no_mangle)]
+pub extern "C" fn kp_count(alloc: Global, handle: &mut Handle, found: &mut usize) -> u32
+    ensures called { (answer : Result ℕ Misuse) × (result ≡ done_number answer)
+        × IfOk answer (λ n. (found.new ≡ n) × HasCount handle.old.object n)
+        × IfErr answer (BadCount handle.old.object) × OnErr answer (found.new ≡ found.old) }
     ensures same { handle.new.object ≡ handle.old.object }
 {
-    let object = take::<B>(alloc, handle)?;
-    let found = count_object(&object);
-    put(handle, object);
-    found
-}
-
-fn size_object<B: BoardName>(object: &Object<B>, index: usize) -> Result<u32, Misuse>
-    ensures found { IfOk result (HasSize (Some object.now) index) }
-    ensures only { IfErr result (BadPartOf batches (λ w. 0) index 0 object.now) }
-{
-    match &object.kind {
-        Kind::Batches(batches) => match batches.get(index) {
-            Some(batch) => Ok(batch.size()),
-            None => Err(Misuse::OutOfRange),
-        },
-        _ => Err(Misuse::OtherKind),
+    match count::<Brand>(alloc, handle) {
+        Ok(seen) => {
+            *found = seen;
+            0
+        }
+        Err(misuse) => misuse_number(&misuse),
     }
 }
 
 /// How many bytes one of the batches has.
-#[tactic(auto, using(crate::proofs::Bad::bad_part, crate::proofs::Bad::closed_part))]
-pub(crate) fn batch_size<B: BoardName + Unnamed>(
+#[unsafe(no_mangle)]
+pub extern "C" fn kp_batch_size(
     alloc: Global,
-    handle: &mut Handle,
+    batches: &mut Handle,
     index: usize,
-) -> Result<u32, Misuse>
-    requires { IfSome handle.old.object (λ _. handle.old.table ≡ B.table) }
-    ensures found { IfOk result (HasSize handle.old.object index) }
-    ensures only { IfErr result (NoBatch index handle.old.object) }
-    ensures same { handle.new.object ≡ handle.old.object }
+    size: &mut u32,
+) -> u32
+    ensures called { (answer : Result ℕ Misuse) × (result ≡ done_number answer)
+        × IfOk answer (λ n. (size.new ≡ n) × HasSize batches.old.object index n)
+        × IfErr answer (NoBatch index batches.old.object) × OnErr answer (size.new ≡ size.old) }
+    ensures same { batches.new.object ≡ batches.old.object }
 {
-    let object = take::<B>(alloc, handle)?;
-    let found = size_object(&object, index);
-    put(handle, object);
-    found
-}
-
-// Copies the batch's bytes to the front of the place, if they fit there.
-fn copy_batch(batch: &Batch, to: &mut [u8]) -> Result<(), Misuse>
-    ensures written { OnOk result (WritesSpelling batch.now to.old to.new) }
-    ensures only { IfErr result (λ why. (why ≡ BadLength) × (length to.old < batch_size batch.now)) }
-    ensures same { OnErr result (to.new ≡ to.old) }
-{
-    if batch.copy_to(to) {
-        Ok(())
-    } else {
-        Err(Misuse::BadLength)
-    }
-}
-
-fn write_object<B: BoardName>(object: &Object<B>, index: usize, to: &mut [u8]) -> Result<(), Misuse>
-    ensures written { OnOk result (WritesBatch (Some object.now) index to.old to.new) }
-    ensures only { IfErr result (BadPartOf batches batch_size index (length to.old) object.now) }
-    ensures same { OnErr result (to.new ≡ to.old) }
-{
-    match &object.kind {
-        Kind::Batches(batches) => match batches.get(index) {
-            Some(batch) => copy_batch(batch, to),
-            None => Err(Misuse::OutOfRange),
-        },
-        _ => Err(Misuse::OtherKind),
-    }
-}
-
-/// Copies the bytes of one of the batches.
-#[tactic(auto, using(crate::proofs::Bad::bad_part, crate::proofs::Bad::closed_part))]
-pub(crate) fn write_batch<B: BoardName + Unnamed>(
-    alloc: Global,
-    handle: &mut Handle,
-    index: usize,
-    to: &mut [u8],
-) -> Result<(), Misuse>
-    requires { IfSome handle.old.object (λ _. handle.old.table ≡ B.table) }
-    ensures written { OnOk result (WritesBatch handle.old.object index to.old to.new) }
-    ensures only { IfErr result (BadBatch index (length to.old) handle.old.object) }
-    ensures same { handle.new.object ≡ handle.old.object }
-    ensures refused { OnErr result (to.new ≡ to.old) }
-{
-    let object = take::<B>(alloc, handle)?;
-    let done = write_object(&object, index, to);
-    put(handle, object);
-    done
-}
-
-fn record_object<B: BoardName>(object: &Object<B>, index: usize) -> Result<ValueOut, Misuse>
-    ensures found { IfOk result (HasRecord (Some object.now) index) }
-    ensures only { IfErr result (BadPartOf records (λ l. 0) index 0 object.now) }
-{
-    match &object.kind {
-        Kind::Records(records) => {
-            if index < records.len() {
-                Ok(ValueOut::of(records.get(index)))
-            } else {
-                Err(Misuse::OutOfRange)
-            }
+    match batch_size::<Brand>(alloc, batches, index) {
+        Ok(seen) => {
+            *size = seen;
+            0
         }
-        _ => Err(Misuse::OtherKind),
+        Err(misuse) => misuse_number(&misuse),
     }
 }
 
-/// One of the records: its offset, and how many bytes its value has.
-#[tactic(auto, using(crate::proofs::Bad::bad_part, crate::proofs::Bad::closed_part))]
-pub(crate) fn record_at<B: BoardName + Unnamed>(
+/// Copies one of the batches.
+#[unsafe(no_mangle)]
+pub extern "C" fn kp_batch(alloc: Global, batches: &mut Handle, index: usize, to: &mut [u8]) -> u32
+    ensures called { (answer : Result (Unit {0}) Misuse) × (result ≡ done_number answer) × OnOk answer (WritesBatch batches.old.object index to.old to.new)
+        × IfErr answer (BadBatch index (length to.old) batches.old.object) × OnErr answer (to.new ≡ to.old) }
+    ensures same { batches.new.object ≡ batches.old.object }
+{
+    match write_batch::<Brand>(alloc, batches, index, to) {
+        Ok(()) => 0,
+        Err(misuse) => misuse_number(&misuse),
+    }
+}
+
+/// One of the records, but for the bytes of its value.
+#[unsafe(no_mangle)]
+pub extern "C" fn kp_committed(
     alloc: Global,
-    handle: &mut Handle,
+    records: &mut Handle,
     index: usize,
-) -> Result<ValueOut, Misuse>
-    requires { IfSome handle.old.object (λ _. handle.old.table ≡ B.table) }
-    ensures found { IfOk result (HasRecord handle.old.object index) }
-    ensures only { IfErr result (NoRecord index handle.old.object) }
-    ensures same { handle.new.object ≡ handle.old.object }
+    found: &mut ValueOut,
+) -> u32
+    ensures called { (answer : Result ValueOut Misuse) × (result ≡ done_number answer)
+        × IfOk answer (λ seen. (found.new ≡ seen) × HasRecord records.old.object index seen)
+        × IfErr answer (NoRecord index records.old.object) × OnErr answer (found.new ≡ found.old) }
+    ensures same { records.new.object ≡ records.old.object }
 {
-    let object = take::<B>(alloc, handle)?;
-    let found = record_object(&object, index);
-    put(handle, object);
-    found
-}
-
-/// Copies the bytes to the front of the place, if they fit there.
-pub(crate) fn copy_front(bytes: &[u8], to: &mut [u8]) -> Result<(), Misuse>
-    ensures written { OnOk result (Writes bytes.now to.old to.new) }
-    ensures only { IfErr result (λ why. (why ≡ BadLength) × (length to.old < length bytes.now)) }
-    ensures same { OnErr result (to.new ≡ to.old) }
-{
-    let count = bytes.len();
-    if count > to.len() {
-        return Err(Misuse::BadLength);
-    }
-    to[..count].copy_from_slice(bytes);
-    Ok(())
-}
-
-// The bytes of the record's value; none where it is null.
-fn value_of<'a>(read: ReadRecord<'a>) -> &'a [u8]
-    ensures { result.now ≡ value_bytes (line_of read.entry) }
-{
-    match read.value {
-        Some(value) => value,
-        None => &[],
-    }
-}
-
-fn value_object<B: BoardName>(object: &Object<B>, index: usize, to: &mut [u8]) -> Result<(), Misuse>
-    ensures written { OnOk result (WritesValue (Some object.now) index to.old to.new) }
-    ensures only { IfErr result (BadPartOf records value_size index (length to.old) object.now) }
-    ensures same { OnErr result (to.new ≡ to.old) }
-{
-    match &object.kind {
-        Kind::Records(records) => {
-            if index < records.len() {
-                copy_front(value_of(records.get(index)), to)
-            } else {
-                Err(Misuse::OutOfRange)
-            }
+    match record_at::<Brand>(alloc, records, index) {
+        Ok(seen) => {
+            *found = seen;
+            0
         }
-        _ => Err(Misuse::OtherKind),
+        Err(misuse) => misuse_number(&misuse),
     }
 }
 
 /// Copies the value of one of the records.
-#[tactic(auto, using(crate::proofs::Bad::bad_part, crate::proofs::Bad::closed_part))]
-pub(crate) fn write_value<B: BoardName + Unnamed>(
-    alloc: Global,
-    handle: &mut Handle,
-    index: usize,
-    to: &mut [u8],
-) -> Result<(), Misuse>
-    requires { IfSome handle.old.object (λ _. handle.old.table ≡ B.table) }
-    ensures written { OnOk result (WritesValue handle.old.object index to.old to.new) }
-    ensures only { IfErr result (BadValue index (length to.old) handle.old.object) }
-    ensures same { handle.new.object ≡ handle.old.object }
-    ensures refused { OnErr result (to.new ≡ to.old) }
+#[unsafe(no_mangle)]
+pub extern "C" fn kp_value(alloc: Global, records: &mut Handle, index: usize, to: &mut [u8]) -> u32
+    ensures called { (answer : Result (Unit {0}) Misuse) × (result ≡ done_number answer) × OnOk answer (WritesValue records.old.object index to.old to.new)
+        × IfErr answer (BadValue index (length to.old) records.old.object) × OnErr answer (to.new ≡ to.old) }
+    ensures same { records.new.object ≡ records.old.object }
 {
-    let object = take::<B>(alloc, handle)?;
-    let done = value_object(&object, index, to);
-    put(handle, object);
-    done
-}
-
-fn addressee_object<B: BoardName>(object: &Object<B>) -> Result<u8, Misuse>
-    ensures found { IfOk result (HasAddressee (Some object.now)) }
-    ensures only { IfErr result (BadLetter (Some object.now)) }
-{
-    match &object.kind {
-        Kind::Message(message) => Ok(addressee_out(&message.body)),
-        _ => Err(Misuse::OtherKind),
+    match write_value::<Brand>(alloc, records, index, to) {
+        Ok(()) => 0,
+        Err(misuse) => misuse_number(&misuse),
     }
 }
 
 /// The node that a message goes to, or 255 for the controller.
-#[tactic(auto, using(crate::proofs::Bad::closed_letter))]
-pub(crate) fn addressee<B: BoardName + Unnamed>(
-    alloc: Global,
-    handle: &mut Handle,
-) -> Result<u8, Misuse>
-    requires { IfSome handle.old.object (λ _. handle.old.table ≡ B.table) }
-    ensures found { IfOk result (HasAddressee handle.old.object) }
-    ensures only { IfErr result (BadLetter handle.old.object) }
-    ensures same { handle.new.object ≡ handle.old.object }
-    ensures cluster { handle.new.table ≡ handle.old.table }
+#[unsafe(no_mangle)]
+pub extern "C" fn kp_addressee(alloc: Global, message: &mut Handle, found: &mut u8) -> u32
+    ensures called { (answer : Result ℕ Misuse) × (result ≡ done_number answer)
+        × IfOk answer (λ n. (found.new ≡ n) × HasAddressee message.old.object n)
+        × IfErr answer (BadLetter message.old.object) × OnErr answer (found.new ≡ found.old) }
+    ensures same { message.new.object ≡ message.old.object }
+    ensures cluster { message.new.table ≡ message.old.table }
 {
-    let object = take::<B>(alloc, handle)?;
-    let found = addressee_object(&object);
-    put(handle, object);
-    found
+    match addressee::<Brand>(alloc, message) {
+        Ok(seen) => {
+            *found = seen;
+            0
+        }
+        Err(misuse) => misuse_number(&misuse),
+    }
 }

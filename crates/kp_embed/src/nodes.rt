@@ -1,124 +1,103 @@
 //! Calls of a node alone.
+ghost use Rattle.std.specs.Prelude.{◌≡◌, ℕ, Result};
+ghost use Rattle.kp_types.specs.declared.refusal.Refusal.{Refusal};
+ghost use Rattle.kp_replica.specs.declared.act.Answer.{Answer};
+ghost use Rattle.kp_replica.specs.declared.adopting.Role.{Role};
+ghost use Rattle.kp_handles.specs.declared.misuse.Misuse.{Misuse};
+ghost use Rattle.kp_handles.specs.Called.{NodeCalled};
+ghost use Rattle.kp_handles.specs.NodeCalls.{Adopts, Raises, Checkpoints, Stops, Restarts};
+ghost use Rattle.kp_handles.specs.Numbers.{answer_number};
+ghost use Rattle.kp_handles.specs.Outs.{WritesOut, restart_out, role_out};
 
-ghost use Rattle.std.specs.Prelude.{◌≡◌, IfSome};
-ghost use Rattle.kp_embed.specs.Called.{NodeCalled, NodeMet};
-ghost use Rattle.kp_embed.specs.NodeCalls.{Adopts, Raises, Checkpoints, Stops, Restarts};
-
-use crate::handle::{Handle, Unnamed, put, take};
-use crate::misuse::Misuse;
-use crate::object::{Kind, Object};
-use kp_board::BoardName;
-use kp_replica::{Answer, Role};
-use kp_types::{Offset, Refusal};
+use kp_handles::{
+    Handle, RestartOut, RoleOut, adopt, checkpoint, misuse_number, raise, refusal_number, restart,
+    stop,
+};
 use std::alloc::Global;
+use std::marker::Brand;
 
-/// What a call of a node answers: the call's own answer, or why it wasn't made.
-pub(crate) type Called<T> = Result<Result<T, Refusal>, Misuse>;
-
-fn adopt_object<B: BoardName>(object: &mut Object<B>) -> Called<Role>
-    ensures { NodeMet object.old object.new result Adopts }
+/// Takes up the controller's record.
+#[unsafe(no_mangle)]
+pub extern "C" fn kp_adopt(alloc: Global, node: &mut Handle, role: &mut RoleOut) -> u32
+    ensures called { (answer : Result (Result Role Refusal) Misuse) × (result ≡ answer_number answer)
+        × NodeCalled node.old.object node.new.object answer Adopts
+        × WritesOut role_out answer role.old role.new }
+    ensures cluster { node.new.table ≡ node.old.table }
 {
-    match &mut object.kind {
-        Kind::Node(node) => Ok(node.adopt()),
-        _ => Err(Misuse::OtherKind),
+    match adopt::<Brand>(alloc, node) {
+        Ok(Ok(found)) => {
+            *role = RoleOut::of(found);
+            0
+        }
+        Ok(Err(refusal)) => refusal_number(&refusal),
+        Err(misuse) => misuse_number(&misuse),
     }
 }
 
-/// Takes up the controller's record, as `Node::adopt` does.
-pub(crate) fn adopt<B: BoardName + Unnamed>(alloc: Global, handle: &mut Handle) -> Called<Role>
-    requires { IfSome handle.old.object (λ _. handle.old.table ≡ B.table) }
-    ensures called { NodeCalled handle.old.object handle.new.object result Adopts }
-    ensures cluster { handle.new.table ≡ handle.old.table }
+/// Raises the high watermark.
+#[unsafe(no_mangle)]
+pub extern "C" fn kp_raise(alloc: Global, node: &mut Handle, offset: &mut u64) -> u32
+    ensures called { (answer : Result (Result ℕ Refusal) Misuse) × (result ≡ answer_number answer)
+        × NodeCalled node.old.object node.new.object answer Raises
+        × WritesOut (λ mark. mark) answer offset.old offset.new }
+    ensures cluster { node.new.table ≡ node.old.table }
 {
-    let mut object = take::<B>(alloc, handle)?;
-    let answer = adopt_object(&mut object);
-    put(handle, object);
-    answer
-}
-
-fn raise_object<B: BoardName>(object: &mut Object<B>) -> Called<Offset>
-    ensures { NodeMet object.old object.new result Raises }
-{
-    match &mut object.kind {
-        Kind::Node(node) => Ok(node.raise()),
-        _ => Err(Misuse::OtherKind),
+    match raise::<Brand>(alloc, node) {
+        Ok(Ok(found)) => {
+            *offset = found;
+            0
+        }
+        Ok(Err(refusal)) => refusal_number(&refusal),
+        Err(misuse) => misuse_number(&misuse),
     }
 }
 
-/// Raises the high watermark, as `Node::raise` does.
-pub(crate) fn raise<B: BoardName + Unnamed>(alloc: Global, handle: &mut Handle) -> Called<Offset>
-    requires { IfSome handle.old.object (λ _. handle.old.table ≡ B.table) }
-    ensures called { NodeCalled handle.old.object handle.new.object result Raises }
-    ensures cluster { handle.new.table ≡ handle.old.table }
+/// Notes the high watermark as the checkpoint.
+#[unsafe(no_mangle)]
+pub extern "C" fn kp_checkpoint(alloc: Global, node: &mut Handle, offset: &mut u64) -> u32
+    ensures called { (answer : Result (Result ℕ Refusal) Misuse) × (result ≡ answer_number answer)
+        × NodeCalled node.old.object node.new.object answer Checkpoints
+        × WritesOut (λ mark. mark) answer offset.old offset.new }
+    ensures cluster { node.new.table ≡ node.old.table }
 {
-    let mut object = take::<B>(alloc, handle)?;
-    let answer = raise_object(&mut object);
-    put(handle, object);
-    answer
-}
-
-fn checkpoint_object<B: BoardName>(object: &mut Object<B>) -> Called<Offset>
-    ensures { NodeMet object.old object.new result Checkpoints }
-{
-    match &mut object.kind {
-        Kind::Node(node) => Ok(node.checkpoint()),
-        _ => Err(Misuse::OtherKind),
+    match checkpoint::<Brand>(alloc, node) {
+        Ok(Ok(found)) => {
+            *offset = found;
+            0
+        }
+        Ok(Err(refusal)) => refusal_number(&refusal),
+        Err(misuse) => misuse_number(&misuse),
     }
 }
 
-/// Notes the high watermark, as `Node::checkpoint` does.
-pub(crate) fn checkpoint<B: BoardName + Unnamed>(
-    alloc: Global,
-    handle: &mut Handle,
-) -> Called<Offset>
-    requires { IfSome handle.old.object (λ _. handle.old.table ≡ B.table) }
-    ensures called { NodeCalled handle.old.object handle.new.object result Checkpoints }
-    ensures cluster { handle.new.table ≡ handle.old.table }
+/// Stops the node.
+#[unsafe(no_mangle)]
+pub extern "C" fn kp_stop(alloc: Global, node: &mut Handle) -> u32
+    ensures called { (answer : Result (Result (Unit {0}) Refusal) Misuse) × (result ≡ answer_number answer)
+        × NodeCalled node.old.object node.new.object answer Stops }
+    ensures cluster { node.new.table ≡ node.old.table }
 {
-    let mut object = take::<B>(alloc, handle)?;
-    let answer = checkpoint_object(&mut object);
-    put(handle, object);
-    answer
-}
-
-fn stop_object<B: BoardName>(object: &mut Object<B>) -> Called<()>
-    ensures { NodeMet object.old object.new result Stops }
-{
-    match &mut object.kind {
-        Kind::Node(node) => Ok(node.stop()),
-        _ => Err(Misuse::OtherKind),
+    match stop::<Brand>(alloc, node) {
+        Ok(Ok(())) => 0,
+        Ok(Err(refusal)) => refusal_number(&refusal),
+        Err(misuse) => misuse_number(&misuse),
     }
 }
 
-/// Stops the node, as `Node::stop` does.
-pub(crate) fn stop<B: BoardName + Unnamed>(alloc: Global, handle: &mut Handle) -> Called<()>
-    requires { IfSome handle.old.object (λ _. handle.old.table ≡ B.table) }
-    ensures called { NodeCalled handle.old.object handle.new.object result Stops }
-    ensures cluster { handle.new.table ≡ handle.old.table }
+/// Starts the node again.
+#[unsafe(no_mangle)]
+pub extern "C" fn kp_restart(alloc: Global, node: &mut Handle, restarted: &mut RestartOut) -> u32
+    ensures called { (answer : Result (Result Answer Refusal) Misuse) × (result ≡ answer_number answer)
+        × NodeCalled node.old.object node.new.object answer Restarts
+        × WritesOut restart_out answer restarted.old restarted.new }
+    ensures cluster { node.new.table ≡ node.old.table }
 {
-    let mut object = take::<B>(alloc, handle)?;
-    let answer = stop_object(&mut object);
-    put(handle, object);
-    answer
-}
-
-fn restart_object<B: BoardName>(object: &mut Object<B>) -> Called<Answer>
-    ensures { NodeMet object.old object.new result Restarts }
-{
-    match &mut object.kind {
-        Kind::Node(node) => Ok(node.restart()),
-        _ => Err(Misuse::OtherKind),
+    match restart::<Brand>(alloc, node) {
+        Ok(Ok(found)) => {
+            *restarted = RestartOut::of(&found);
+            0
+        }
+        Ok(Err(refusal)) => refusal_number(&refusal),
+        Err(misuse) => misuse_number(&misuse),
     }
-}
-
-/// Starts the node again, as `Node::restart` does.
-pub(crate) fn restart<B: BoardName + Unnamed>(alloc: Global, handle: &mut Handle) -> Called<Answer>
-    requires { IfSome handle.old.object (λ _. handle.old.table ≡ B.table) }
-    ensures called { NodeCalled handle.old.object handle.new.object result Restarts }
-    ensures cluster { handle.new.table ≡ handle.old.table }
-{
-    let mut object = take::<B>(alloc, handle)?;
-    let answer = restart_object(&mut object);
-    put(handle, object);
-    answer
 }

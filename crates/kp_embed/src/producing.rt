@@ -1,172 +1,160 @@
 //! Calls of a node for a caller's pass.
+ghost use Rattle.std.specs.Prelude.{◌≡◌, Some, length, Result, IfErr, OnOk, OnErr};
+ghost use Rattle.kp_types.specs.declared.refusal.Refusal.{Refusal};
+ghost use Rattle.kp_node.specs.declared.ack.Ack.{Ack};
+ghost use Rattle.kp_replica.specs.declared.producing.Receipt.{Receipt};
+ghost use Rattle.kp_handles.specs.Called.{AreOfOne, NoReason, PairCalled};
+ghost use Rattle.kp_handles.specs.Handing.{BadHand, HandedCalled, IsFree};
+ghost use Rattle.kp_handles.specs.Numbers.{answer_number, done_number};
+ghost use Rattle.kp_handles.specs.Objects.{handed as HandedBytes};
+ghost use Rattle.kp_handles.specs.Outs.{WritesOut, WritesReceipt, ack_out, marker_in, receipt_in, receipt_out};
+ghost use Rattle.kp_handles.specs.PairCalls.{Acks, BadBytes, BadMarker, Marks, Produces};
+ghost use Rattle.kp_handles.specs.declared.misuse.Misuse.{Misuse};
 
-ghost use Rattle.std.specs.Prelude.{◌≡◌, length, IfSome};
-ghost use Rattle.kp_embed.specs.Called.{NoReason, PairCalled, PairMet};
-ghost use Rattle.kp_embed.specs.PairCalls.{Acks, BadBytes, BadMarker, Marks, Produces};
-
-use crate::handing::copied_by;
-use crate::handle::{Handle, Unnamed, put, take_two};
-use crate::misuse::Misuse;
-use crate::nodes::Called;
-use crate::object::{Kind, Object};
-use kp_batch::Handed;
-use kp_board::{BoardName, Pass};
-use kp_marker::{HandedMarker, Marker};
-use kp_node::{Ack, Node};
+use kp_handles::{
+    Called, Handle, MarkerIn, ReceiptOut, ack_out, acked, hand, mark_in, misuse_number, produce,
+    produce_handed, refusal_number, shared,
+};
 use kp_replica::Receipt;
-use kp_types::Refusal;
 use std::alloc::Global;
+use std::marker::Brand;
 
-fn produce_objects<B: BoardName>(
-    one: &mut Object<B>,
-    other: &mut Object<B>,
-    bytes: Handed,
-) -> Called<Receipt>
-    ensures { PairMet one.old one.new other.old other.new result (Produces bytes) }
+// The number of what was answered, whose receipt, or the place that it names, goes to the caller.
+fn told(answer: Called<Receipt>, receipt: &mut ReceiptOut) -> u32
+    ensures number { result ≡ answer_number answer }
+    ensures receipt { WritesReceipt answer receipt.old receipt.new }
 {
-    match &mut one.kind {
-        Kind::Node(node) => match &mut other.kind {
-            Kind::Caller(caller) => Ok(node.produce(&mut caller.pass, bytes)),
-            _ => Err(Misuse::OtherKind),
-        },
-        _ => Err(Misuse::OtherKind),
+    match answer {
+        Ok(Ok(kept)) => {
+            *receipt = ReceiptOut::of(&kept);
+            0
+        }
+        Ok(Err(refusal)) => {
+            receipt.place = refusal.place().unwrap_or(0);
+            refusal_number(&refusal)
+        }
+        Err(misuse) => misuse_number(&misuse),
     }
 }
 
-/// Hands the node the batch that the bytes are, as `Node::produce` does.
-#[tactic(auto, using(crate::proofs::Bad::pair_closed, crate::proofs::Bad::pair_kind))]
-pub(crate) fn produce_handed<B: BoardName + Unnamed>(
+/// Hands a node the bytes of a batch.
+#[tactic(auto, using(crate::proofs::OneCluster::first_is, crate::proofs::OneCluster::second_is))]
+#[unsafe(no_mangle)]
+pub extern "C" fn kp_produce(
     alloc: Global,
     node: &mut Handle,
-    caller: &mut Handle,
-    bytes: Handed,
-) -> Called<Receipt>
-    requires node { IfSome node.old.object (λ _. node.old.table ≡ B.table) }
-    requires caller { IfSome caller.old.object (λ _. caller.old.table ≡ B.table) }
-    ensures called { PairCalled NoReason node.old.object node.new.object caller.old.object caller.new.object result (Produces bytes) }
-    ensures cluster { (node.new.table ≡ node.old.table) × (caller.new.table ≡ caller.old.table) }
-{
-    let (mut first, mut second) = take_two::<B>(alloc, node, caller)?;
-    let answer = produce_objects(&mut first, &mut second, bytes);
-    put(node, first);
-    put(caller, second);
-    answer
-}
-
-/// Hands the node the batch that the bytes are, which are copied once, as `Node::produce` does.
-#[tactic(auto, using(crate::proofs::Bad::pair_copy))]
-pub(crate) fn produce<B: BoardName + Unnamed>(
-    alloc: Global,
-    node: &mut Handle,
-    caller: &mut Handle,
+    pass: &mut Handle,
     bytes: &[u8],
-) -> Called<Receipt>
-    requires node { IfSome node.old.object (λ _. node.old.table ≡ B.table) }
-    requires caller { IfSome caller.old.object (λ _. caller.old.table ≡ B.table) }
-    ensures called { PairCalled (BadBytes (length bytes.now)) node.old.object node.new.object caller.old.object caller.new.object result (Produces bytes.now) }
-    ensures cluster { (node.new.table ≡ node.old.table) × (caller.new.table ≡ caller.old.table) }
+    receipt: &mut ReceiptOut,
+) -> u32
+    requires { AreOfOne node.old.object node.old.table pass.old.object pass.old.table }
+    ensures called { (answer : Result (Result Receipt Refusal) Misuse) × (result ≡ answer_number answer)
+        × PairCalled (BadBytes (length bytes.now)) node.old.object node.new.object pass.old.object pass.new.object answer (Produces bytes.now)
+        × WritesReceipt answer receipt.old receipt.new }
+    ensures cluster { (node.new.table ≡ node.old.table) × (pass.new.table ≡ pass.old.table) }
 {
-    let copy = copied_by::<B>(alloc, caller, bytes)?;
-    produce_handed::<B>(alloc, node, caller, copy)
+    told(produce::<Brand>(alloc, node, pass, bytes), receipt)
 }
 
-fn mark_objects<B: BoardName>(
-    one: &mut Object<B>,
-    other: &mut Object<B>,
-    marker: &HandedMarker,
-) -> Called<Receipt>
-    ensures { PairMet one.old one.new other.old other.new result (Marks marker.now.marker) }
+/// Copies the bytes of a batch into a handle, and tests them.
+#[unsafe(no_mangle)]
+pub extern "C" fn kp_hand(alloc: Global, handed: &mut Handle, bytes: &[u8]) -> u32
+    ensures called { (answer : Result (Unit {0}) Misuse) × (result ≡ done_number answer)
+        × OnOk answer (handed.new.object ≡ Some (HandedBytes bytes.now))
+        × OnOk answer (IsFree handed.old.object)
+        × OnErr answer (handed.new.object ≡ handed.old.object)
+        × IfErr answer (BadHand (length bytes.now) handed.old.object) }
 {
-    match &mut one.kind {
-        Kind::Node(node) => match &mut other.kind {
-            Kind::Caller(caller) => Ok(node.mark(&mut caller.pass, marker)),
-            _ => Err(Misuse::OtherKind),
-        },
-        _ => Err(Misuse::OtherKind),
+    match hand::<Brand>(alloc, handed, bytes) {
+        Ok(()) => 0,
+        Err(misuse) => misuse_number(&misuse),
     }
 }
 
-/// Hands the node a transaction's marker, as `Node::mark` does.
-#[tactic(auto, using(crate::proofs::Bad::pair_closed, crate::proofs::Bad::pair_kind))]
-fn mark<B: BoardName + Unnamed>(
+// Hands a node the bytes that a handle holds.
+#[tactic(auto, using(crate::proofs::OneCluster::first_is, crate::proofs::OneCluster::second_is))]
+fn produce_held(
     alloc: Global,
     node: &mut Handle,
-    caller: &mut Handle,
-    marker: &HandedMarker,
+    pass: &mut Handle,
+    handed: &mut Handle,
 ) -> Called<Receipt>
-    requires node { IfSome node.old.object (λ _. node.old.table ≡ B.table) }
-    requires caller { IfSome caller.old.object (λ _. caller.old.table ≡ B.table) }
-    ensures called { PairCalled NoReason node.old.object node.new.object caller.old.object caller.new.object result (Marks marker.now.marker) }
-    ensures cluster { (node.new.table ≡ node.old.table) × (caller.new.table ≡ caller.old.table) }
+    requires { AreOfOne node.old.object node.old.table pass.old.object pass.old.table }
+    ensures called { HandedCalled handed.old.object node.old.object node.new.object pass.old.object pass.new.object result }
+    ensures same { handed.new.object ≡ handed.old.object }
+    ensures cluster { (node.new.table ≡ node.old.table) × (pass.new.table ≡ pass.old.table) }
 {
-    let (mut first, mut second) = take_two::<B>(alloc, node, caller)?;
-    let answer = mark_objects(&mut first, &mut second, marker);
-    put(node, first);
-    put(caller, second);
-    answer
+    let bytes = shared::<Brand>(alloc, handed)?;
+    produce_handed::<Brand>(alloc, node, pass, bytes)
 }
 
-/// The same of a marker whose fields may lie outside their ranges.
-pub(crate) fn mark_in<B: BoardName + Unnamed>(
+/// Hands a node the bytes that a handle holds, which it holds on.
+#[unsafe(no_mangle)]
+pub extern "C" fn kp_produce_handed(
     alloc: Global,
     node: &mut Handle,
-    caller: &mut Handle,
-    marker: Marker,
-) -> Called<Receipt>
-    requires node { IfSome node.old.object (λ _. node.old.table ≡ B.table) }
-    requires caller { IfSome caller.old.object (λ _. caller.old.table ≡ B.table) }
-    ensures called { PairCalled (BadMarker marker) node.old.object node.new.object caller.old.object caller.new.object result (Marks marker) }
-    ensures cluster { (node.new.table ≡ node.old.table) × (caller.new.table ≡ caller.old.table) }
+    pass: &mut Handle,
+    handed: &mut Handle,
+    receipt: &mut ReceiptOut,
+) -> u32
+    requires { AreOfOne node.old.object node.old.table pass.old.object pass.old.table }
+    ensures called { (answer : Result (Result Receipt Refusal) Misuse) × (result ≡ answer_number answer)
+        × HandedCalled handed.old.object node.old.object node.new.object pass.old.object pass.new.object answer
+        × WritesReceipt answer receipt.old receipt.new }
+    ensures same { handed.new.object ≡ handed.old.object }
+    ensures cluster { (node.new.table ≡ node.old.table) × (pass.new.table ≡ pass.old.table) }
 {
-    let Some(handed) = HandedMarker::new(marker) else {
-        return Err(Misuse::OutOfRange);
-    };
-    mark::<B>(alloc, node, caller, &handed)
+    told(produce_held(alloc, node, pass, handed), receipt)
 }
 
-#[tactic(auto, unfolding(crate::specs::PairCalls::Acks))]
-fn acked_by<B: BoardName>(
-    node: &mut Node<B>,
-    pass: &mut Pass<B>,
-    receipt: &Receipt,
-) -> Result<Ack, Refusal>
-    ensures { Acks receipt.now node.old node.new pass.old pass.new result }
+/// Hands a node a transaction's marker.
+#[tactic(auto, using(crate::proofs::OneCluster::first_is, crate::proofs::OneCluster::second_is))]
+#[unsafe(no_mangle)]
+pub extern "C" fn kp_mark(
+    alloc: Global,
+    node: &mut Handle,
+    pass: &mut Handle,
+    marker: &MarkerIn,
+    receipt: &mut ReceiptOut,
+) -> u32
+    requires { AreOfOne node.old.object node.old.table pass.old.object pass.old.table }
+    ensures called { (answer : Result (Result Receipt Refusal) Misuse) × (result ≡ answer_number answer)
+        × PairCalled (BadMarker (marker_in marker.now)) node.old.object node.new.object pass.old.object pass.new.object answer (Marks (marker_in marker.now))
+        × WritesOut receipt_out answer receipt.old receipt.new }
+    ensures cluster { (node.new.table ≡ node.old.table) × (pass.new.table ≡ pass.old.table) }
 {
-    node.acked(pass, receipt)
-}
-
-fn acked_objects<B: BoardName>(
-    one: &mut Object<B>,
-    other: &mut Object<B>,
-    receipt: &Receipt,
-) -> Called<Ack>
-    ensures { PairMet one.old one.new other.old other.new result (Acks receipt.now) }
-{
-    match &mut one.kind {
-        Kind::Node(node) => match &mut other.kind {
-            Kind::Caller(caller) => Ok(acked_by(node, &mut caller.pass, receipt)),
-            _ => Err(Misuse::OtherKind),
-        },
-        _ => Err(Misuse::OtherKind),
+    match mark_in::<Brand>(alloc, node, pass, marker.marker()) {
+        Ok(Ok(kept)) => {
+            *receipt = ReceiptOut::of(&kept);
+            0
+        }
+        Ok(Err(refusal)) => refusal_number(&refusal),
+        Err(misuse) => misuse_number(&misuse),
     }
 }
 
-/// Whether the receipt's batch is committed, as `Node::acked` says.
-#[tactic(auto, using(crate::proofs::Bad::pair_closed, crate::proofs::Bad::pair_kind))]
-pub(crate) fn acked<B: BoardName + Unnamed>(
+/// Whether a receipt's batch is committed.
+#[tactic(auto, using(crate::proofs::OneCluster::first_is, crate::proofs::OneCluster::second_is))]
+#[unsafe(no_mangle)]
+pub extern "C" fn kp_acked(
     alloc: Global,
     node: &mut Handle,
-    caller: &mut Handle,
-    receipt: &Receipt,
-) -> Called<Ack>
-    requires node { IfSome node.old.object (λ _. node.old.table ≡ B.table) }
-    requires caller { IfSome caller.old.object (λ _. caller.old.table ≡ B.table) }
-    ensures called { PairCalled NoReason node.old.object node.new.object caller.old.object caller.new.object result (Acks receipt.now) }
-    ensures cluster { (node.new.table ≡ node.old.table) × (caller.new.table ≡ caller.old.table) }
+    pass: &mut Handle,
+    receipt: &ReceiptOut,
+    ack: &mut u32,
+) -> u32
+    requires { AreOfOne node.old.object node.old.table pass.old.object pass.old.table }
+    ensures called { (answer : Result (Result Ack Refusal) Misuse) × (result ≡ answer_number answer)
+        × PairCalled NoReason node.old.object node.new.object pass.old.object pass.new.object answer (Acks (receipt_in receipt.now))
+        × WritesOut ack_out answer ack.old ack.new }
+    ensures cluster { (node.new.table ≡ node.old.table) × (pass.new.table ≡ pass.old.table) }
 {
-    let (mut first, mut second) = take_two::<B>(alloc, node, caller)?;
-    let answer = acked_objects(&mut first, &mut second, receipt);
-    put(node, first);
-    put(caller, second);
-    answer
+    match acked::<Brand>(alloc, node, pass, &receipt.receipt()) {
+        Ok(Ok(found)) => {
+            *ack = ack_out(found);
+            0
+        }
+        Ok(Err(refusal)) => refusal_number(&refusal),
+        Err(misuse) => misuse_number(&misuse),
+    }
 }

@@ -129,7 +129,7 @@ unsafe extern "C" {
     fn kp_text(number: u32, to: *mut u8, count: usize) -> usize;
 }
 
-// SAFETY: the library's own handle is Send, whatever it holds: `unsafe impl Send for Handle` in `crates/kp_embed/src/handle.rt`, which is
+// SAFETY: the library's own handle is Send, whatever it holds: `unsafe impl Send for Handle` in `crates/kp_handles/src/handle.rt`, which is
 // proved. It asks that calls with one handle in two threads come one after the other; whoever has it by `&mut` came by it through a
 // lock, a channel, or the start or end of a thread.
 unsafe impl Send for Handle {}

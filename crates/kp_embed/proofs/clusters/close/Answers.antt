@@ -1,5 +1,0 @@
-use Rattle.std.proofs.Common.{rules}
-use Rattle.kp_embed.proofs.clusters.close.Goals as goal
-
-pub returns-clause-closed : goal.returns-clause-closed
-returns-clause-closed g c = search rules

@@ -1,4 +1,0 @@
-use Rattle.kp_embed.proofs.exports.callers.kp_elect.Given as goal
-
-abbrev pub ghosts-elect-B-BoardName : goal.ghosts-elect-B-BoardName
-ghosts-elect-B-BoardName a = record { table = a.handle.now.table }

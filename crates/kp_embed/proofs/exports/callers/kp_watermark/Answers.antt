@@ -1,5 +1,0 @@
-use Rattle.std.proofs.Common.{rules}
-use Rattle.kp_embed.proofs.exports.callers.kp_watermark.Goals as goal
-
-pub returns-in-Ok-Ok-None-clause-called : goal.returns-in-Ok-Ok-None-clause-called
-returns-in-Ok-Ok-None-clause-called c = search rules

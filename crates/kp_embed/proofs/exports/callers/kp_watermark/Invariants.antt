@@ -1,4 +1,0 @@
-use Rattle.kp_embed.proofs.exports.callers.kp_watermark.Given as goal
-
-abbrev pub ghosts-watermark-B-BoardName : goal.ghosts-watermark-B-BoardName
-ghosts-watermark-B-BoardName a = record { table = a.handle.now.table }

@@ -1,4 +1,0 @@
-use Rattle.kp_embed.proofs.exports.clusters.kp_close.Given as goal
-
-abbrev pub ghosts-close-B-BoardName : goal.ghosts-close-B-BoardName
-ghosts-close-B-BoardName a = record { table = a.handle.now.table }

@@ -1,4 +1,0 @@
-use Rattle.kp_embed.proofs.exports.holding.kp_batch.Given as goal
-
-abbrev pub ghosts-write_batch-B-BoardName : goal.ghosts-write_batch-B-BoardName
-ghosts-write_batch-B-BoardName a = record { table = a.handle.now.table }

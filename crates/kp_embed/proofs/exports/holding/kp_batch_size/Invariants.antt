@@ -1,4 +1,0 @@
-use Rattle.kp_embed.proofs.exports.holding.kp_batch_size.Given as goal
-
-abbrev pub ghosts-batch_size-B-BoardName : goal.ghosts-batch_size-B-BoardName
-ghosts-batch_size-B-BoardName a = record { table = a.handle.now.table }

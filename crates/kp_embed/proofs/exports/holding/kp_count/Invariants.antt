@@ -1,4 +1,0 @@
-use Rattle.kp_embed.proofs.exports.holding.kp_count.Given as goal
-
-abbrev pub ghosts-count-B-BoardName : goal.ghosts-count-B-BoardName
-ghosts-count-B-BoardName a = record { table = a.handle.now.table }

@@ -1,4 +1,0 @@
-use Rattle.kp_embed.proofs.exports.messages.kp_alter.Given as goal
-
-abbrev pub ghosts-send-B-BoardName : goal.ghosts-send-B-BoardName
-ghosts-send-B-BoardName a = record { table = a.node.now.table }

@@ -1,4 +1,0 @@
-use Rattle.kp_embed.proofs.exports.nodes.kp_adopt.Given as goal
-
-abbrev pub ghosts-adopt-B-BoardName : goal.ghosts-adopt-B-BoardName
-ghosts-adopt-B-BoardName a = record { table = a.handle.now.table }

@@ -1,4 +1,0 @@
-use Rattle.kp_embed.proofs.exports.nodes.kp_raise.Given as goal
-
-abbrev pub ghosts-raise-B-BoardName : goal.ghosts-raise-B-BoardName
-ghosts-raise-B-BoardName a = record { table = a.handle.now.table }

@@ -1,4 +1,0 @@
-use Rattle.kp_embed.proofs.exports.producing.kp_hand.Given as goal
-
-abbrev pub ghosts-hand-B-BoardName : goal.ghosts-hand-B-BoardName
-ghosts-hand-B-BoardName a = record { table = a.handle.now.table }

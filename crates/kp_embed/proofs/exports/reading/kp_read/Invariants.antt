@@ -1,5 +1,0 @@
-use Rattle.kp_embed.specs.Called.{table_of}
-use Rattle.kp_embed.proofs.exports.reading.kp_read.Given as goal
-
-abbrev pub ghosts-read-B-BoardName : goal.ghosts-read-B-BoardName
-ghosts-read-B-BoardName a = record { table = table_of a.node.now.object a.node.now.table a.caller.now.table }

@@ -1,5 +1,0 @@
-use Rattle.std.proofs.Common.{rules}
-use Rattle.kp_embed.proofs.handing.take_up.Goals as goal
-
-pub returns-clause-handed : goal.returns-clause-handed
-returns-clause-handed c = search rules

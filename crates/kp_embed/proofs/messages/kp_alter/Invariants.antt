@@ -1,0 +1,4 @@
+use Rattle.kp_embed.proofs.messages.kp_alter.Given as goal
+
+abbrev pub ghosts-send-B-BoardName : goal.ghosts-send-B-BoardName
+ghosts-send-B-BoardName a = record { table = a.node.now.table }

@@ -1,5 +1,0 @@
-use Rattle.std.proofs.Common.{rules}
-use Rattle.kp_embed.proofs.outs.ack_out.Goals as goal
-
-pub returns-in-Lost : goal.returns-in-Lost
-returns-in-Lost c = search rules

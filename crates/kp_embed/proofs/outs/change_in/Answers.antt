@@ -1,5 +1,0 @@
-use Rattle.std.proofs.Common.{rules}
-use Rattle.kp_embed.proofs.outs.change_in.Goals as goal
-
-pub returns-then-joins : goal.returns-then-joins
-returns-then-joins c = search rules

@@ -1,5 +1,0 @@
-use Rattle.std.proofs.Common.{rules}
-use Rattle.kp_embed.proofs.segments.given.Goals as goal
-
-pub returns : goal.returns
-returns c = search rules

@@ -1,0 +1,9 @@
+pub mod Bad
+pub mod Handles
+pub mod Names
+pub mod Naming
+pub mod Parts
+pub mod Posts
+pub mod Values
+pub mod Waiting
+pub mod Words

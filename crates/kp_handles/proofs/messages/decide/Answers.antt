@@ -1,0 +1,12 @@
+use Rattle.std.proofs.Common.{rules, sym, ap, ◌∙◌}
+use Rattle.std.specs.Prelude.{Some}
+use Rattle.kp_handles.specs.Objects.{ObjectView}
+use Rattle.kp_handles.proofs.Posts.{decide_called}
+use Rattle.kp_handles.proofs.messages.decide.Goals as goal
+
+pub returns-in-Some-clause-called : goal.returns-in-Some-clause-called
+returns-in-Some-clause-called g c =
+    let s = c.decide_objects-left in
+    decide_called c.deref.result.now c.deref.result.now c.replace-came.result s.result.0 _ _ _ _ s.result.1 s.ensures
+    (search rules) (search rules) (search rules)
+    (c.put-in-Some.ensures.object ∙ ap (λ (v : ObjectView). Some v) c.replace.ensures.after ∙ sym c.in-Some.is)

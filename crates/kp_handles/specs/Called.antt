@@ -1,0 +1,84 @@
+-- What a call of handles does (own rule).
+use Rattle.std.specs.Prelude.{◌≡◌, ◌⊎◌, ℕ, true, Option, Some, None, Result, Ok, Err}
+use Rattle.atomic_table.specs.Seated.{TableId}
+use Rattle.kp_types.specs.declared.refusal.Refusal.{Refusal}
+use Rattle.kp_board.specs.Views.{CallerView}
+use Rattle.kp_node.specs.Seated.{SeatedNode}
+use Rattle.kp_handles.specs.Objects.{ObjectView, caller, is_open, node}
+use Rattle.kp_handles.specs.declared.misuse.Misuse.{Misuse}
+use Rattle.kp_handles.specs.declared.misuse.Misuse.TheVariants.{Closed, OtherKind, InUse, NoRoom}
+
+-- The call met a node, which did this; or met something else, and nothing has changed.
+abbrev pub NodeMet : {X : Type 0} → ObjectView → ObjectView → Result (Result X Refusal) Misuse → (SeatedNode → SeatedNode → Result X Refusal → Type 0) → Type 0
+NodeMet old new (Ok answer) P = (x : SeatedNode) × (y : SeatedNode) × (old ≡ node x) × (new ≡ node y) × P x y answer
+NodeMet old new (Err why) P = (why ≡ OtherKind) × (new ≡ old) × ((x : SeatedNode) → old ≡ node x → ⊥)
+
+-- The same of the handle's object; a closed handle is left so.
+abbrev pub NodeCalled : {X : Type 0} → Option ObjectView → Option ObjectView → Result (Result X Refusal) Misuse → (SeatedNode → SeatedNode → Result X Refusal → Type 0) → Type 0
+NodeCalled None new answer P = (answer ≡ Err Closed) × (new ≡ None)
+NodeCalled (Some old) None answer P = ⊥
+NodeCalled (Some old) (Some new) answer P = NodeMet old new answer P
+
+-- The same of a caller's pass of a board of so many nodes.
+abbrev pub CallerMet : {X : Type 0} → ObjectView → ObjectView → Result (Result X Refusal) Misuse → (ℕ → CallerView → CallerView → Result X Refusal → Type 0) → Type 0
+CallerMet old new (Ok answer) P = (n : ℕ) × (c : CallerView) × (d : CallerView) × (old ≡ caller n c) × (new ≡ caller n d) × P n c d answer
+CallerMet old new (Err why) P = (why ≡ OtherKind) × (new ≡ old) × ((n : ℕ) → (c : CallerView) → old ≡ caller n c → ⊥)
+
+abbrev pub CallerCalled : {X : Type 0} → Option ObjectView → Option ObjectView → Result (Result X Refusal) Misuse → (ℕ → CallerView → CallerView → Result X Refusal → Type 0) → Type 0
+CallerCalled None new answer P = (answer ≡ Err Closed) × (new ≡ None)
+CallerCalled (Some old) None answer P = ⊥
+CallerCalled (Some old) (Some new) answer P = CallerMet old new answer P
+
+-- The call met a node and a caller's pass, and did this; or met something else, and nothing has changed.
+abbrev pub PairMet : {X : Type 0} → (old new other then : ObjectView) → Result (Result X Refusal) Misuse → (SeatedNode → SeatedNode → CallerView → CallerView → Result X Refusal → Type 0) → Type 0
+PairMet old new other then (Ok answer) P =
+    (x : SeatedNode) × (y : SeatedNode) × (n : ℕ) × (c : CallerView) × (d : CallerView)
+    × (old ≡ node x) × (new ≡ node y) × (other ≡ caller n c) × (then ≡ caller n d) × P x y c d answer
+PairMet old new other then (Err why) P =
+    (why ≡ OtherKind) × (new ≡ old) × (then ≡ other) × ((x : SeatedNode) → (n : ℕ) → (c : CallerView) → old ≡ node x → other ≡ caller n c → ⊥)
+
+-- Why a call of a node and a pass wasn't made: for what their handles hold, or for a reason of the call's own.
+abbrev pub BadPair : (Misuse → Type 0) → Option ObjectView → Option ObjectView → Misuse → Type 0
+BadPair Own old other Closed = (old ≡ None) ⊎ (other ≡ None)
+BadPair Own old other OtherKind = (x : SeatedNode) → (n : ℕ) → (c : CallerView) → old ≡ Some (node x) → other ≡ Some (caller n c) → ⊥
+BadPair Own old other why = Own why
+
+-- it has none
+abbrev pub NoReason : Misuse → Type 0
+NoReason why = ⊥
+
+-- The same of a node alone.
+abbrev pub BadNode : Option ObjectView → Misuse → Type 0
+BadNode old Closed = old ≡ None
+BadNode old OtherKind = (x : SeatedNode) → old ≡ Some (node x) → ⊥
+BadNode old InUse = Unit {0}
+BadNode old NoRoom = Unit {0}
+BadNode old _ = ⊥
+
+-- The handle that was to be written is open, if that is why.
+abbrev pub BadOut : Option ObjectView → Misuse → Type 0
+BadOut out InUse = is_open out ≡ true
+BadOut out _ = Unit {0}
+
+-- it was open, or there was no room for what it was to hold
+abbrev pub BadRoom : Option ObjectView → Misuse → Type 0
+BadRoom out InUse = is_open out ≡ true
+BadRoom out NoRoom = Unit {0}
+BadRoom out _ = ⊥
+
+-- The same of two handles' objects.
+abbrev pub PairCalled : {X : Type 0} → (Misuse → Type 0) → (old new other then : Option ObjectView) → Result (Result X Refusal) Misuse → (SeatedNode → SeatedNode → CallerView → CallerView → Result X Refusal → Type 0) → Type 0
+PairCalled Own old new other then (Ok answer) P =
+    (x : SeatedNode) × (y : SeatedNode) × (n : ℕ) × (c : CallerView) × (d : CallerView)
+    × (old ≡ Some (node x)) × (new ≡ Some (node y)) × (other ≡ Some (caller n c)) × (then ≡ Some (caller n d)) × P x y c d answer
+PairCalled Own old new other then (Err why) P = (new ≡ old) × (then ≡ other) × BadPair Own old other why
+
+-- The handles' two objects are of one cluster, where both are open.
+abbrev pub AreOfOne : Option ObjectView → TableId → Option ObjectView → TableId → Type 0
+AreOfOne (Some x) t (Some y) u = t ≡ u
+AreOfOne _ t _ u = Unit {0}
+
+-- and whose it is
+abbrev pub table_of : Option ObjectView → TableId → TableId → TableId
+table_of (Some x) t u = t
+table_of None t u = u

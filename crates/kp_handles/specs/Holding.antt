@@ -1,0 +1,116 @@
+-- What comes of what a handle holds (own rule).
+use Rattle.std.specs.Prelude.{◌≡◌, ◌<◌, ◌++◌, ℕ, Bool, true, false, List, [], length, drop, slice_get, unwrap_or, Option, Some, None}
+use Rattle.kp_batch.specs.Batch.{Written, size_of, spelling}
+use Rattle.kp_crc.specs.Crc.{crc}
+use Rattle.kp_model.specs.Event.{Line}
+use Rattle.kp_model.specs.Letter.{goes_to, letter}
+use Rattle.kp_model.specs.World.{Message as ModelMessage}
+use Rattle.kp_model.specs.declared.message.MessageBody.{MessageBody}
+use Rattle.kp_handles.specs.Objects.{ObjectView, message, batches, records, segments}
+use Rattle.kp_handles.specs.declared.misuse.Misuse.{Misuse}
+use Rattle.kp_handles.specs.declared.misuse.Misuse.TheVariants.{Closed, OtherKind, OutOfRange, BadLength}
+use Rattle.kp_handles.specs.declared.outs.ValueOut.{ValueOut}
+
+-- ---- a list of something
+
+-- how many of them there are, where it holds such
+abbrev pub count_in : ObjectView → Option ℕ
+count_in (batches ws) = Some (length ws)
+count_in (records ls) = Some (length ls)
+count_in (segments ss) = Some (length ss)
+count_in _ = None
+
+abbrev pub HasCount : Option ObjectView → ℕ → Type 0
+HasCount object n = (o : ObjectView) × (object ≡ Some o) × (count_in o ≡ Some n)
+
+-- why they weren't counted
+abbrev pub BadCount : Option ObjectView → Misuse → Type 0
+BadCount object Closed = object ≡ None
+BadCount object OtherKind = (o : ObjectView) × (object ≡ Some o) × (count_in o ≡ None)
+BadCount object _ = ⊥
+
+-- the one of this index is such
+abbrev pub HasPart : {X : Type 0} → (List X → ObjectView) → ℕ → Option ObjectView → (X → Type 0) → Type 0
+HasPart {X} hold index object P = (xs : List X) × (x : X) × (object ≡ Some (hold xs)) × (slice_get xs index ≡ Some x) × P x
+
+-- Why a call for the one of this index wasn't made; it has so many bytes, which may be too many for the places that there are.
+abbrev pub BadPartOf : {X : Type 0} → (List X → ObjectView) → (X → ℕ) → (index places : ℕ) → ObjectView → Misuse → Type 0
+BadPartOf {X} hold size index places object OtherKind = (xs : List X) → object ≡ hold xs → ⊥
+BadPartOf {X} hold size index places object OutOfRange = (xs : List X) × (object ≡ hold xs) × (slice_get xs index ≡ None)
+BadPartOf {X} hold size index places object BadLength = (xs : List X) × (x : X) × (object ≡ hold xs) × (slice_get xs index ≡ Some x) × (places < size x)
+BadPartOf hold size index places object _ = ⊥
+
+abbrev pub BadPart : {X : Type 0} → (List X → ObjectView) → (X → ℕ) → (index places : ℕ) → Option ObjectView → Misuse → Type 0
+BadPart hold size index places object Closed = object ≡ None
+BadPart {X} hold size index places object OtherKind = (xs : List X) → object ≡ Some (hold xs) → ⊥
+BadPart {X} hold size index places object OutOfRange = (xs : List X) × (object ≡ Some (hold xs)) × (slice_get xs index ≡ None)
+BadPart {X} hold size index places object BadLength = (xs : List X) × (x : X) × (object ≡ Some (hold xs)) × (slice_get xs index ≡ Some x) × (places < size x)
+BadPart hold size index places object _ = ⊥
+
+-- The bytes stand where `old` stood, and what comes after them is as it was.
+abbrev pub Writes : List ℕ → (old new : List ℕ) → Type 0
+Writes bytes old new = new ≡ bytes ++ drop (length bytes) old
+
+-- ---- batches
+
+abbrev pub batch_size : Written → ℕ
+batch_size w = size_of w.body
+
+-- a batch's one spelling stands where `old` stood
+abbrev pub WritesSpelling : Written → (old new : List ℕ) → Type 0
+WritesSpelling w old new = new ≡ spelling crc w ++ drop (size_of w.body) old
+
+-- why one of the batches wasn't found, or not copied to so many places
+abbrev pub NoBatch : ℕ → Option ObjectView → Misuse → Type 0
+NoBatch index object why = BadPart batches (λ w. 0) index 0 object why
+
+abbrev pub BadBatch : (index places : ℕ) → Option ObjectView → Misuse → Type 0
+BadBatch index places object why = BadPart batches batch_size index places object why
+
+abbrev pub HasSize : Option ObjectView → (index n : ℕ) → Type 0
+HasSize object index n = HasPart batches index object (λ w. n ≡ batch_size w)
+
+abbrev pub WritesBatch : Option ObjectView → ℕ → (old new : List ℕ) → Type 0
+WritesBatch object index old new = HasPart batches index object (λ w. WritesSpelling w old new)
+
+-- ---- records
+
+abbrev pub is_null : Option (List ℕ) → Bool
+is_null None = true
+is_null (Some value) = false
+
+abbrev pub value_bytes : Line → List ℕ
+value_bytes l = unwrap_or l.value []
+
+abbrev pub value_size : Line → ℕ
+value_size l = length (value_bytes l)
+
+abbrev pub value_out : Line → ValueOut
+value_out l = record { offset = l.offset; size = value_size l; null = is_null l.value }
+
+-- why one of the records wasn't found, or its value not copied to so many places
+abbrev pub NoRecord : ℕ → Option ObjectView → Misuse → Type 0
+NoRecord index object why = BadPart records (λ l. 0) index 0 object why
+
+abbrev pub BadValue : (index places : ℕ) → Option ObjectView → Misuse → Type 0
+BadValue index places object why = BadPart records value_size index places object why
+
+abbrev pub HasRecord : Option ObjectView → ℕ → ValueOut → Type 0
+HasRecord object index found = HasPart records index object (λ l. found ≡ value_out l)
+
+abbrev pub WritesValue : Option ObjectView → ℕ → (old new : List ℕ) → Type 0
+WritesValue object index old new = HasPart records index object (λ l. Writes (value_bytes l) old new)
+
+-- ---- a message
+
+-- the node that it goes to, or 255 for the controller
+abbrev pub addressee_out : MessageBody → ℕ
+addressee_out body = unwrap_or (goes_to (letter body)) 255
+
+abbrev pub HasAddressee : Option ObjectView → ℕ → Type 0
+HasAddressee object n = (body : MessageBody) × (pass : ModelMessage) × (object ≡ Some (message body pass)) × (n ≡ addressee_out body)
+
+abbrev pub BadLetter : Option ObjectView → Misuse → Type 0
+BadLetter object Closed = object ≡ None
+BadLetter object OtherKind = (body : MessageBody) → (pass : ModelMessage) → object ≡ Some (message body pass) → ⊥
+BadLetter object _ = ⊥

@@ -1,0 +1,240 @@
+//! What comes of what a handle holds.
+
+ghost use Rattle.std.specs.Prelude.{◌≡◌, ◌<◌, Some, length, IfSome, IfOk, IfErr, OnOk, OnErr};
+ghost use Rattle.kp_visible.specs.Lines.{line_of};
+ghost use Rattle.kp_handles.specs.Holding.{BadBatch, BadCount, BadLetter, BadPartOf, BadValue, HasAddressee, HasCount, HasRecord, HasSize, NoBatch, NoRecord, Writes, WritesBatch, WritesSpelling, WritesValue, batch_size, value_bytes, value_size};
+ghost use Rattle.kp_handles.specs.Objects.{batches, records};
+ghost use Rattle.kp_handles.specs.declared.misuse.Misuse.TheVariants.{BadLength};
+
+use crate::handle::{Handle, Unnamed, put, take};
+use crate::misuse::Misuse;
+use crate::object::{Kind, Object};
+use crate::outs::{ValueOut, addressee_out};
+use kp_batch::Batch;
+use kp_board::BoardName;
+use kp_visible::ReadRecord;
+use std::alloc::Global;
+
+fn count_object<B: BoardName>(object: &Object<B>) -> Result<usize, Misuse>
+    ensures found { IfOk result (HasCount (Some object.now)) }
+    ensures only { IfErr result (BadCount (Some object.now)) }
+{
+    match &object.kind {
+        Kind::Batches(batches) => Ok(batches.len()),
+        Kind::Records(records) => Ok(records.len()),
+        Kind::Segments(segments) => Ok(segments.len()),
+        _ => Err(Misuse::OtherKind),
+    }
+}
+
+/// How many batches, records or segments stand in the handle.
+#[tactic(auto, using(crate::proofs::Bad::closed_count))]
+pub fn count<B: BoardName + Unnamed>(alloc: Global, handle: &mut Handle) -> Result<usize, Misuse>
+    requires { IfSome handle.old.object (λ _. handle.old.table ≡ B.table) }
+    ensures found { IfOk result (HasCount handle.old.object) }
+    ensures only { IfErr result (BadCount handle.old.object) }
+    ensures same { handle.new.object ≡ handle.old.object }
+{
+    let object = take::<B>(alloc, handle)?;
+    let found = count_object(&object);
+    put(handle, object);
+    found
+}
+
+fn size_object<B: BoardName>(object: &Object<B>, index: usize) -> Result<u32, Misuse>
+    ensures found { IfOk result (HasSize (Some object.now) index) }
+    ensures only { IfErr result (BadPartOf batches (λ w. 0) index 0 object.now) }
+{
+    match &object.kind {
+        Kind::Batches(batches) => match batches.get(index) {
+            Some(batch) => Ok(batch.size()),
+            None => Err(Misuse::OutOfRange),
+        },
+        _ => Err(Misuse::OtherKind),
+    }
+}
+
+/// How many bytes one of the batches has.
+#[tactic(auto, using(crate::proofs::Bad::bad_part, crate::proofs::Bad::closed_part))]
+pub fn batch_size<B: BoardName + Unnamed>(
+    alloc: Global,
+    handle: &mut Handle,
+    index: usize,
+) -> Result<u32, Misuse>
+    requires { IfSome handle.old.object (λ _. handle.old.table ≡ B.table) }
+    ensures found { IfOk result (HasSize handle.old.object index) }
+    ensures only { IfErr result (NoBatch index handle.old.object) }
+    ensures same { handle.new.object ≡ handle.old.object }
+{
+    let object = take::<B>(alloc, handle)?;
+    let found = size_object(&object, index);
+    put(handle, object);
+    found
+}
+
+// Copies the batch's bytes to the front of the place, if they fit there.
+fn copy_batch(batch: &Batch, to: &mut [u8]) -> Result<(), Misuse>
+    ensures written { OnOk result (WritesSpelling batch.now to.old to.new) }
+    ensures only { IfErr result (λ why. (why ≡ BadLength) × (length to.old < batch_size batch.now)) }
+    ensures same { OnErr result (to.new ≡ to.old) }
+{
+    if batch.copy_to(to) {
+        Ok(())
+    } else {
+        Err(Misuse::BadLength)
+    }
+}
+
+fn write_object<B: BoardName>(object: &Object<B>, index: usize, to: &mut [u8]) -> Result<(), Misuse>
+    ensures written { OnOk result (WritesBatch (Some object.now) index to.old to.new) }
+    ensures only { IfErr result (BadPartOf batches batch_size index (length to.old) object.now) }
+    ensures same { OnErr result (to.new ≡ to.old) }
+{
+    match &object.kind {
+        Kind::Batches(batches) => match batches.get(index) {
+            Some(batch) => copy_batch(batch, to),
+            None => Err(Misuse::OutOfRange),
+        },
+        _ => Err(Misuse::OtherKind),
+    }
+}
+
+/// Copies the bytes of one of the batches.
+#[tactic(auto, using(crate::proofs::Bad::bad_part, crate::proofs::Bad::closed_part))]
+pub fn write_batch<B: BoardName + Unnamed>(
+    alloc: Global,
+    handle: &mut Handle,
+    index: usize,
+    to: &mut [u8],
+) -> Result<(), Misuse>
+    requires { IfSome handle.old.object (λ _. handle.old.table ≡ B.table) }
+    ensures written { OnOk result (WritesBatch handle.old.object index to.old to.new) }
+    ensures only { IfErr result (BadBatch index (length to.old) handle.old.object) }
+    ensures same { handle.new.object ≡ handle.old.object }
+    ensures refused { OnErr result (to.new ≡ to.old) }
+{
+    let object = take::<B>(alloc, handle)?;
+    let done = write_object(&object, index, to);
+    put(handle, object);
+    done
+}
+
+fn record_object<B: BoardName>(object: &Object<B>, index: usize) -> Result<ValueOut, Misuse>
+    ensures found { IfOk result (HasRecord (Some object.now) index) }
+    ensures only { IfErr result (BadPartOf records (λ l. 0) index 0 object.now) }
+{
+    match &object.kind {
+        Kind::Records(records) => {
+            if index < records.len() {
+                Ok(ValueOut::of(records.get(index)))
+            } else {
+                Err(Misuse::OutOfRange)
+            }
+        }
+        _ => Err(Misuse::OtherKind),
+    }
+}
+
+/// One of the records: its offset, and how many bytes its value has.
+#[tactic(auto, using(crate::proofs::Bad::bad_part, crate::proofs::Bad::closed_part))]
+pub fn record_at<B: BoardName + Unnamed>(
+    alloc: Global,
+    handle: &mut Handle,
+    index: usize,
+) -> Result<ValueOut, Misuse>
+    requires { IfSome handle.old.object (λ _. handle.old.table ≡ B.table) }
+    ensures found { IfOk result (HasRecord handle.old.object index) }
+    ensures only { IfErr result (NoRecord index handle.old.object) }
+    ensures same { handle.new.object ≡ handle.old.object }
+{
+    let object = take::<B>(alloc, handle)?;
+    let found = record_object(&object, index);
+    put(handle, object);
+    found
+}
+
+/// Copies the bytes to the front of the place, if they fit there.
+pub(crate) fn copy_front(bytes: &[u8], to: &mut [u8]) -> Result<(), Misuse>
+    ensures written { OnOk result (Writes bytes.now to.old to.new) }
+    ensures only { IfErr result (λ why. (why ≡ BadLength) × (length to.old < length bytes.now)) }
+    ensures same { OnErr result (to.new ≡ to.old) }
+{
+    let count = bytes.len();
+    if count > to.len() {
+        return Err(Misuse::BadLength);
+    }
+    to[..count].copy_from_slice(bytes);
+    Ok(())
+}
+
+// The bytes of the record's value; none where it is null.
+fn value_of<'a>(read: ReadRecord<'a>) -> &'a [u8]
+    ensures { result.now ≡ value_bytes (line_of read.entry) }
+{
+    match read.value {
+        Some(value) => value,
+        None => &[],
+    }
+}
+
+fn value_object<B: BoardName>(object: &Object<B>, index: usize, to: &mut [u8]) -> Result<(), Misuse>
+    ensures written { OnOk result (WritesValue (Some object.now) index to.old to.new) }
+    ensures only { IfErr result (BadPartOf records value_size index (length to.old) object.now) }
+    ensures same { OnErr result (to.new ≡ to.old) }
+{
+    match &object.kind {
+        Kind::Records(records) => {
+            if index < records.len() {
+                copy_front(value_of(records.get(index)), to)
+            } else {
+                Err(Misuse::OutOfRange)
+            }
+        }
+        _ => Err(Misuse::OtherKind),
+    }
+}
+
+/// Copies the value of one of the records.
+#[tactic(auto, using(crate::proofs::Bad::bad_part, crate::proofs::Bad::closed_part))]
+pub fn write_value<B: BoardName + Unnamed>(
+    alloc: Global,
+    handle: &mut Handle,
+    index: usize,
+    to: &mut [u8],
+) -> Result<(), Misuse>
+    requires { IfSome handle.old.object (λ _. handle.old.table ≡ B.table) }
+    ensures written { OnOk result (WritesValue handle.old.object index to.old to.new) }
+    ensures only { IfErr result (BadValue index (length to.old) handle.old.object) }
+    ensures same { handle.new.object ≡ handle.old.object }
+    ensures refused { OnErr result (to.new ≡ to.old) }
+{
+    let object = take::<B>(alloc, handle)?;
+    let done = value_object(&object, index, to);
+    put(handle, object);
+    done
+}
+
+fn addressee_object<B: BoardName>(object: &Object<B>) -> Result<u8, Misuse>
+    ensures found { IfOk result (HasAddressee (Some object.now)) }
+    ensures only { IfErr result (BadLetter (Some object.now)) }
+{
+    match &object.kind {
+        Kind::Message(message) => Ok(addressee_out(&message.body)),
+        _ => Err(Misuse::OtherKind),
+    }
+}
+
+/// The node that a message goes to, or 255 for the controller.
+#[tactic(auto, using(crate::proofs::Bad::closed_letter))]
+pub fn addressee<B: BoardName + Unnamed>(alloc: Global, handle: &mut Handle) -> Result<u8, Misuse>
+    requires { IfSome handle.old.object (λ _. handle.old.table ≡ B.table) }
+    ensures found { IfOk result (HasAddressee handle.old.object) }
+    ensures only { IfErr result (BadLetter handle.old.object) }
+    ensures same { handle.new.object ≡ handle.old.object }
+    ensures cluster { handle.new.table ≡ handle.old.table }
+{
+    let object = take::<B>(alloc, handle)?;
+    let found = addressee_object(&object);
+    put(handle, object);
+    found
+}

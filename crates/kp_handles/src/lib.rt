@@ -1,0 +1,36 @@
+//! What a service calls by handles: boards, nodes, passes, messages and what was read, owned with no thread and no lock.
+//! It stands on kp_node and kp_board, and on the host's memory behind a handle's pointer.
+//! Its contracts say, of what the handles hold, what those of kp_node and kp_board say, whoever the board is.
+#![tactic(auto)]
+
+mod callers;
+mod clusters;
+mod handing;
+mod handle;
+mod holding;
+mod loose;
+mod messages;
+mod misuse;
+mod nodes;
+mod numbers;
+mod object;
+mod outs;
+mod producing;
+mod reading;
+mod segments;
+
+pub use callers::{elect, record, watermark};
+pub use clusters::{close, open, open_caller, open_node};
+pub use handing::{hand, shared};
+pub use handle::{Handle, Unnamed, is_open};
+pub use holding::{addressee, batch_size, count, record_at, write_batch, write_value};
+pub use messages::{decide, send, step};
+pub use misuse::Misuse;
+pub use nodes::{Called, adopt, checkpoint, raise, restart, stop};
+pub use numbers::{misuse_number, refusal_number, write_name};
+pub use outs::{
+    LimitsIn, MarkerIn, ReceiptOut, RecordOut, RestartOut, RoleOut, ValueOut, ack_out, change_in,
+};
+pub use producing::{acked, mark_in, produce, produce_handed};
+pub use reading::{read, read_committed};
+pub use segments::{segment, segments_of};

@@ -1,0 +1,250 @@
+//! Calls that send a message, or take one.
+
+ghost use Rattle.std.specs.Prelude.{◌≡◌, IfSome, IfOk, IfErr, OnOk, OnErr};
+ghost use Rattle.kp_model.specs.World.{Message as ModelMessage};
+ghost use Rattle.kp_model.specs.declared.message.MessageBody.{MessageBody};
+ghost use Rattle.kp_handles.specs.Called.{NodeMet};
+ghost use Rattle.kp_handles.specs.Objects.{message};
+ghost use Rattle.kp_handles.specs.Messages.{DecideCalled, DecideMet, SendCalled, Sends, StepCalled, Decided, StepMet, Took, answer_of, handle_left, post_of, posted, posts_of, refusal_of};
+
+use crate::handle::{Handle, Unnamed, fill, is_open, put, take, take_two};
+use crate::misuse::Misuse;
+use crate::nodes::Called;
+use crate::object::{Kind, Object, room};
+use kp_board::{Board, BoardName, Message};
+use kp_node::Node;
+use kp_replica::IsrChange;
+use kp_types::Refusal;
+use std::alloc::Global;
+
+// The node proposes the change, or asks its leader where there is none.
+fn sent_by<B: BoardName>(
+    node: &mut Node<B>,
+    proposed: Option<IsrChange>,
+) -> Result<Message<B>, Refusal>
+    ensures { Sends proposed node.old node.new (post_of result) }
+{
+    match proposed {
+        None => node.ask(),
+        Some(change) => node.alter(change),
+    }
+}
+
+fn send_object<B: BoardName>(
+    object: &mut Object<B>,
+    proposed: Option<IsrChange>,
+) -> Called<Message<B>>
+    ensures { NodeMet object.old object.new result (λ x y sent. Sends proposed x y (post_of sent)) }
+{
+    match &mut object.kind {
+        Kind::Node(node) => Ok(sent_by(node, proposed)),
+        _ => Err(Misuse::OtherKind),
+    }
+}
+
+/// Proposes a change of the in-sync replicas, as `Node::alter` does, or asks the node's leader, as `Node::ask` does, where there is none.
+/// The message comes into a closed handle.
+#[tactic(auto, using(crate::proofs::Bad::node_closed, crate::proofs::Bad::node_kind, crate::proofs::Bad::out_closed, crate::proofs::Bad::out_kind))]
+pub fn send<B: BoardName + Unnamed>(
+    alloc: Global,
+    node: &mut Handle,
+    proposed: Option<IsrChange>,
+    out: &mut Handle,
+) -> Called<()>
+    requires { IfSome node.old.object (λ _. node.old.table ≡ B.table) }
+    ensures called { SendCalled node.old.object node.new.object out.old.object out.new.object result (Sends proposed) }
+    ensures cluster { node.new.table ≡ node.old.table }
+    ensures named { IfOk result (λ done. OnOk done (out.new.table ≡ B.table)) }
+{
+    if is_open(out) {
+        return Err(Misuse::InUse);
+    }
+    let made = room::<B>(alloc)?;
+    let mut object = take::<B>(alloc, node)?;
+    let answer = send_object(&mut object, proposed);
+    put(node, object);
+    match answer {
+        Ok(Ok(sent)) => {
+            fill(
+                out,
+                made,
+                Object {
+                    kind: Kind::Message(sent),
+                },
+            );
+            Ok(Ok(()))
+        }
+        Ok(Err(refusal)) => Ok(Err(refusal)),
+        Err(misuse) => Err(misuse),
+    }
+}
+
+// What is left of a message, and what is answered.
+fn leave<B: BoardName>(
+    answer: Result<Option<Message<B>>, Refusal>,
+) -> (Option<Object<B>>, Result<(), Refusal>)
+    ensures left { result.0 ≡ handle_left (answer_of (posts_of answer)) }
+    ensures done { result.1 ≡ refusal_of (posts_of answer) }
+{
+    match answer {
+        Ok(Some(sent)) => {
+            let kind = Kind::Message(sent);
+            (Some(Object { kind }), Ok(()))
+        }
+        Ok(None) => (None, Ok(())),
+        Err(refusal) => (None, Err(refusal)),
+    }
+}
+
+// The node takes the message.
+#[tactic(auto, using(crate::proofs::Posts::took))]
+fn taken<B: BoardName>(
+    node: &mut Node<B>,
+    message: Message<B>,
+) -> (Option<Object<B>>, Result<(), Refusal>)
+    ensures { Took (posted message) node.old node.new result.0 result.1 }
+{
+    leave(node.step(message))
+}
+
+// The message, if the object is one; else the object again.
+fn message_of<B: BoardName>(letter: Object<B>) -> Result<Message<B>, Object<B>>
+    ensures message { IfOk result (λ m. letter ≡ message m.body m.pass) }
+    ensures other { IfErr result (λ o. o ≡ letter) }
+    ensures no_message { OnErr result ((body : MessageBody) → (pass : ModelMessage) → letter ≡ message body pass → ⊥) }
+{
+    match letter.into_kind() {
+        Kind::Message(message) => Ok(message),
+        kind => Err(Object { kind }),
+    }
+}
+
+fn step_object<B: BoardName>(
+    one: &mut Object<B>,
+    sent: Message<B>,
+) -> (Option<Object<B>>, Called<()>)
+    ensures { StepMet one.old one.new (message sent.body sent.pass) result.0 result.1 }
+{
+    match &mut one.kind {
+        Kind::Node(node) => {
+            let (left, done) = taken(node, sent);
+            (left, Ok(done))
+        }
+        _ => {
+            let kind = Kind::Message(sent);
+            (Some(Object { kind }), Err(Misuse::OtherKind))
+        }
+    }
+}
+
+#[tactic(auto, using(crate::proofs::Posts::step_of))]
+fn step_objects<B: BoardName>(
+    one: &mut Object<B>,
+    letter: Object<B>,
+) -> (Option<Object<B>>, Called<()>)
+    ensures { StepMet one.old one.new letter result.0 result.1 }
+{
+    match message_of(letter) {
+        Ok(sent) => step_object(one, sent),
+        Err(other) => (Some(other), Err(Misuse::OtherKind)),
+    }
+}
+
+/// Hands the node a message, as `Node::step` does. Its handle holds the answer then, or is closed where there is none.
+#[tactic(auto, using(crate::proofs::Posts::step_called, crate::proofs::Bad::step_closed))]
+pub fn step<B: BoardName + Unnamed>(
+    alloc: Global,
+    node: &mut Handle,
+    letter: &mut Handle,
+) -> Called<()>
+    requires node { IfSome node.old.object (λ _. node.old.table ≡ B.table) }
+    requires letter { IfSome letter.old.object (λ _. letter.old.table ≡ B.table) }
+    ensures called { StepCalled node.old.object node.new.object letter.old.object letter.new.object result }
+    ensures cluster { node.new.table ≡ node.old.table }
+    ensures named { IfSome letter.new.object (λ _. letter.new.table ≡ letter.old.table) }
+{
+    let (mut first, mut second) = take_two::<B>(alloc, node, letter)?;
+    let came = Box::replace(&mut second, Object { kind: Kind::Empty });
+    let (left, done) = step_objects(&mut first, came);
+    put(node, first);
+    match left {
+        Some(object) => {
+            Box::replace(&mut second, object);
+            put(letter, second);
+        }
+        None => {}
+    }
+    done
+}
+
+// The controller decides on the message.
+#[tactic(auto, using(crate::proofs::Posts::chosen, crate::proofs::Posts::undecided))]
+fn decided<B: BoardName>(
+    board: &Board<B>,
+    message: Message<B>,
+) -> (Option<Object<B>>, Result<(), Refusal>)
+    ensures { Decided (posted message) result.0 result.1 }
+{
+    match board.decide(message) {
+        Ok(answer) => {
+            let kind = Kind::Message(answer);
+            (Some(Object { kind }), Ok(()))
+        }
+        Err(refusal) => (None, Err(refusal)),
+    }
+}
+
+fn decide_object<B: BoardName>(one: &Object<B>, sent: Message<B>) -> (Option<Object<B>>, Called<()>)
+    ensures { DecideMet one.now one.now (message sent.body sent.pass) result.0 result.1 }
+{
+    match &one.kind {
+        Kind::Caller(caller) => {
+            let (left, done) = decided(&caller.board, sent);
+            (left, Ok(done))
+        }
+        _ => {
+            let kind = Kind::Message(sent);
+            (Some(Object { kind }), Err(Misuse::OtherKind))
+        }
+    }
+}
+
+#[tactic(auto, using(crate::proofs::Posts::decide_of))]
+fn decide_objects<B: BoardName>(
+    one: &Object<B>,
+    letter: Object<B>,
+) -> (Option<Object<B>>, Called<()>)
+    ensures { DecideMet one.now one.now letter result.0 result.1 }
+{
+    match message_of(letter) {
+        Ok(sent) => decide_object(one, sent),
+        Err(other) => (Some(other), Err(Misuse::OtherKind)),
+    }
+}
+
+/// Decides on a proposal at a pass's board, as `Board::decide` does. The message's handle holds the answer then, or is closed.
+#[tactic(auto, using(crate::proofs::Posts::decide_called, crate::proofs::Bad::decide_closed))]
+pub fn decide<B: BoardName + Unnamed>(
+    alloc: Global,
+    caller: &mut Handle,
+    letter: &mut Handle,
+) -> Called<()>
+    requires caller { IfSome caller.old.object (λ _. caller.old.table ≡ B.table) }
+    requires letter { IfSome letter.old.object (λ _. letter.old.table ≡ B.table) }
+    ensures called { DecideCalled caller.old.object caller.new.object letter.old.object letter.new.object result }
+    ensures cluster { caller.new.table ≡ caller.old.table }
+    ensures named { IfSome letter.new.object (λ _. letter.new.table ≡ letter.old.table) }
+{
+    let (first, mut second) = take_two::<B>(alloc, caller, letter)?;
+    let came = Box::replace(&mut second, Object { kind: Kind::Empty });
+    let (left, done) = decide_objects(&first, came);
+    put(caller, first);
+    match left {
+        Some(object) => {
+            Box::replace(&mut second, object);
+            put(letter, second);
+        }
+        None => {}
+    }
+    done
+}

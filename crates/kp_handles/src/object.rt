@@ -1,0 +1,103 @@
+//! What a handle holds.
+
+ghost use Rattle.std.specs.Prelude.{◌≡◌, IfOk, IfErr};
+ghost use Rattle.kp_handles.specs.Objects.{empty, object_view};
+ghost use Rattle.kp_handles.specs.declared.misuse.Misuse.TheVariants.{NoRoom};
+
+use crate::misuse::Misuse;
+use crate::segments::SegmentShare;
+use bytes::BytesMut;
+use kp_batch::{Batch, Handed};
+use kp_board::{Board, BoardName, FreshPass, Message, Pass};
+use kp_node::Node;
+use kp_types::Limits;
+use kp_visible::ReadRecords;
+use std::alloc::Global;
+use std::marker::Model;
+use std::sync::Arc;
+
+/// A board with the passes of the nodes that aren't open yet, and the sizes of their logs.
+#[derive(Drop)]
+pub struct Cluster<B: BoardName> {
+    pub(crate) board: Arc<Board<B>, Global>,
+    pub(crate) waiting: Vec<FreshPass<B>>,
+    pub(crate) limits: Limits,
+}
+
+/// A caller's pass, with its board, and the block to which the bytes that it hands in are copied.
+#[derive(Drop)]
+pub struct Caller<B: BoardName> {
+    pub(crate) board: Arc<Board<B>, Global>,
+    pub(crate) pass: Pass<B>,
+    pub(crate) block: BytesMut,
+}
+
+/// Bytes that a client hands in, and the block to which the next ones are copied.
+#[derive(Drop)]
+pub struct InHand {
+    pub(crate) bytes: Handed,
+    pub(crate) block: BytesMut,
+}
+
+impl Model for InHand {
+    ghost use Rattle.std.specs.Prelude.{ℕ, List};
+
+    ghost Value = { List ℕ };
+
+    ghost view = { λ hand. hand.bytes };
+}
+
+/// What a handle holds, by its kind.
+#[derive(Drop)]
+pub enum Kind<B: BoardName> {
+    Empty,
+    Cluster(Cluster<B>),
+    Node(Node<B>),
+    Caller(Caller<B>),
+    Message(Message<B>),
+    Batches(Vec<Batch>),
+    Records(ReadRecords),
+    Segments(Vec<SegmentShare>),
+    Handed(InHand),
+}
+
+/// What a handle holds. A clause sees no name of a board.
+pub struct Object<B: BoardName> {
+    pub(crate) kind: Kind<B>,
+}
+
+// By hand, so that a function that drops an object calls this, and isn't proved with what drops each kind.
+impl<B: BoardName> Drop for Object<B> {
+    fn drop(self) {
+        let Object { kind: _ } = self;
+    }
+}
+
+impl<B: BoardName> Model for Object<B> {
+    ghost use Rattle.kp_handles.specs.Objects.{ObjectView, object_view};
+
+    ghost Value = { ObjectView };
+
+    ghost view = { λ o. object_view o.kind };
+}
+
+impl<B: BoardName> Object<B> {
+    /// What it is.
+    pub(crate) fn into_kind(self) -> Kind<B>
+        ensures { object_view result ≡ self }
+    {
+        let Object { kind } = self;
+        kind
+    }
+}
+
+/// Room for an object, which holds nothing yet.
+pub(crate) fn room<B: BoardName>(alloc: Global) -> Result<Box<Object<B>>, Misuse>
+    ensures made { IfOk result (λ b. b.value ≡ empty) }
+    ensures refused { IfErr result (λ m. m ≡ NoRoom) }
+{
+    match Box::new(alloc, Object { kind: Kind::Empty }) {
+        Ok(room) => Ok(room),
+        Err(_) => Err(Misuse::NoRoom),
+    }
+}

@@ -1,0 +1,279 @@
+//! What calls read from their caller's memory, and write there.
+ghost use Rattle.std.specs.Prelude.{◌≡◌};
+ghost use Rattle.kp_visible.specs.Lines.{line_of};
+ghost use Rattle.kp_handles.specs.Holding.{addressee_out, value_out};
+ghost use Rattle.kp_handles.specs.Outs.{ack_out, change_in, kind_in, limits_in, marker_in, receipt_in, receipt_out, record_out, restart_out, role_out};
+
+use kp_marker::{Kind, Marker};
+use kp_model::{LeaderAndIsr, MessageBody};
+use kp_node::Ack;
+use kp_replica::{Answer, IsrChange, Receipt, Role};
+use kp_types::{Limits, NODE_PLACES};
+use kp_visible::ReadRecord;
+
+/// The sizes of the nodes' logs, in bytes.
+#[repr(C)]
+#[derive(Clone, Copy)]
+pub struct LimitsIn {
+    /// The most bytes of a segment that has more than one batch.
+    pub segment_bytes: u32,
+    /// How many bytes lie between two entries of an index.
+    pub index_interval: u32,
+    /// The most bytes of a batch.
+    pub max_batch: u32,
+}
+
+impl LimitsIn {
+    pub fn limits(&self) -> Limits
+        ensures { result ≡ limits_in self.now }
+    {
+        Limits {
+            segment_bytes: self.segment_bytes,
+            index_interval: self.index_interval,
+            max_batch: self.max_batch,
+        }
+    }
+}
+
+/// What a node is under the record that it took up.
+#[repr(C)]
+#[derive(Clone, Copy)]
+pub struct RoleOut {
+    /// Its log's end when it began to lead; 0 where it follows.
+    pub start: u64,
+    /// The leader epoch.
+    pub epoch: u32,
+    /// The leader that it follows; 0 where it leads.
+    pub leader: u8,
+    pub leads: bool,
+}
+
+impl RoleOut {
+    pub fn of(role: Role) -> RoleOut
+        ensures { result ≡ role_out role }
+    {
+        match role {
+            Role::Leads { epoch, start } => RoleOut {
+                start,
+                epoch,
+                leader: 0,
+                leads: true,
+            },
+            Role::Follows { leader, epoch } => RoleOut {
+                start: 0,
+                epoch,
+                leader,
+                leads: false,
+            },
+        }
+    }
+}
+
+/// The controller's record.
+#[repr(C)]
+#[derive(Clone, Copy)]
+pub struct RecordOut {
+    /// Every change raises it.
+    pub version: u32,
+    /// The leader epoch; 0 before the first election.
+    pub epoch: u32,
+    /// Who leads; 0 before the first election.
+    pub leader: u8,
+    /// Whether there was an election.
+    pub elected: bool,
+    /// Whether each node is in sync.
+    pub in_sync: [bool; NODE_PLACES],
+}
+
+impl RecordOut {
+    pub fn of(record: &LeaderAndIsr) -> RecordOut
+        ensures { result ≡ record_out record.now }
+    {
+        match record.leader {
+            Some(leader) => RecordOut {
+                version: record.version,
+                epoch: leader.epoch,
+                leader: leader.node,
+                elected: true,
+                in_sync: record.isr.members,
+            },
+            None => RecordOut {
+                version: record.version,
+                epoch: 0,
+                leader: 0,
+                elected: false,
+                in_sync: record.isr.members,
+            },
+        }
+    }
+}
+
+/// A node that started again.
+#[repr(C)]
+#[derive(Clone, Copy)]
+pub struct RestartOut {
+    pub life: u64,
+    /// Its log's end.
+    pub end: u64,
+    pub watermark: u64,
+}
+
+impl RestartOut {
+    /// All 0 for another answer, which a restart doesn't give.
+    pub fn of(answer: &Answer) -> RestartOut
+        ensures { result ≡ restart_out answer.now }
+    {
+        match answer {
+            Answer::Restarted {
+                life,
+                end,
+                watermark,
+            } => RestartOut {
+                life: *life,
+                end: *end,
+                watermark: *watermark,
+            },
+            _ => RestartOut {
+                life: 0,
+                end: 0,
+                watermark: 0,
+            },
+        }
+    }
+}
+
+/// The receipt of a batch, as it goes to the caller and comes back.
+#[repr(C)]
+#[derive(Clone, Copy)]
+pub struct ReceiptOut {
+    /// The offset of its first record.
+    pub base: u64,
+    /// The offset of its last record.
+    pub last: u64,
+    /// Where bytes were refused for a record: the place of its first byte in the batch.
+    pub place: u64,
+    /// Its leader epoch.
+    pub epoch: u32,
+    /// Whether the batch had been appended before.
+    pub duplicate: bool,
+}
+
+impl ReceiptOut {
+    pub fn of(receipt: &Receipt) -> ReceiptOut
+        ensures { result ≡ receipt_out receipt.now }
+    {
+        ReceiptOut {
+            base: receipt.base,
+            last: receipt.last,
+            place: 0,
+            epoch: receipt.epoch,
+            duplicate: receipt.duplicate,
+        }
+    }
+
+    pub fn receipt(&self) -> Receipt
+        ensures { result ≡ receipt_in self.now }
+    {
+        Receipt {
+            base: self.base,
+            last: self.last,
+            epoch: self.epoch,
+            duplicate: self.duplicate,
+        }
+    }
+}
+
+/// A marker that a transaction coordinator hands in.
+#[repr(C)]
+#[derive(Clone, Copy)]
+pub struct MarkerIn {
+    /// The producer whose transaction ends, below 2^63.
+    pub producer_id: u64,
+    /// When it ended: milliseconds since 1970, below 2^62.
+    pub timestamp: u64,
+    /// The coordinator's epoch, below 2^31.
+    pub coordinator_epoch: u32,
+    /// The producer's epoch, below 2^15.
+    pub producer_epoch: u16,
+    /// Whether it commits, or aborts.
+    pub commits: bool,
+}
+
+impl MarkerIn {
+    pub fn marker(&self) -> Marker
+        ensures { result ≡ marker_in self.now }
+    {
+        Marker {
+            producer_id: self.producer_id,
+            producer_epoch: self.producer_epoch,
+            coordinator_epoch: self.coordinator_epoch,
+            kind: kind_in(self.commits),
+            timestamp: self.timestamp,
+        }
+    }
+}
+
+fn kind_in(commits: bool) -> Kind
+    ensures { result ≡ kind_in commits }
+{
+    if commits { Kind::Commit } else { Kind::Abort }
+}
+
+/// 1 where the batch is committed, 2 where another one is in its place, 0 where that isn't known yet.
+pub fn ack_out(ack: Ack) -> u32
+    ensures { result ≡ ack_out ack }
+{
+    match ack {
+        Ack::NotYet => 0,
+        Ack::Yes => 1,
+        Ack::Lost => 2,
+    }
+}
+
+/// That the node joins the in-sync replicas, or leaves them.
+pub fn change_in(joins: bool, which: u8) -> IsrChange
+    ensures { result ≡ change_in joins which }
+{
+    if joins {
+        IsrChange::Join(which)
+    } else {
+        IsrChange::Leave(which)
+    }
+}
+
+/// A record as a read-committed consumer gets it, but for the bytes of its value.
+#[repr(C)]
+#[derive(Clone, Copy)]
+pub struct ValueOut {
+    pub offset: u64,
+    /// How many bytes its value has.
+    pub size: usize,
+    /// Whether its value is null, which has no byte.
+    pub null: bool,
+}
+
+impl ValueOut {
+    pub fn of(read: ReadRecord<'_>) -> ValueOut
+        ensures { result ≡ value_out (line_of read.entry) }
+    {
+        match read.value {
+            Some(value) => ValueOut {
+                offset: read.offset,
+                size: value.len(),
+                null: false,
+            },
+            None => ValueOut {
+                offset: read.offset,
+                size: 0,
+                null: true,
+            },
+        }
+    }
+}
+
+/// The number of the node that the message goes to; 255 where that is the controller.
+pub(crate) fn addressee_out(body: &MessageBody) -> u8
+    ensures { result ≡ addressee_out body.now }
+{
+    body.addressee().unwrap_or(u8::MAX)
+}

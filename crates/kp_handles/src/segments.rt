@@ -1,0 +1,160 @@
+//! A node's log as segments.
+
+ghost use Rattle.std.specs.Prelude.{◌≡◌, IfOk, IfErr, IfSome};
+ghost use Rattle.kp_types.specs.declared.refusal.Refusal.TheVariants.{Memory};
+ghost use Rattle.kp_segment.specs.Runs.{AreRunsOf};
+ghost use Rattle.kp_handles.specs.Segments.{GivesSegment, SegmentCalled, SegmentMet, SegmentsCalled, SegmentsMet};
+
+use crate::handle::{Handle, Unnamed, fill, is_open, put, take};
+use crate::holding::copy_front;
+use crate::misuse::Misuse;
+use crate::nodes::Called;
+use crate::object::{Kind, Object, room};
+use kp_batch::{Batch, share_all};
+use kp_board::BoardName;
+use kp_log::PartitionLog;
+use kp_segment::SegmentName;
+use kp_types::Refusal;
+use std::alloc::Global;
+use std::marker::Model;
+
+/// A segment by its name, with shares of its batches.
+#[derive(Drop)]
+pub struct SegmentShare {
+    pub(crate) name: SegmentName,
+    pub(crate) batches: Vec<Batch>,
+}
+
+impl Model for SegmentShare {
+    ghost use Rattle.std.specs.Prelude.{List};
+    ghost use Rattle.kp_batch.specs.Batch.{Written};
+    ghost use Rattle.kp_segment.specs.declared.name.SegmentName.{SegmentName as Name};
+
+    ghost Value = { Name × List Written };
+
+    ghost view = { λ s. (s.name, s.batches.items) };
+}
+
+// The log's segments, with shares of all its batches: O(n) in those, and no byte is copied.
+fn shares_of(alloc: Global, log: &PartitionLog) -> Result<Vec<SegmentShare>, Refusal>
+    ensures shared { IfOk result (λ shares. AreRunsOf log.now.limits log.now.log shares.items) }
+    ensures only { IfErr result (λ refusal. refusal ≡ Memory) }
+{
+    let mut shares = Vec::new(alloc);
+    for (name, batches) in log.tables().segments().runs() {
+        let batches = share_all(alloc, batches)?;
+        shares.push(SegmentShare { name, batches })?;
+    }
+    Ok(shares)
+}
+
+fn shares_object<B: BoardName>(alloc: Global, object: &Object<B>) -> Called<Vec<SegmentShare>>
+    ensures { SegmentsMet object.now result }
+{
+    match &object.kind {
+        Kind::Node(node) => Ok(shares_of(alloc, node.log())),
+        _ => Err(Misuse::OtherKind),
+    }
+}
+
+/// Puts the node's log as segments into a closed handle.
+#[tactic(auto, using(crate::proofs::Bad::node_closed, crate::proofs::Bad::node_kind, crate::proofs::Bad::out_closed, crate::proofs::Bad::out_kind))]
+pub fn segments_of<B: BoardName + Unnamed>(
+    alloc: Global,
+    node: &mut Handle,
+    out: &mut Handle,
+) -> Called<()>
+    requires { IfSome node.old.object (λ _. node.old.table ≡ B.table) }
+    ensures called { SegmentsCalled node.old.object node.new.object out.old.object out.new.object result }
+    ensures cluster { node.new.table ≡ node.old.table }
+{
+    if is_open(out) {
+        return Err(Misuse::InUse);
+    }
+    let made = room::<B>(alloc)?;
+    let object = take::<B>(alloc, node)?;
+    let answer = shares_object(alloc, &object);
+    put(node, object);
+    match answer {
+        Ok(Ok(shares)) => {
+            fill(
+                out,
+                made,
+                Object {
+                    kind: Kind::Segments(shares),
+                },
+            );
+            Ok(Ok(()))
+        }
+        Ok(Err(refusal)) => Ok(Err(refusal)),
+        Err(misuse) => Err(misuse),
+    }
+}
+
+// Writes the name of the segment's file to the front of the place, and answers shares of the segment's batches.
+fn given(alloc: Global, share: &SegmentShare, to: &mut [u8]) -> Called<Vec<Batch>>
+    ensures { GivesSegment share.now to.old to.new result }
+{
+    let batches = match share_all(alloc, &share.batches) {
+        Ok(batches) => batches,
+        Err(refusal) => return Ok(Err(refusal)),
+    };
+    let Ok(text) = format!(in alloc; "{}", share.name) else {
+        return Ok(Err(Refusal::Memory));
+    };
+    copy_front(text.as_bytes(), to)?;
+    Ok(Ok(batches))
+}
+
+fn segment_object<B: BoardName>(
+    alloc: Global,
+    object: &Object<B>,
+    index: usize,
+    to: &mut [u8],
+) -> Called<Vec<Batch>>
+    ensures { SegmentMet object.now index to.old to.new result }
+{
+    match &object.kind {
+        Kind::Segments(shares) => match shares.get(index) {
+            Some(share) => given(alloc, share, to),
+            None => Err(Misuse::OutOfRange),
+        },
+        _ => Err(Misuse::OtherKind),
+    }
+}
+
+/// Writes the name of a segment's file, and puts the segment's batches into a closed handle.
+#[tactic(auto, using(crate::proofs::Bad::segment_closed, crate::proofs::Bad::segment_kind))]
+pub fn segment<B: BoardName + Unnamed>(
+    alloc: Global,
+    handle: &mut Handle,
+    index: usize,
+    to: &mut [u8],
+    out: &mut Handle,
+) -> Called<()>
+    requires { IfSome handle.old.object (λ _. handle.old.table ≡ B.table) }
+    ensures called { SegmentCalled handle.old.object index to.old to.new out.old.object out.new.object result }
+    ensures same { handle.new.object ≡ handle.old.object }
+{
+    if is_open(out) {
+        return Err(Misuse::InUse);
+    }
+    let made = room::<B>(alloc)?;
+    let object = take::<B>(alloc, handle)?;
+    let answer = segment_object(alloc, &object, index, to);
+    put(handle, object);
+    match answer {
+        Ok(Ok(batches)) => {
+            fill(
+                out,
+                made,
+                Object {
+                    kind: Kind::Batches(batches),
+                },
+            );
+            Ok(Ok(()))
+        }
+        Ok(Err(refusal)) => Ok(Err(refusal)),
+        Err(misuse) => Err(misuse),
+    }
+}
