@@ -6,6 +6,7 @@
 mod call;
 mod devices;
 mod fault;
+mod host;
 mod line;
 mod piping;
 mod program;
@@ -16,6 +17,7 @@ mod telling;
 pub use call::Call;
 pub use devices::{Explained, KeptFolder, Source};
 pub use fault::Fault;
+pub use host::{HostFile, HostFolder};
 pub use line::{VERSION, call_of};
 pub use piping::{pipe, pipe_and_keep};
 pub use program::{Left, explain, main_with};

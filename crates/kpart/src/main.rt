@@ -5,10 +5,7 @@
 
 ghost use Rattle.std.specs.Prelude.{◌≤◌};
 
-mod host;
-
-use host::{HostFile, HostFolder};
-use kp_cli::{Fault, main_with};
+use kp_cli::{Fault, HostFile, HostFolder, main_with};
 use kp_race::{Outcome, Plan, race_over_channels};
 use kp_types::{Counted, NodeId, Refusal};
 use std::env;

@@ -3,7 +3,8 @@
 ghost use Rattle.std.specs.Prelude.{◌≡◌, IfErr};
 ghost use Rattle.kp_types.specs.Devices.{IsDeviceFault};
 
-use kp_cli::{Explained, Fault, KeptFolder, Source};
+use crate::devices::{Explained, KeptFolder, Source};
+use crate::fault::Fault;
 use kp_types::{Folder, Refusal};
 use std::fs::{self, File};
 use std::io::{self, ErrorKind, Read, Write};
