@@ -5,13 +5,14 @@ ghost use Rattle.kp_model.specs.World.{most_nodes};
 
 use crate::outcome::{Outcome, Plan};
 use crate::race::{nodes_of, run_race};
-use kp_board::{BoardName, Opened};
+use kp_board::{Board, BoardName, Opened};
 use kp_cluster::Open;
-use kp_transport::{Channels, Waiting, Watched};
+use kp_node::Node;
+use kp_transport::{Channels, Parcel, Waiting, Watched};
 use kp_types::{Limits, MAX_BATCH, NodeId, Refusal};
 use std::alloc::Global;
 use std::marker::Brand;
-use std::sync::{Arc, Wait};
+use std::sync::{Arc, Mutex, Wait};
 use std::thread::Threads;
 
 const LIMITS: Limits = Limits {
@@ -19,6 +20,39 @@ const LIMITS: Limits = Limits {
     index_interval: 4_096,
     max_batch: MAX_BATCH,
 };
+
+// What carries parcels between so many places, and counts them.
+fn carrier_of<B: BoardName, R: Wait + Copy + Drop>(
+    rt: &R,
+    alloc: Global,
+    places: NodeId,
+    waiting: &Arc<Waiting, Global>,
+) -> Result<Arc<Watched<Channels<Parcel<B>, R>>, Global>, Refusal> {
+    let waiting = Arc::try_clone(waiting)?;
+    let channels = Channels::new(*rt, alloc, places)?;
+    Ok(Arc::new(alloc, Watched::new(channels, waiting))?)
+}
+
+// The race of these nodes, the board's.
+fn race_on<
+    B: BoardName + Send + Sync + 'static,
+    R: Threads + Wait + Copy + Drop + Send + Sync + 'static,
+>(
+    rt: &R,
+    alloc: Global,
+    board: &Board<B>,
+    all: &Vec<Arc<Mutex<Node<B>>, Global>>,
+    plan: &Plan,
+) -> Result<Outcome, Refusal>
+    requires small { board.now ≤ most_nodes }
+    ensures nodes { IfOk result (λ o. o.nodes ≡ board.now) }
+    ensures acknowledged { IfOk result (λ o. o.acknowledged ≤ o.receipts) }
+{
+    let waiting = Arc::new(alloc, Waiting::new())?;
+    let carrier = carrier_of::<B, R>(rt, alloc, board.nodes() + 1, &waiting)?; // and the controller's place
+    let gate = Arc::new(alloc, Open)?;
+    run_race(rt, alloc, board, all, &carrier, &*waiting, gate, plan)
+}
 
 // The same, over a board under its name.
 fn race_named<
@@ -31,12 +65,10 @@ fn race_named<
     ensures nodes { IfOk result (λ o. o.nodes ≡ nodes) }
     ensures acknowledged { IfOk result (λ o. o.acknowledged ≤ o.receipts) }
 {
-    let (board, all) = nodes_of::<B>(alloc, opened, &LIMITS)?;
-    let waiting = Arc::new(alloc, Waiting::new())?;
-    let channels = Channels::new(*rt, alloc, nodes + 1)?; // and the controller's
-    let carrier = Arc::new(alloc, Watched::new(channels, Arc::try_clone(&waiting)?))?;
-    let gate = Arc::new(alloc, Open)?;
-    run_race(rt, alloc, &*board, &all, &carrier, &*waiting, gate, plan)
+    match nodes_of::<B>(alloc, opened, &LIMITS) {
+        Ok((board, all)) => race_on(rt, alloc, &board, &all, plan),
+        Err(refusal) => Err(refusal),
+    }
 }
 
 /// Runs a race of so many new nodes, 0 to 7, over channels: one for each node, and the controller's. F33.

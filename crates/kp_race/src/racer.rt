@@ -174,6 +174,22 @@ impl<B: BoardName, C: Carry<Parcel<B>>, R: Wait> Field<'_, B, C, R> {
         Ok(Tried::NoLeader)
     }
 
+    // Hands the bytes of the next batch in. Says whether a node answered.
+    fn hand_next(
+        &self,
+        pass: &mut Pass<B>,
+        handed: &mut HandedIn,
+        at: &mut usize,
+        bytes: &Handed,
+    ) -> Result<bool, Refusal> {
+        match self.produce_one(pass, at, bytes)? {
+            Tried::Took(receipt) => handed.took(receipt)?,
+            Tried::OutOfOrder => handed.seek(),
+            Tried::NoLeader => return Ok(false),
+        }
+        Ok(true)
+    }
+
     // Hands all batches in, in their order, and again those that a new leader lacks.
     fn produce_all(
         &self,
@@ -188,10 +204,8 @@ impl<B: BoardName, C: Carry<Parcel<B>>, R: Wait> Field<'_, B, C, R> {
                 return Ok(());
             }
             let bytes = batch_of(&mut speller, number, handed.next)?;
-            match self.produce_one(pass, &mut at, &bytes)? {
-                Tried::Took(receipt) => handed.took(receipt)?,
-                Tried::OutOfOrder => handed.seek(),
-                Tried::NoLeader => return Ok(()),
+            if !self.hand_next(pass, handed, &mut at, &bytes)? {
+                return Ok(());
             }
         }
         Ok(())

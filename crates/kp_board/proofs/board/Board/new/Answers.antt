@@ -1,4 +1,4 @@
-use Rattle.std.proofs.Common.{arith, ◌≡◌, ℕ, sym, ap, ◌∙◌}
+use Rattle.std.proofs.Common.{arith, ◌≡◌, ℕ, sym, ap, ◌∙◌, rules}
 use Rattle.atomic_table.specs.Table.{Me}
 use Rattle.kp_board.specs.Views.{View, founder, new_node, next_founder, founded_node, node_view}
 use Rattle.kp_board.proofs.Sharing.{founds_as}
@@ -21,3 +21,6 @@ loop-number-preserved g c =
     let here : node_view c.split_seat-seat.result.me.0 ≡ new_node c.opened.inside.nodes c.loop-number.number = ap (λ (m : Me ℕ View). node_view m.0) s.4 ∙ ap (λ (x : View). node_view (founded_node x)) v in
     let more = pushed_by (λ f. f.pass) (new_node c.opened.inside.nodes) c.loop-number.number c.loop-number.passes.items _ c.push.new.self.items c.in_ok-push.ensures.items (l.2) l.3 here in
     (s.0 ∙ l.0, s.2 ∙ (λ k. (next_founder (v k), rest k)), more.0, more.1)
+
+pub invariant_of-pass : goal.invariant_of-pass
+invariant_of-pass c = search rules
