@@ -22,7 +22,7 @@ fn elect_object<B: BoardName>(object: &mut Object<B>, node: NodeId) -> Called<Le
     }
 }
 
-/// Tries once to elect the node, as `Board::elect` does.
+/// Tries once to elect the node, as by `Board::elect`, for the caller's pass that the handle holds. Closed, OtherKind.
 pub fn elect<B: BoardName + Unnamed>(
     alloc: Global,
     handle: &mut Handle,
@@ -54,7 +54,7 @@ fn record_object<B: BoardName>(object: &mut Object<B>) -> Called<LeaderAndIsr>
     }
 }
 
-/// Looks at the controller's record, as `Board::record` does.
+/// Looks at the controller's record, as by `Board::record`. Closed, OtherKind.
 pub fn record<B: BoardName + Unnamed>(alloc: Global, handle: &mut Handle) -> Called<LeaderAndIsr>
     requires { IfSome handle.old.object (λ _. handle.old.table ≡ B.table) }
     ensures called { CallerCalled handle.old.object handle.new.object result Looks }
@@ -81,7 +81,7 @@ fn watermark_object<B: BoardName>(object: &mut Object<B>, node: NodeId) -> Calle
     }
 }
 
-/// Looks at a node's high watermark, as `Board::watermark` does; None where the board has no such node.
+/// Looks at a node's high watermark, as by `Board::watermark`; None where the board has no such node. Closed, OtherKind.
 pub fn watermark<B: BoardName + Unnamed>(
     alloc: Global,
     handle: &mut Handle,

@@ -40,7 +40,8 @@ fn cluster_of<B: BoardName>(
     }
 }
 
-/// Puts a new board under its name into a closed handle.
+/// Puts a new board under its name into a closed handle, with a pass for each of its nodes. NoRoom, and the handle is as before then.
+/// O(nodes).
 pub fn open<B: BoardName + Unnamed>(
     alloc: Global,
     opened: Opened,
@@ -132,7 +133,8 @@ fn new_caller<B: BoardName>(alloc: Global, object: &mut Object<B>) -> Result<Obj
     }
 }
 
-/// Opens the cluster's next node.
+/// Opens the cluster's next node, 0 first, into a closed handle. InUse, Closed, OtherKind, NoRoom; OutOfRange where all nodes are open.
+/// O(1).
 #[tactic(auto, using(crate::proofs::Bad::bad_opening, crate::proofs::Bad::closed_opening))]
 pub fn open_node<B: BoardName + Unnamed>(
     alloc: Global,
@@ -161,7 +163,7 @@ pub fn open_node<B: BoardName + Unnamed>(
     }
 }
 
-/// Opens a new caller's pass of the cluster.
+/// Opens a new caller's pass of the cluster into a closed handle. InUse, Closed, OtherKind, NoRoom. O(1).
 #[tactic(auto, using(crate::proofs::Bad::bad_opening, crate::proofs::Bad::closed_opening))]
 pub fn open_caller<B: BoardName + Unnamed>(
     alloc: Global,
@@ -190,7 +192,7 @@ pub fn open_caller<B: BoardName + Unnamed>(
     }
 }
 
-/// Drops what the handle holds, with its memory.
+/// Drops what the handle holds, with its memory. Closed. It costs what it drops.
 pub fn close<B: BoardName + Unnamed>(alloc: Global, handle: &mut Handle) -> Result<(), Misuse>
     requires { IfSome handle.old.object (λ _. handle.old.table ≡ B.table) }
     ensures closed { handle.new.object ≡ None }

@@ -142,7 +142,8 @@ fn hand_anew<B: BoardName + Unnamed>(
     Ok(())
 }
 
-/// Copies the bytes into a handle that is closed, or in place of those that it holds, and tests them.
+/// Copies a batch's bytes into a handle that is closed, or in place of those that it holds, and tests them, as by `Handed::tested`.
+/// OtherKind, NoRoom; BadLength above 2,147,483,659 bytes. O(bytes).
 pub fn hand<B: BoardName + Unnamed>(
     alloc: Global,
     handle: &mut Handle,
@@ -174,7 +175,7 @@ fn share_object<B: BoardName>(object: &Object<B>) -> Result<Handed, Misuse>
     }
 }
 
-/// A share of the bytes that the handle holds, which it holds on.
+/// A share of the bytes that the handle holds, which it holds on. Closed, OtherKind, NoRoom. O(1).
 #[tactic(auto, using(crate::proofs::Bad::handed_closed, crate::proofs::Bad::handed_bad))]
 pub fn shared<B: BoardName + Unnamed>(alloc: Global, handle: &mut Handle) -> Result<Handed, Misuse>
     requires { IfSome handle.old.object (λ _. handle.old.table ≡ B.table) }

@@ -55,7 +55,7 @@ pub(crate) fn closed() -> Handle
     }
 }
 
-// Whether the handle is open.
+/// Whether the handle is open. O(1).
 pub fn is_open(handle: &mut Handle) -> bool
     ensures same { handle.new ≡ handle.old }
     ensures value { result ≡ is_open handle.old.object }

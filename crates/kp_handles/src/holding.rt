@@ -27,7 +27,7 @@ fn count_object<B: BoardName>(object: &Object<B>) -> Result<usize, Misuse>
     }
 }
 
-/// How many batches, records or segments stand in the handle.
+/// How many batches, records or segments stand in the handle. Closed, OtherKind. O(1).
 #[tactic(auto, using(crate::proofs::Bad::closed_count))]
 pub fn count<B: BoardName + Unnamed>(alloc: Global, handle: &mut Handle) -> Result<usize, Misuse>
     requires { IfSome handle.old.object (λ _. handle.old.table ≡ B.table) }
@@ -54,7 +54,7 @@ fn size_object<B: BoardName>(object: &Object<B>, index: usize) -> Result<u32, Mi
     }
 }
 
-/// How many bytes one of the batches has.
+/// How many bytes the batch at this index, from 0 on, has. Closed, OtherKind, OutOfRange. O(1).
 #[tactic(auto, using(crate::proofs::Bad::bad_part, crate::proofs::Bad::closed_part))]
 pub fn batch_size<B: BoardName + Unnamed>(
     alloc: Global,
@@ -99,7 +99,8 @@ fn write_object<B: BoardName>(object: &Object<B>, index: usize, to: &mut [u8]) -
     }
 }
 
-/// Copies the bytes of one of the batches.
+/// Copies the bytes of the batch at this index, with its base offset and leader epoch, to the front. Closed, OtherKind, OutOfRange; BadLength
+/// where they don't fit. O(bytes).
 #[tactic(auto, using(crate::proofs::Bad::bad_part, crate::proofs::Bad::closed_part))]
 pub fn write_batch<B: BoardName + Unnamed>(
     alloc: Global,
@@ -135,7 +136,7 @@ fn record_object<B: BoardName>(object: &Object<B>, index: usize) -> Result<Value
     }
 }
 
-/// One of the records: its offset, and how many bytes its value has.
+/// The record at this index, from 0 on: its offset, and how many bytes its value has. Closed, OtherKind, OutOfRange. O(1).
 #[tactic(auto, using(crate::proofs::Bad::bad_part, crate::proofs::Bad::closed_part))]
 pub fn record_at<B: BoardName + Unnamed>(
     alloc: Global,
@@ -194,7 +195,7 @@ fn value_object<B: BoardName>(object: &Object<B>, index: usize, to: &mut [u8]) -
     }
 }
 
-/// Copies the value of one of the records.
+/// Copies the value of the record at this index to the front. Closed, OtherKind, OutOfRange; BadLength where it doesn't fit. O(bytes).
 #[tactic(auto, using(crate::proofs::Bad::bad_part, crate::proofs::Bad::closed_part))]
 pub fn write_value<B: BoardName + Unnamed>(
     alloc: Global,
@@ -224,7 +225,7 @@ fn addressee_object<B: BoardName>(object: &Object<B>) -> Result<u8, Misuse>
     }
 }
 
-/// The node that a message goes to, or 255 for the controller.
+/// The node that the message goes to, or 255 for the controller. Closed, OtherKind. O(1).
 #[tactic(auto, using(crate::proofs::Bad::closed_letter))]
 pub fn addressee<B: BoardName + Unnamed>(alloc: Global, handle: &mut Handle) -> Result<u8, Misuse>
     requires { IfSome handle.old.object (λ _. handle.old.table ≡ B.table) }

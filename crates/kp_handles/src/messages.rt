@@ -43,7 +43,7 @@ fn send_object<B: BoardName>(
 }
 
 /// Proposes a change of the in-sync replicas, as `Node::alter` does, or asks the node's leader, as `Node::ask` does, where there is none.
-/// The message comes into a closed handle.
+/// The message comes into a closed handle. InUse, Closed, OtherKind, NoRoom.
 #[tactic(auto, using(crate::proofs::Bad::node_closed, crate::proofs::Bad::node_kind, crate::proofs::Bad::out_closed, crate::proofs::Bad::out_kind))]
 pub fn send<B: BoardName + Unnamed>(
     alloc: Global,
@@ -150,7 +150,7 @@ fn step_objects<B: BoardName>(
     }
 }
 
-/// Hands the node a message, as `Node::step` does. Its handle holds the answer then, or is closed where there is none.
+/// Hands the node a message, as by `Node::step`. Its handle holds the answer then, or is closed where there is none. Closed, OtherKind.
 #[tactic(auto, using(crate::proofs::Posts::step_called, crate::proofs::Bad::step_closed))]
 pub fn step<B: BoardName + Unnamed>(
     alloc: Global,
@@ -222,7 +222,7 @@ fn decide_objects<B: BoardName>(
     }
 }
 
-/// Decides on a proposal at a pass's board, as `Board::decide` does. The message's handle holds the answer then, or is closed.
+/// Decides on a proposal at a pass's board, as by `Board::decide`. The message's handle holds the answer then, or is closed. Closed, OtherKind.
 #[tactic(auto, using(crate::proofs::Posts::decide_called, crate::proofs::Bad::decide_closed))]
 pub fn decide<B: BoardName + Unnamed>(
     alloc: Global,

@@ -12,7 +12,9 @@ use kp_replica::{Answer, Role};
 use kp_types::{Offset, Refusal};
 use std::alloc::Global;
 
-/// What a call of a node answers: the call's own answer, or why it wasn't made.
+/// What a call of handles answers: the answer of the call of `Node` or `Board` that it makes, with that one's refusals, or why none was
+/// made. Nothing has changed where it is a misuse: Closed and OtherKind of a handle that holds none of what is asked, InUse of one
+/// that was to be written and is open, NoRoom where its memory was refused. The handles cost O(1) beside the call. (Own rule.)
 pub type Called<T> = Result<Result<T, Refusal>, Misuse>;
 
 fn adopt_object<B: BoardName>(object: &mut Object<B>) -> Called<Role>
@@ -24,7 +26,7 @@ fn adopt_object<B: BoardName>(object: &mut Object<B>) -> Called<Role>
     }
 }
 
-/// Takes up the controller's record, as `Node::adopt` does.
+/// The node takes up the controller's record, as by `Node::adopt`. Closed, OtherKind.
 pub fn adopt<B: BoardName + Unnamed>(alloc: Global, handle: &mut Handle) -> Called<Role>
     requires { IfSome handle.old.object (λ _. handle.old.table ≡ B.table) }
     ensures called { NodeCalled handle.old.object handle.new.object result Adopts }
@@ -45,7 +47,7 @@ fn raise_object<B: BoardName>(object: &mut Object<B>) -> Called<Offset>
     }
 }
 
-/// Raises the high watermark, as `Node::raise` does.
+/// The node raises its high watermark, as by `Node::raise`. Closed, OtherKind.
 pub fn raise<B: BoardName + Unnamed>(alloc: Global, handle: &mut Handle) -> Called<Offset>
     requires { IfSome handle.old.object (λ _. handle.old.table ≡ B.table) }
     ensures called { NodeCalled handle.old.object handle.new.object result Raises }
@@ -66,7 +68,7 @@ fn checkpoint_object<B: BoardName>(object: &mut Object<B>) -> Called<Offset>
     }
 }
 
-/// Notes the high watermark, as `Node::checkpoint` does.
+/// The node notes its high watermark, as by `Node::checkpoint`. Closed, OtherKind.
 pub fn checkpoint<B: BoardName + Unnamed>(alloc: Global, handle: &mut Handle) -> Called<Offset>
     requires { IfSome handle.old.object (λ _. handle.old.table ≡ B.table) }
     ensures called { NodeCalled handle.old.object handle.new.object result Checkpoints }
@@ -87,7 +89,7 @@ fn stop_object<B: BoardName>(object: &mut Object<B>) -> Called<()>
     }
 }
 
-/// Stops the node, as `Node::stop` does.
+/// The node stops, as by `Node::stop`. Closed, OtherKind.
 pub fn stop<B: BoardName + Unnamed>(alloc: Global, handle: &mut Handle) -> Called<()>
     requires { IfSome handle.old.object (λ _. handle.old.table ≡ B.table) }
     ensures called { NodeCalled handle.old.object handle.new.object result Stops }
@@ -108,7 +110,7 @@ fn restart_object<B: BoardName>(object: &mut Object<B>) -> Called<Answer>
     }
 }
 
-/// Starts the node again, as `Node::restart` does.
+/// The node starts again, as by `Node::restart`. Closed, OtherKind.
 pub fn restart<B: BoardName + Unnamed>(alloc: Global, handle: &mut Handle) -> Called<Answer>
     requires { IfSome handle.old.object (λ _. handle.old.table ≡ B.table) }
     ensures called { NodeCalled handle.old.object handle.new.object result Restarts }

@@ -24,6 +24,7 @@ pub struct LimitsIn {
 }
 
 impl LimitsIn {
+    /// The limits that they are. O(1).
     pub fn limits(&self) -> Limits
         ensures { result ≡ limits_in self.now }
     {
@@ -49,6 +50,7 @@ pub struct RoleOut {
 }
 
 impl RoleOut {
+    /// A role as it is told. O(1).
     pub fn of(role: Role) -> RoleOut
         ensures { result ≡ role_out role }
     {
@@ -86,6 +88,7 @@ pub struct RecordOut {
 }
 
 impl RecordOut {
+    /// A record as it is told. O(1).
     pub fn of(record: &LeaderAndIsr) -> RecordOut
         ensures { result ≡ record_out record.now }
     {
@@ -159,6 +162,7 @@ pub struct ReceiptOut {
 }
 
 impl ReceiptOut {
+    /// A receipt as it is told. O(1).
     pub fn of(receipt: &Receipt) -> ReceiptOut
         ensures { result ≡ receipt_out receipt.now }
     {
@@ -171,6 +175,7 @@ impl ReceiptOut {
         }
     }
 
+    /// The receipt that was told so. O(1).
     pub fn receipt(&self) -> Receipt
         ensures { result ≡ receipt_in self.now }
     {
@@ -200,6 +205,7 @@ pub struct MarkerIn {
 }
 
 impl MarkerIn {
+    /// The marker that it asks for, also one whose fields lie outside their ranges. O(1).
     pub fn marker(&self) -> Marker
         ensures { result ≡ marker_in self.now }
     {
@@ -253,6 +259,7 @@ pub struct ValueOut {
 }
 
 impl ValueOut {
+    /// A record as it is told. O(1).
     pub fn of(read: ReadRecord<'_>) -> ValueOut
         ensures { result ≡ value_out (line_of read.entry) }
     {

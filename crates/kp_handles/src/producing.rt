@@ -33,7 +33,7 @@ fn produce_objects<B: BoardName>(
     }
 }
 
-/// Hands the node the batch that the bytes are, as `Node::produce` does.
+/// Hands the node the batch that the bytes are, as by `Node::produce`. Closed, OtherKind.
 #[tactic(auto, using(crate::proofs::Bad::pair_closed, crate::proofs::Bad::pair_kind))]
 pub fn produce_handed<B: BoardName + Unnamed>(
     alloc: Global,
@@ -53,7 +53,8 @@ pub fn produce_handed<B: BoardName + Unnamed>(
     answer
 }
 
-/// Hands the node the batch that the bytes are, which are copied once, as `Node::produce` does.
+/// Hands the node the batch that the bytes are, which are copied once, as by `Node::produce`. Closed, OtherKind, NoRoom; BadLength above
+/// 2,147,483,659 bytes.
 #[tactic(auto, using(crate::proofs::Bad::pair_copy))]
 pub fn produce<B: BoardName + Unnamed>(
     alloc: Global,
@@ -106,7 +107,7 @@ fn mark<B: BoardName + Unnamed>(
     answer
 }
 
-/// The same of a marker whose fields may lie outside their ranges.
+/// Hands the node a transaction's marker, as by `Node::mark`. Closed, OtherKind; OutOfRange where one of its fields is.
 pub fn mark_in<B: BoardName + Unnamed>(
     alloc: Global,
     node: &mut Handle,
@@ -151,7 +152,7 @@ fn acked_objects<B: BoardName>(
     }
 }
 
-/// Whether the receipt's batch is committed, as `Node::acked` says.
+/// Whether the receipt's batch is committed, as by `Node::acked`. Closed, OtherKind.
 #[tactic(auto, using(crate::proofs::Bad::pair_closed, crate::proofs::Bad::pair_kind))]
 pub fn acked<B: BoardName + Unnamed>(
     alloc: Global,

@@ -32,7 +32,7 @@ fn read_objects<B: BoardName>(
     }
 }
 
-/// Reads committed batches, as `Node::read` does, and puts them into a closed handle.
+/// Reads committed batches, as by `Node::read`, and puts them into a closed handle. InUse, Closed, OtherKind, NoRoom.
 #[tactic(auto, using(crate::proofs::Bad::pair_closed, crate::proofs::Bad::pair_kind, crate::proofs::Bad::out_closed, crate::proofs::Bad::out_kind))]
 pub fn read<B: BoardName + Unnamed>(
     alloc: Global,
@@ -97,7 +97,8 @@ fn committed_objects<B: BoardName>(
     }
 }
 
-/// Reads the records that a read-committed consumer gets, as `Node::committed` does, and puts them into a closed handle.
+/// Reads the records that a read-committed consumer gets, as by `Node::committed`, and puts them into a closed handle. InUse, Closed,
+/// OtherKind, NoRoom.
 #[tactic(auto, using(crate::proofs::Bad::pair_closed, crate::proofs::Bad::pair_kind, crate::proofs::Bad::out_closed, crate::proofs::Bad::out_kind))]
 pub fn read_committed<B: BoardName + Unnamed>(
     alloc: Global,

@@ -57,7 +57,8 @@ fn shares_object<B: BoardName>(alloc: Global, object: &Object<B>) -> Called<Vec<
     }
 }
 
-/// Puts the node's log as segments into a closed handle.
+/// Puts the node's log as segments, with shares of all its batches, into a closed handle. F33; InUse, Closed, OtherKind, NoRoom.
+/// O(batches).
 #[tactic(auto, using(crate::proofs::Bad::node_closed, crate::proofs::Bad::node_kind, crate::proofs::Bad::out_closed, crate::proofs::Bad::out_kind))]
 pub fn segments_of<B: BoardName + Unnamed>(
     alloc: Global,
@@ -123,7 +124,8 @@ fn segment_object<B: BoardName>(
     }
 }
 
-/// Writes the name of a segment's file, and puts the segment's batches into a closed handle.
+/// Writes the name of the file of the segment at this index, 24 bytes, and puts the segment's batches into a closed handle. F33; InUse,
+/// Closed, OtherKind, OutOfRange, NoRoom; BadLength where the name doesn't fit. O(its batches).
 #[tactic(auto, using(crate::proofs::Bad::segment_closed, crate::proofs::Bad::segment_kind))]
 pub fn segment<B: BoardName + Unnamed>(
     alloc: Global,
