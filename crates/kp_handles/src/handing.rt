@@ -143,7 +143,7 @@ fn hand_anew<B: BoardName + Unnamed>(
 }
 
 /// Copies a batch's bytes into a handle that is closed, or in place of those that it holds, and tests them, as by `Handed::tested`.
-/// OtherKind, NoRoom; BadLength above 2,147,483,659 bytes. O(bytes).
+/// InUse where it holds anything else, NoRoom; BadLength above 2,147,483,659 bytes. O(bytes).
 pub fn hand<B: BoardName + Unnamed>(
     alloc: Global,
     handle: &mut Handle,
