@@ -27,7 +27,7 @@ pub struct HostFolder<'a> {
 }
 
 impl<'a> HostFile<'a> {
-    /// None yet.
+    /// No file yet: [`Source::open`] opens one, and before that a read is refused as of a file that isn't there.
     pub fn new(rt: &'a HostRuntime) -> HostFile<'a> {
         HostFile {
             rt,
@@ -73,7 +73,7 @@ impl Read for HostFile<'_> {
 }
 
 impl<'a> HostFolder<'a> {
-    /// None yet.
+    /// No folder yet: [`KeptFolder::take`] takes one, and is to be called first.
     pub fn new(rt: &'a HostRuntime) -> HostFolder<'a> {
         HostFolder {
             rt,

@@ -16,3 +16,6 @@ returns-in-DisplayHelp g c =
 
 pub returns-in-Ok-write_all-2 : goal.returns-in-Ok-write_all-2
 returns-in-Ok-write_all-2 g c = search rules
+
+pub returns : goal.returns
+returns g c = search rules
