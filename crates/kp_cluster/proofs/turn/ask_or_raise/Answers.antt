@@ -1,4 +1,4 @@
-use Rattle.std.proofs.Common.{of_calls, rules, subst, Err}
+use Rattle.std.proofs.Common.{of_calls, subst, Err}
 use Rattle.kp_types.specs.declared.refusal.Refusal.{Refusal}
 use Rattle.kp_types.specs.declared.refusal.Refusal.TheVariants.{NotLeader}
 use Rattle.kp_model.specs.Event.{Ask, Refused}
@@ -18,6 +18,3 @@ returns-in-Ok-raise g c =
       | in-Ok-1 w ↦ (Err NotLeader, c.ask.new.self, (asked, c.in-Err-NotLeader.ensures.same), (c.raise.result, (c.raise.ensures.event, c.raise.ensures.pass), search of_calls))
       | in-Err-raise+in-NotLeader-1 w ↦ (Err NotLeader, c.ask.new.self, (asked, c.in-Err-NotLeader.ensures.same), (c.raise.result, (c.raise.ensures.event, c.raise.ensures.pass), search of_calls))
     ]
-
-pub returns-in-Ok : goal.returns-in-Ok
-returns-in-Ok g c = search rules
