@@ -4,7 +4,7 @@ ghost use Rattle.std.specs.Prelude.{◌≡◌, ◌<◌, ◌^◌, IfOk, IsSomeAnd
 ghost use Rattle.std.specs.Prelude.{map, string_bytes, true};
 ghost use Rattle.std.specs.Option.{option_map};
 ghost use Rattle.std.specs.Str.Parse.{IsNumeral, digits_value, without_leading_plus};
-ghost use Rattle.clap.specs.Words.{App, FailsBy, app_of, fault_of, first_of, found_of, one_of, rows_of, rule_of};
+ghost use Rattle.clap.specs.Words.{App, FailsBy, Rule, app_of, fault_of, first_of, found_of, new_app, one_of, rows_of, rule_of};
 ghost use Rattle.clap.specs.Words.{subcommand_of, subcommand_rows_of, with_rule, with_subcommand};
 ghost use Rattle.clap.specs.declared.builder.command.Command.TheViews.{out-Command};
 ghost use Rattle.kp_cli.specs.Line.{IsCallOf, IsRaceOf, NamesCall, NamesRace, file_rule, inspect_app, interval_rule, keep_rule, kpart, pipe_app};
@@ -97,21 +97,35 @@ fn number_argument<'a>(
         .help(help)
 }
 
-/// The command with one more argument, which is none of its subcommands'.
-fn with_argument<'a>(command: Command<'a>, argument: Arg<'a>) -> Result<Command<'a>, AllocError>
+/// The command with one more argument, which is none of its subcommands', where memory was there for it so far. It has the `?` of
+/// each argument, so that a way out drops a command here alone.
+fn with_argument<'a>(
+    command: Result<Command<'a>, AllocError>,
+    argument: Arg<'a>,
+) -> Result<Command<'a>, AllocError>
     requires { argument.global ≡ false }
-    ensures rule { IfOk result (λ made. app_of made ≡ with_rule (app_of command.entry) (rule_of argument.entry)) }
-    ensures local { IfOk result (λ made. (out-Command command.entry).has_globals ≡ false → (out-Command made).has_globals ≡ false) }
+    ensures rule { (app : App) (rule : Rule) → IfOk command.entry (λ c. app_of c ≡ app) → rule_of argument.entry ≡ rule
+        → IfOk result (λ made. app_of made ≡ with_rule app rule) }
+    ensures local { IfOk command.entry (λ c. (out-Command c).has_globals ≡ false)
+        → IfOk result (λ made. (out-Command made).has_globals ≡ false) }
 {
-    command.arg(argument)
+    command?.arg(argument)
+}
+
+/// A subcommand of this name, with no argument yet.
+fn named_command<'a>(alloc: Global, name: &'a str, about: &'a str) -> Command<'a>
+    ensures rule { app_of result ≡ new_app name.now }
+    ensures local { (out-Command result).has_globals ≡ false }
+{
+    Command::new(alloc, name).about(about)
 }
 
 fn run_command<'a>(alloc: Global) -> Result<Command<'a>, AllocError>
     ensures rule { IfOk result (λ command. app_of command ≡ run_app) }
     ensures local { IfOk result (λ command. (out-Command command).has_globals ≡ false) }
 {
-    let command = Command::new(alloc, "run").about("Runs a script and prints its trace");
-    let command = with_argument(command, file_argument(alloc, "the script to run"))?;
+    let command = named_command(alloc, "run", "Runs a script and prints its trace");
+    let command = with_argument(Ok(command), file_argument(alloc, "the script to run"));
     with_argument(command, keep_argument(alloc))
 }
 
@@ -119,11 +133,10 @@ fn inspect_command<'a>(alloc: Global) -> Result<Command<'a>, AllocError>
     ensures rule { IfOk result (λ command. app_of command ≡ inspect_app) }
     ensures local { IfOk result (λ command. (out-Command command).has_globals ≡ false) }
 {
-    let command = Command::new(alloc, "inspect").about(
-        "Reads a log and prints its batches, segments and tables",
-    );
-    let command = with_argument(command, file_argument(alloc, "the log to read"))?;
-    let command = with_argument(command, segment_argument(alloc))?;
+    let about = "Reads a log and prints its batches, segments and tables";
+    let command = named_command(alloc, "inspect", about);
+    let command = with_argument(Ok(command), file_argument(alloc, "the log to read"));
+    let command = with_argument(command, segment_argument(alloc));
     with_argument(command, interval_argument(alloc))
 }
 
@@ -134,11 +147,11 @@ fn racers_command<'a>(alloc: Global) -> Result<Command<'a>, AllocError>
 {
     let nodes = "how many nodes, from 1 to 7";
     let producers = "how many producers, from 1 to 8";
-    let command = Command::new(alloc, "race").about(
-        "Runs nodes, producers and elections in threads, and prints whether all nodes agree",
-    );
+    let about =
+        "Runs nodes, producers and elections in threads, and prints whether all nodes agree";
+    let command = named_command(alloc, "race", about);
     let nodes = number_argument(alloc, "nodes", "N", 1, MOST_RACE_NODES, nodes);
-    let command = with_argument(command, nodes)?;
+    let command = with_argument(Ok(command), nodes);
     let producers = number_argument(alloc, "producers", "P", 1, MOST_PRODUCERS, producers);
     with_argument(command, producers)
 }
@@ -149,9 +162,9 @@ fn race_command<'a>(alloc: Global) -> Result<Command<'a>, AllocError>
 {
     let batches = "how many batches of one record by each producer, from 0 to 10000";
     let moves = "how many elections meanwhile, from 0 to 1000";
-    let command = racers_command(alloc)?;
+    let command = racers_command(alloc);
     let batches = number_argument(alloc, "batches", "B", 0, MOST_BATCHES, batches);
-    let command = with_argument(command, batches)?;
+    let command = with_argument(command, batches);
     let moves = number_argument(alloc, "moves", "M", 0, MOST_MOVES, moves);
     with_argument(command, moves)
 }
@@ -160,10 +173,10 @@ fn pipe_command<'a>(alloc: Global) -> Result<Command<'a>, AllocError>
     ensures rule { IfOk result (λ command. app_of command ≡ pipe_app) }
     ensures local { IfOk result (λ command. (out-Command command).has_globals ≡ false) }
 {
-    let command = Command::new(alloc, "pipe").about(
-        "Plays a script's lines from standard input, and answers each before it reads the next one",
-    );
-    with_argument(command, keep_argument(alloc))
+    let about =
+        "Plays a script's lines from standard input, and answers each before it reads the next one";
+    let command = named_command(alloc, "pipe", about);
+    with_argument(Ok(command), keep_argument(alloc))
 }
 
 /// The command with one more subcommand, where memory was there for both. It has the `?` of each, so that a way out drops a
