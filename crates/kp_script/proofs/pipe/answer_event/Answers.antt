@@ -1,13 +1,29 @@
-use Rattle.std.proofs.Common.{ℕ, List, [], ◌∷◌, Some, Ok, refl, subst}
+use Rattle.std.proofs.Common.{ℕ, List, [], ◌∷◌, Some, Ok, refl, sym, subst}
+use Rattle.std.proofs.lemmas.Result.{err_from_is_err_and}
 use Rattle.std.specs.Io.KnownBytes.{Appends}
-use Rattle.kp_types.specs.Devices.{AppendsFront, device_of}
+use Rattle.kp_types.specs.Devices.{AppendsFront, IsDeviceFault, device_of}
 use Rattle.kp_script.specs.Call.{Call}
 use Rattle.kp_script.specs.Piped.{fault_line}
 use Rattle.kp_script.specs.Playing.{PlaysOne}
 use Rattle.kp_script.specs.Seen.{seen_call}
 use Rattle.kp_script.proofs.Answering.{event_begun, event_played, stands_wrong, wrong_answered}
 use Rattle.kp_script.proofs.Played.{one_out, out_begun, out_written}
+use Rattle.kp_script.proofs.Refusing.{memory_alone}
 use Rattle.kp_script.proofs.pipe.answer_event.Goals as goal
+
+pub returns-in_err-refused-in-Some : goal.returns-in_err-refused-in-Some
+returns-in_err-refused-in-Some g c =
+    let r = c.in_err-refused-in-Some.field-0.0 in
+    let q = err_from_is_err_and c.from_residual.result c.from_residual.ensures.1 in
+    rw (q.1, q.2) (record {
+      ok = tt;
+      begun = λ e. absurd (memory_alone r c.in_err-refused-in-Some.ensures.only (cc));
+      untouched = λ e. refl;
+      nodes = c.play_line.ensures.nodes;
+      few = tt;
+      only = subst IsDeviceFault (sym c.in_err-refused-in-Some.ensures.only) tt;
+      counted = rw c.in_err-refused-in-Some.ensures.only refl;
+    })
 
 pub returns-in_ok-write_all-in-Some-clause-ok : goal.returns-in_ok-write_all-in-Some-clause-ok
 returns-in_ok-write_all-in-Some-clause-ok g c =
@@ -33,6 +49,21 @@ returns-in_err-write_all-in-Some-clause-begun g c = λ e.
     (subst (λ (front : List ℕ). PlaysOne call c.args.running.now.world c.play_line.new.world refused front text) c.clear.ensures.items c.in_ok-refused-in-Some.ensures.played) in
     event_begun c.args.number c.args.line.now (seen_call c.in-Some.call) c.args.running.now before after c.requires.counts c.in-Some.ensures.found
     (out_begun (call ∷ []) c.args.running.now.world c.play_line.new.world refused text before after one (subst (AppendsFront before after) c.deref.ensures.value c.in_err-write_all-in-Some.ensures.err))
+
+pub returns-in_err-write_all-in-Some-clause-untouched : goal.returns-in_err-write_all-in-Some-clause-untouched
+returns-in_err-write_all-in-Some-clause-untouched g c = λ e.
+    let q = err_from_is_err_and c.from_residual-in_err-write_all-in-Some.result c.from_residual-in_err-write_all-in-Some.ensures.1 in
+    absurd (memory_alone c.in_err-write_all-in-Some.field-0.0 (cc) c.in_err-write_all-in-Some.ensures.only)
+
+pub returns-in_err-write_all-in-Some-clause-only : goal.returns-in_err-write_all-in-Some-clause-only
+returns-in_err-write_all-in-Some-clause-only g c =
+    let q = err_from_is_err_and c.from_residual-in_err-write_all-in-Some.result c.from_residual-in_err-write_all-in-Some.ensures.1 in
+    rw (q.1, q.2, c.in_err-write_all-in-Some.ensures.only) tt
+
+pub returns-in_err-write_all-in-Some-clause-counted : goal.returns-in_err-write_all-in-Some-clause-counted
+returns-in_err-write_all-in-Some-clause-counted g c =
+    let q = err_from_is_err_and c.from_residual-in_err-write_all-in-Some.result c.from_residual-in_err-write_all-in-Some.ensures.1 in
+    rw (q.1, q.2) c.in_err-write_all-in-Some.ensures.counted
 
 pub returns-in-None-clause-ok : goal.returns-in-None-clause-ok
 returns-in-None-clause-ok g c =

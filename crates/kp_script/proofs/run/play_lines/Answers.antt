@@ -1,8 +1,12 @@
-use Rattle.std.proofs.Common.{◌≡◌, ◌∙◌, ℕ, ◌+◌, ◌<◌, List, ◌∷◌, ◌++◌, [], take, drop, length, length-drop, get_or, sym, ap, subst, arith, rules}
+use Rattle.std.proofs.Common.{◌≡◌, ◌∙◌, ℕ, ◌+◌, ◌<◌, List, ◌∷◌, ◌++◌, [], take, drop, length, length-drop, get_or, refl, sym, ap, subst, arith}
 use Rattle.std.proofs.lemmas.List.{get_or-drop, take_more}
+use Rattle.std.proofs.lemmas.Result.{err_from_is_err_and}
+use Rattle.std.specs.Io.KnownBytes.{Appends}
+use Rattle.kp_types.specs.Devices.{AppendsFront, IsDeviceFault, device_of}
 use Rattle.kp_script.specs.Call.{Call, Elect, IsCall}
 use Rattle.kp_script.specs.Playing.{PlayedOut}
-use Rattle.kp_script.proofs.Played.{out_more, out_none}
+use Rattle.kp_script.proofs.Played.{out_begun, out_more, out_none, out_written}
+use Rattle.kp_script.proofs.Refusing.{memory_alone}
 use Rattle.kp_script.proofs.Telling.{each_at}
 use Rattle.kp_script.proofs.run.play_lines.Goals as goal
 
@@ -40,5 +44,48 @@ loop-played-preserved g c =
       few = omega (arith, c.loop-played.invariant.few, c.in_ok-refused.ensures.few);
     }
 
+pub returns-in_err-refused : goal.returns-in_err-refused
+returns-in_err-refused g c =
+    let q = err_from_is_err_and c.from_residual.result c.from_residual.ensures.1 in
+    rw (q.1, q.2) (record {
+      played = tt;
+      some = tt;
+      within = tt;
+      fits = tt;
+      few = tt;
+      begun = λ e. absurd (memory_alone c.in_err-refused.field-0.0 c.in_err-refused.ensures.only cc);
+      untouched = λ e. refl;
+      nodes = c.play_at.ensures.nodes;
+      only = subst IsDeviceFault (sym c.in_err-refused.ensures.only) tt;
+      counted = rw c.in_err-refused.ensures.only refl;
+    })
+
+pub returns-in_err-write_all : goal.returns-in_err-write_all
+returns-in_err-write_all g c =
+    let q = err_from_is_err_and c.from_residual-in_err-write_all.result c.from_residual-in_err-write_all.ensures.1 in
+    let before = g.W.Write.contents (device_of c.args.writer.now) in
+    let after = g.W.Write.contents (device_of c.write_all.new.self) in
+    rw (q.1, q.2) (record {
+      played = tt;
+      some = tt;
+      within = tt;
+      fits = tt;
+      few = tt;
+      begun = λ e. (
+        c.loop-played.played,
+        omega (arith, c.loop-played.invariant.within),
+        out_begun _ c.args.world.now c.loop-played.world c.loop-played.refused _ before after c.loop-played.invariant.out
+            (subst (AppendsFront before after) c.deref.ensures.value c.in_err-write_all.ensures.err),
+      );
+      untouched = λ e. absurd (memory_alone c.in_err-write_all.field-0.0 (cc) c.in_err-write_all.ensures.only);
+      nodes = c.loop-played.invariant.nodes;
+      only = subst IsDeviceFault (sym c.in_err-write_all.ensures.only) tt;
+      counted = c.in_err-write_all.ensures.counted;
+    })
+
 pub returns-clause-played : goal.returns-clause-played
-returns-clause-played g c = search rules
+returns-clause-played g c =
+    let before = g.W.Write.contents (device_of c.args.writer.now) in
+    let after = g.W.Write.contents (device_of c.write_all.new.self) in
+    out_written _ c.args.world.now c.loop-played.world c.loop-played.refused _ before after c.loop-played.invariant.out
+    (subst (Appends before after) c.deref.ensures.value c.in_ok-write_all.ensures.ok)

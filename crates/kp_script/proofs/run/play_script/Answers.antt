@@ -1,6 +1,7 @@
-use Rattle.std.proofs.Common.{◌≡◌, ◌∙◌, ℕ, ◌+◌, List, [], ◌++◌, Option, Err, drop, length, length-append, length-drop, length-take-le, take, refl, sym, ap, subst, arith, append_assoc, append-nil}
+use Rattle.std.proofs.Common.{◌≡◌, ◌∙◌, ℕ, ◌+◌, List, [], ◌++◌, Option, Err, inl, drop, length, length-append, length-drop, length-take-le, take, refl, sym, ap, subst, arith, append_assoc, append-nil}
 use Rattle.std.proofs.lemmas.Result.{err_from_is_err_and}
-use Rattle.kp_types.specs.Devices.{device_of}
+use Rattle.std.proofs.KnownBytes.{Keeps-refl}
+use Rattle.kp_types.specs.Devices.{CountsFault, device_of, faults_of}
 use Rattle.kp_types.specs.declared.limits.Limits.{Limits}
 use Rattle.kp_types.specs.declared.refusal.Refusal.TheVariants as refusals
 use Rattle.kp_model.specs.World.{start}
@@ -14,8 +15,38 @@ use Rattle.kp_script.specs.Playing.{HasPlayed, left_in}
 use Rattle.kp_script.specs.Transcript.{WritesFirst}
 use Rattle.kp_script.proofs.Played.{Front, begun_lines, by_fault, others_lawful, parts, played_more, played_none, rest_lawful, traced, whole_lines, writes_first, writes_front, writes_to}
 use Rattle.kp_script.proofs.LeftCalls.{fewer_left, front_lawful, in_front, left_further, next_is, none_left, within_none}
+use Rattle.kp_script.proofs.Refusing.{no_script_fault, reader_counted, run_by_device, writer_counted}
 use Rattle.kp_script.proofs.run.play_script.Goals as goal
 use Rattle.kp_types.proofs.Causes.{always}
+
+pub returns-in_err-script : goal.returns-in_err-script
+returns-in_err-script g c =
+    let r = c.in_err-script.field-0.0 in
+    let q = err_from_is_err_and c.from_residual.result c.from_residual.ensures.1 in
+    rw (q.1, q.2) (record {
+      played = tt;
+      limited = tt;
+      fault = λ line e. c.in_err-script.ensures.fault line cc;
+      untouched = λ line e. refl;
+      first = λ e. inl (Keeps-refl _);
+      front = inl (Keeps-refl _);
+      only = c.in_err-script.ensures.only;
+      counted = reader_counted r _ _ _ c.in_err-script.ensures.counted;
+    })
+
+pub returns-in_err-world : goal.returns-in_err-world
+returns-in_err-world g c =
+    let q = err_from_is_err_and c.from_residual-in_err-world.result c.from_residual-in_err-world.ensures.1 in
+    rw (q.1, q.2) (record {
+      played = tt;
+      limited = tt;
+      fault = λ line e. absurd cc;
+      untouched = λ line e. refl;
+      first = λ e. inl (Keeps-refl _);
+      front = inl (Keeps-refl _);
+      only = tt;
+      counted = (c.in_ok-script.ensures.counted, refl);
+    })
 
 pub loop-section-init : goal.loop-section-init
 loop-section-init g c = record {
@@ -41,6 +72,28 @@ play_lines-requires-clause-calls g c =
     let front = in_front c.loop-section.from sections c.in-Some.section.now (omega (arith, c.in-Some.ensures.item)) c.in-Some.ensures.lookup c.loop-section.invariant.within in
     front_lawful c.in_ok-script.script.header.count c.loop-section.from sections c.in-Some.section.now front
     (rest_lawful c.in_ok-script.script.header.count all played.0 (left_in c.loop-section.from sections) played.1.0 c.in_ok-script.ensures.found.spelled.calls)
+
+pub returns-in_err-played-clause-fault : goal.returns-in_err-played-clause-fault
+returns-in_err-played-clause-fault g c = λ line e.
+    let q = err_from_is_err_and c.from_residual-in_err-played.result c.from_residual-in_err-played.ensures.1 in
+    absurd (no_script_fault c.in_err-played.field-0.0 line c.in_err-played.ensures.only cc)
+
+pub returns-in_err-played-clause-untouched : goal.returns-in_err-played-clause-untouched
+returns-in_err-played-clause-untouched g c = λ line e.
+    let q = err_from_is_err_and c.from_residual-in_err-played.result c.from_residual-in_err-played.ensures.1 in
+    absurd (no_script_fault c.in_err-played.field-0.0 line c.in_err-played.ensures.only cc)
+
+pub returns-in_err-played-clause-only : goal.returns-in_err-played-clause-only
+returns-in_err-played-clause-only g c =
+    let q = err_from_is_err_and c.from_residual-in_err-played.result c.from_residual-in_err-played.ensures.1 in
+    rw (q.1, q.2) (run_by_device c.in_err-played.field-0.0 c.in_err-played.ensures.only)
+
+pub returns-in_err-played-clause-counted : goal.returns-in_err-played-clause-counted
+returns-in_err-played-clause-counted g c =
+    let r = c.in_err-played.field-0.0 in
+    let q = err_from_is_err_and c.from_residual-in_err-played.result c.from_residual-in_err-played.ensures.1 in
+    rw (q.1, q.2) (writer_counted r _ _ _ _ c.in_ok-script.ensures.counted
+    (subst (λ (n : ℕ). CountsFault r n (faults_of c.play_lines.new.writer)) c.loop-section.invariant.faults c.in_err-played.ensures.counted))
 
 pub returns-in_err-played-clause-first : goal.returns-in_err-played-clause-first
 returns-in_err-played-clause-first g c = λ e.

@@ -1,8 +1,10 @@
-use Rattle.std.proofs.Common.{arith, ◌≡◌, ℕ, sym, ap, ◌∙◌}
+use Rattle.std.proofs.Common.{arith, ◌≡◌, ℕ, sym, ap, subst, ◌∙◌}
 use Rattle.atomic_table.specs.Table.{Me}
 use Rattle.kp_model.specs.World.{Message}
 use Rattle.kp_model.specs.Letter.{proposal_of}
-use Rattle.kp_board.specs.Views.{View, of_message}
+use Rattle.kp_model.specs.Step.{decide_cause}
+use Rattle.kp_board.specs.Views.{View, of_message, message_view}
+use Rattle.kp_board.specs.Decisions.{ShowsAfter}
 use Rattle.kp_board.proofs.Deciding.{decides_at}
 use Rattle.kp_board.proofs.board.Board.exchange_decided.Goals as goal
 
@@ -19,3 +21,10 @@ compare_exchange-requires g c =
       decides_at c.self.inside.table.shared.key c.self.inside.table.shared.table_id.slots c.pass.inside.seat.id c.pass.inside.seat.me (proposal_of c.args.proposal.now) c.pack-old.result c.word_after-new.result
           (at ∙ ap (λ (x : Message). let v : View = of_message x in v) c.requires) c.is_in_range.ensures c.pack-old.ensures c.word_after-new.ensures,
     )
+
+pub returns : goal.returns
+returns g c =
+    let p = proposal_of c.args.proposal.now in
+    let at : c.pass.inside.seat.me.0 ≡ of_message c.args.pass.now = ap (λ (m : Me ℕ View). m.0) c.pass.invariant.1 ∙ ap (λ (x : Message). let v : View = of_message x in v) c.pass.view_is in
+    let t = c.compare_exchange.ensures.2 p (at ∙ ap (λ (x : Message). let v : View = of_message x in v) c.requires) in
+    (t.0, t.1, subst (ShowsAfter (decide_cause t.0 p) t.0 p) (sym (ap (λ (m : Me ℕ View). message_view m.0) t.2.1)) t.2.2)

@@ -1,6 +1,7 @@
-use Rattle.std.proofs.Common.{arith, ◌≡◌, ℕ, sym, ap, ◌∙◌, rules}
+use Rattle.std.proofs.Common.{arith, ◌≡◌, ℕ, ◌/◌, sym, ap, ◌∙◌, rules}
 use Rattle.atomic_table.specs.Table.{Me}
-use Rattle.kp_board.specs.Views.{View, founder, new_node, next_founder, founded_node, node_view}
+use Rattle.atomic_table.specs.Seated.{TableId}
+use Rattle.kp_board.specs.Views.{NodeView, View, founder, new_node, next_founder, founded_node, node_view}
 use Rattle.kp_board.proofs.Sharing.{founds_as}
 use Rattle.kp_board.proofs.Sits.{pushed_by}
 use Rattle.kp_board.proofs.board.Board.new.Goals as goal
@@ -11,6 +12,15 @@ split_seat-seat-requires g c =
     let l = c.loop-number.invariant in
     let at : c.loop-number.first.me.0 ≡ founder c.loop-number.number c.opened.inside.table.shared.key = ap (λ (m : Me ℕ View). m.0) l.1 ∙ ap (λ (x : ℕ). founder c.loop-number.number x) (sym i.2) in
     (l.0, (let w = i.3 in omega arith), founds_as c.opened.inside.table.shared.key c.loop-number.first.id c.loop-number.number c.loop-number.first.me.0 at (let k = i.2 in omega arith))
+
+pub invariant_of-push : goal.invariant_of-push
+invariant_of-push g c =
+    let v = ap (λ (m : Me ℕ View). m.0) c.loop-number.invariant.1 in
+    let here : node_view c.split_seat-seat.result.me.0 ≡ new_node c.opened.inside.nodes c.loop-number.number = ap (λ (m : Me ℕ View). node_view m.0) c.split_seat-seat.ensures.4 ∙ ap (λ (x : View). node_view (founded_node x)) v in
+    let num = ap (λ (x : NodeView). x.number) here in
+    let wide = ap (λ (z : TableId). z.words) (sym (c.opened.view_is ∙ c.requires)) ∙ c.opened.invariant.3 in
+    let half : c.opened.inside.nodes ≡ g.B.BoardName.table.words / 2 = omega arith in
+    record { fresh = here ∙ (λ i. new_node (half i) (sym num i)); inside = omega arith }
 
 pub loop-number-preserved : goal.loop-number-preserved
 loop-number-preserved g c =
