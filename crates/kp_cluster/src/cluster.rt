@@ -189,11 +189,37 @@ impl<B: BoardName, C: Carry<Parcel<B>>> Cluster<B, C> {
             let place = self.workers.len() as u8;
             self.add(rt, Job::Node { node, controller }, gate, stack_of(place))?;
         }
-        if let Some(first) = nodes.first() {
-            let board = Arc::try_clone(first.lock(rt).board())?;
-            self.add(rt, Job::Controller { board }, gate, stack_of(controller))?;
-        }
-        Ok(())
+        self.add_controller(rt, nodes, gate, stack_of)
+    }
+
+    // The controller's worker, behind those of the nodes; none where there are none.
+    fn add_controller<
+        R: Threads + Wait + Copy + Send + 'static,
+        G: Gate + Send + Sync + Drop + 'static,
+        S: Fn(NodeId) -> usize,
+    >(
+        &mut self,
+        rt: &R,
+        nodes: &Vec<Arc<Mutex<Node<B>>, Global>>,
+        gate: &Arc<G, Global>,
+        stack_of: &S,
+    ) -> Result<(), Refusal>
+    where
+        B: Send + Sync + 'static,
+        C: Send + Sync + Drop + 'static,
+        requires nodes { self.old ≡ vec_len nodes.now }
+        requires few { vec_len nodes.now ≤ most_nodes }
+        requires stacks { S.IsAlwaysCallable stack_of.now }
+        ensures ok { OnOk result (self.new ≡ places (vec_len nodes.now)) }
+        ensures err { OnErr result (self.new < places (vec_len nodes.now)) }
+        ensures refusal { IfErr result (λ r. r ≡ Memory) }
+    {
+        let Some(first) = nodes.first() else {
+            return Ok(());
+        };
+        let board = Arc::try_clone(first.lock(rt).board())?;
+        let stack = stack_of(nodes.len() as u8);
+        self.add(rt, Job::Controller { board }, gate, stack)
     }
 
     /// It is this place's turn. At the controller's it does nothing.

@@ -1,8 +1,25 @@
-use Rattle.std.proofs.Common.{rules}
+use Rattle.std.proofs.Common.{arith, rules}
+use Rattle.std.specs.Vec.{vec_len}
+use Rattle.kp_types.proofs.Causes.{always}
+use Rattle.kp_cluster.proofs.Fewer.{fewer, no_value}
 use Rattle.kp_cluster.proofs.cluster.Cluster.add_all.Goals as goal
 
 pub loop-node-preserved : goal.loop-node-preserved
 loop-node-preserved g c = search rules
 
-pub returns-in_default-clause-ok : goal.returns-in_default-clause-ok
-returns-in_default-clause-ok g c = search rules
+pub returns-in_err-node-clause-ok : goal.returns-in_err-node-clause-ok
+returns-in_err-node-clause-ok g c = no_value _ c.from_residual.result c.from_residual.ensures.0
+
+pub returns-in_err-node-clause-err : goal.returns-in_err-node-clause-err
+returns-in_err-node-clause-err g c =
+    let i = c.loop-node.invariant in
+    always c.from_residual.result (fewer c.loop-node.self (vec_len c.args.nodes.now) (omega arith))
+
+pub returns-in_err-add-clause-ok : goal.returns-in_err-add-clause-ok
+returns-in_err-add-clause-ok g c = no_value _ c.from_residual-in_err-add.result c.from_residual-in_err-add.ensures.0
+
+pub returns-in_err-add-clause-err : goal.returns-in_err-add-clause-err
+returns-in_err-add-clause-err g c =
+    let i = c.loop-node.invariant in
+    let e = c.in_err-add.ensures.err in
+    always c.from_residual-in_err-add.result (fewer c.add.new.self (vec_len c.args.nodes.now) (omega arith))
