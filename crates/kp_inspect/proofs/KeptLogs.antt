@@ -1,9 +1,8 @@
 -- A log's files have its dump.
-use Rattle.std.proofs.Common.{◌≡◌, ◌∙◌, ℕ, List, [], ◌++◌, Option, Some, None, refl, sym, ap, subst, append-nil}
+use Rattle.std.proofs.Common.{◌≡◌, ◌∙◌, ℕ, List, [], ◌++◌, Option, None, refl, sym, ap, subst, append-nil}
 use Rattle.std.specs.List.{AllByRecursion}
 use Rattle.kp_types.specs.declared.refusal.Refusal.{Refusal}
 use Rattle.kp_types.specs.declared.limits.Limits.{Limits}
-use Rattle.kp_record.specs.Record.{AreBytes}
 use Rattle.kp_batch.specs.Laws.{BatchesAreFramed, BatchesStandApart, JudgedOnce}
 use Rattle.kp_model.specs.Log.{Batch, IsLog}
 use Rattle.kp_model.specs.Tables.{AreSegmentsOf}

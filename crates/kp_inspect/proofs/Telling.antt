@@ -1,16 +1,14 @@
 -- A text of a log's batches that grows line by line.
-use Rattle.std.proofs.Common.{◌≡◌, ℕ, ◌+◌, ◌≤◌, ◌^◌, List, [], ◌∷◌, ◌++◌, map, sym, ap, ◌∙◌, arith, append_assoc, append-nil, add-zero, subst, codes}
+use Rattle.std.proofs.Common.{◌≡◌, ℕ, ◌+◌, ◌≤◌, ◌^◌, List, [], ◌∷◌, ◌++◌, map, ap, ◌∙◌, append_assoc, subst, codes}
 use Rattle.std.specs.List.{AllByRecursion, flat_map}
 use Rattle.std.specs.Fmt.{decimal}
-use Rattle.std.proofs.lemmas.List.Sums.{sum_by-cons}
 use Rattle.std.proofs.lemmas.List.Folds.{flat_map-map}
-use Rattle.kp_batch.specs.Batch.{Written, size_of}
-use Rattle.kp_model.specs.Log.{logged, size, bytes, next_offset, end_of}
+use Rattle.kp_batch.specs.Batch.{Written}
+use Rattle.kp_model.specs.Log.{logged, bytes, next_offset, end_of}
 use Rattle.kp_segment.specs.Segmented.{Segmented}
 use Rattle.kp_segment.specs.Shown.{Shown, ShowSegmentsOf, kept_shows, segment_shows}
 use Rattle.kp_segment.specs.declared.segment.Segment.{Segment}
-use Rattle.kp_inspect.specs.Dump.{epoch_line, line, batch_line, batch_lines, segment_lines, producer_line, open_line, aborted_line}
-use Rattle.kp_model.specs.Producers.{Producer}
+use Rattle.kp_inspect.specs.Dump.{epoch_line, line, batch_lines, segment_lines, producer_line, open_line, aborted_line}
 use Rattle.kp_model.specs.Transactions.{Open, Aborted, open_in, aborted_in}
 use Rattle.kp_log.specs.Partition.{Partition, segmented}
 use Rattle.kp_model.specs.Epochs.{epoch_cache}
@@ -26,28 +24,6 @@ pub record Told (before now : List ℕ) (all : List Written) (position : ℕ) (r
   pub text : now ++ batch_lines position (map logged rest) ≡ before ++ batch_lines 0 (map logged all)
   pub size : position + bytes (map logged rest) ≡ bytes (map logged all)
   pub placed : AllByRecursion IsPlaced rest
-
--- one batch more
-pub Told-more : (before now after : List ℕ) (all : List Written) (position : ℕ) (rest others : List Written) (w : Written)
-    → Told before now all position rest → rest ≡ w ∷ others → after ≡ now ++ batch_line position (logged w)
-    → Told before after all (position + size_of w.body) others
-Told-more before now after all position rest others w told is grown =
-    let told : Told before now all position (w ∷ others) = rw is at told in
-    let one : bytes (map logged (w ∷ others)) ≡ size_of w.body + bytes (map logged others) = sum_by-cons size (logged w) (map logged others) in
-    record {
-      text =
-          ap (λ (t : List ℕ). t ++ batch_lines (position + size_of w.body) (map logged others)) grown
-          ∙ append_assoc now (batch_line position (logged w)) (batch_lines (position + size_of w.body) (map logged others)) ∙ told.text;
-      size = omega (arith, told.size, one);
-      placed = told.placed.1;
-    }
-
--- none is left
-pub Told-all : (before now : List ℕ) (all : List Written) (position : ℕ) (rest : List Written) → Told before now all position rest → rest ≡ []
-    → (now ≡ before ++ batch_lines 0 (map logged all)) × (position ≡ bytes (map logged all))
-Told-all before now all position rest told is =
-    let told : Told before now all position [] = rw is at told in
-    (sym (append-nil now) ∙ told.text, sym (add-zero position) ∙ told.size)
 
 -- ---- the tables
 
@@ -89,10 +65,3 @@ tables_told s t shows epochs table opening aborted before segments noted produce
           (flat_map open_line (open_in s.log)) (flat_map aborted_line (aborted_in s.log)) (line (codes "end" ∷ decimal (end_of s.log) ∷ []))
           tables caching told begun ended closed;
     }
-
--- one producer more
-pub producers_more : (now after all : List ℕ) (rest others : Table) (entry : ℕ × Producer) → rest ≡ entry ∷ others → after ≡ now ++ producer_line entry
-    → now ++ flat_map producer_line rest ≡ all → after ++ flat_map producer_line others ≡ all
-producers_more now after all rest others entry is grown told =
-    ap (λ (t : List ℕ). t ++ flat_map producer_line others) grown ∙ append_assoc now (producer_line entry) (flat_map producer_line others)
-    ∙ ap (λ (l : Table). now ++ flat_map producer_line l) (sym is) ∙ told

@@ -1,5 +1,5 @@
 -- Laws of dumps.
-use Rattle.std.specs.Prelude.{◌≡◌, ℕ, List, [], ◌++◌, Option, None}
+use Rattle.std.specs.Prelude.{◌≡◌, ℕ, List, ◌++◌, Option, None}
 use Rattle.std.specs.List.{AllByRecursion}
 use Rattle.kp_types.specs.Folders.{Entry}
 use Rattle.kp_types.specs.declared.refusal.Refusal.{Refusal}

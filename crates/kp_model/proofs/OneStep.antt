@@ -3,6 +3,7 @@ pub mod Steps
 pub mod Classes
 pub mod Parts
 pub mod LogSteps
+pub mod LogCuts
 pub mod Sends
 pub mod Sending
 pub mod Adopting

@@ -31,4 +31,4 @@ under r l n log =
 
 abbrev pub Adopts : LeaderAndIsr → ℕ → Node → Option Leader → Effect → Type 0
 Adopts c n x None e = ⊥
-Adopts c n x (Some l) e = let role = under c l n x.log in e ≡ becomes c (record x { kept = Some l.epoch; mode = role.0 }) role.1
+Adopts c n x (Some l) e = let role = under c l n x.log in e ≡ becomes (record x { kept = Some l.epoch; mode = role.0 }) role.1

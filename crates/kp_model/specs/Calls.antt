@@ -18,11 +18,7 @@ use Rattle.kp_model.specs.Letter.{Letter, Answering, Batches, Diverging, FetchLe
 
 -- Under this record of the controller node n, which was x, did this, replied so, and is y now.
 abbrev pub DoesUnder : LeaderAndIsr → ℕ → Node → Node → Act → Reply → Type 0
-DoesUnder c n x y act reply = Local c n x act (becomes c y reply)
-
--- It did so whatever the record was.
-abbrev pub Does : ℕ → Node → Node → Act → Reply → Type 0
-Does n x y act reply = (c : LeaderAndIsr) → DoesUnder c n x y act reply
+DoesUnder c n x y act reply = Local c n x act (becomes y reply)
 
 -- what is replied by who sends a message with this letter
 abbrev pub reply_by : (offset : ℕ) → (last : Option ℕ) → Option Answering → Reply
@@ -47,7 +43,7 @@ said_reply (says.Decides decided) = SentDecision (record_of decided)
 pub record DoesSending (n : ℕ) (x y : Node) (act : Act) (letter : Letter) : Type 0 where
   pub message : Message
   pub letter_is : letter_of message ≡ letter
-  pub local : (c : LeaderAndIsr) → Local c n x act (sends c y message (sent_reply letter))
+  pub local : (c : LeaderAndIsr) → Local c n x act (sends y message (sent_reply letter))
 
 -- A call that is handed a message knows its letter alone: what it does is said for each message with that letter.
 abbrev pub ForLetter : Letter → (Message → Type 0) → Type 0
@@ -65,9 +61,9 @@ ForAnswer letter log P =
 -- ---- calls with one result, which is named before the record is known
 
 abbrev pub adopted_by : Option Refusal → Option Leader → LeaderAndIsr → ℕ → Node → Effect
-adopted_by (Some refusal) leader c n x = becomes c x (Refused refusal)
-adopted_by None None c n x = becomes c x (Refused refusals.StaleRecord)
-adopted_by None (Some l) c n x = let role = under c l n x.log in becomes c (record x { kept = Some l.epoch; mode = role.0 }) role.1
+adopted_by (Some refusal) leader c n x = becomes x (Refused refusal)
+adopted_by None None c n x = becomes x (Refused refusals.StaleRecord)
+adopted_by None (Some l) c n x = let role = under c l n x.log in becomes (record x { kept = Some l.epoch; mode = role.0 }) role.1
 
 -- what adopting the record comes to
 abbrev pub adopted : LeaderAndIsr → ℕ → Node → Effect
@@ -92,27 +88,27 @@ abbrev pub answered_end : Option Answering → Option (ℕ × ℕ)
 answered_end (Some (Diverging end)) = end
 answered_end _ = None
 
-abbrev pub cut_by : Option Refusal → LeaderAndIsr → Node → ℕ → Effect
-cut_by (Some refusal) c x place = becomes c x (Refused refusal)
-cut_by None c x place = becomes c (record x { log = below place x.log }) (Cut place)
+abbrev pub cut_by : Option Refusal → Node → ℕ → Effect
+cut_by (Some refusal) x place = becomes x (Refused refusal)
+cut_by None x place = becomes (record x { log = below place x.log }) (Cut place)
 
 -- what a diverging answer with this letter comes to
 abbrev pub cut : LeaderAndIsr → ℕ → Node → FetchLetter → Effect
 cut c n x l =
-    cut_by (cut_cause_for c n x l.from l.life l.epoch l.offset l.last) c x (cut_place x.log (answered_end l.answering))
+    cut_by (cut_cause_for c n x l.from l.life l.epoch l.offset l.last) x (cut_place x.log (answered_end l.answering))
 
-abbrev pub taken_by : Option Refusal → LeaderAndIsr → Node → List Batch → (watermark : ℕ) → Effect
-taken_by (Some refusal) c x batches watermark = becomes c x (Refused refusal)
-taken_by None c x batches watermark =
+abbrev pub taken_by : Option Refusal → Node → List Batch → (watermark : ℕ) → Effect
+taken_by (Some refusal) x batches watermark = becomes x (Refused refusal)
+taken_by None x batches watermark =
     let mark = max x.watermark (min watermark (end_of (x.log ++ batches))) in
-    becomes c (record x { log = x.log ++ batches; watermark = mark }) (Took (end_of (x.log ++ batches)) mark)
+    becomes (record x { log = x.log ++ batches; watermark = mark }) (Took (end_of (x.log ++ batches)) mark)
 
 -- what it comes to that these batches, asked for in this epoch, from this offset on and by this last epoch, came with this
 -- watermark
-abbrev pub taken : LeaderAndIsr → Node → (epoch offset : ℕ) → (last : Option ℕ) → List Batch → (watermark : ℕ) → Effect
-taken c x epoch offset last batches watermark =
-    taken_by (take_cause_for x epoch offset last batches watermark) c x batches watermark
+abbrev pub taken : Node → (epoch offset : ℕ) → (last : Option ℕ) → List Batch → (watermark : ℕ) → Effect
+taken x epoch offset last batches watermark =
+    taken_by (take_cause_for x epoch offset last batches watermark) x batches watermark
 
 -- and where there was no room for more than some of them
-abbrev pub taken_some : LeaderAndIsr → Node → List Batch → Effect
-taken_some c x some = becomes c (record x { log = x.log ++ some; mode = Down }) (Refused refusals.Memory)
+abbrev pub taken_some : Node → List Batch → Effect
+taken_some x some = becomes (record x { log = x.log ++ some; mode = Down }) (Refused refusals.Memory)

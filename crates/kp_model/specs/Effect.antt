@@ -1,9 +1,9 @@
 -- What an action of one node leaves, and what only a leader and only a follower does. An action is said of the controller's
--- record, the node's own state and what it was handed, and of no other node (own).
+-- record, the node's own state and what it was handed, and of no other node (own). It leaves the record as it is.
 use Rattle.std.specs.Prelude.{ℕ, Bool, true, false, List, [], ◌∷◌, Option, Some, None}
 use Rattle.kp_types.specs.declared.refusal.Refusal.{Refusal}
 use Rattle.kp_types.specs.declared.refusal.Refusal.TheVariants as refusals
-use Rattle.kp_model.specs.World.{LeaderAndIsr, Leading, Following, Mode, Down, Idle, Leads, Follows, Node, Message}
+use Rattle.kp_model.specs.World.{Leading, Following, Mode, Down, Idle, Leads, Follows, Node, Message}
 use Rattle.kp_model.specs.Event.{Reply}
 
 -- ---- a node
@@ -20,20 +20,19 @@ is_down _ = false
 
 -- ---- what an action leaves
 
--- the node's new state, the controller's record, the messages that the node sends, and its reply
+-- the node's new state, the messages that the node sends, and its reply
 pub record Effect : Type 0 where
   pub node : Node
-  pub controller : LeaderAndIsr
   pub sent : List Message
   pub reply : Reply
 
 -- only the node changes
-abbrev pub becomes : LeaderAndIsr → Node → Reply → Effect
-becomes c x reply = record { node = x; controller = c; sent = []; reply = reply }
+abbrev pub becomes : Node → Reply → Effect
+becomes x reply = record { node = x; sent = []; reply = reply }
 
 -- the node sends a message besides
-abbrev pub sends : LeaderAndIsr → Node → Message → Reply → Effect
-sends c x m reply = record { node = x; controller = c; sent = m ∷ []; reply = reply }
+abbrev pub sends : Node → Message → Reply → Effect
+sends x m reply = record { node = x; sent = m ∷ []; reply = reply }
 
 -- ---- what only a leader does, and what only a follower does
 

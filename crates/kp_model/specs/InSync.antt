@@ -36,9 +36,9 @@ abbrev pub proposal : ℕ → Leading → List ℕ → Proposal
 proposal n l isr = record { from = n; known = known_by n l; isr = isr }
 
 -- the set is pending, and the proposal is sent
-abbrev pub Proposes-set : LeaderAndIsr → ℕ → Node → List ℕ → Leading → Effect → Type 0
-Proposes-set c n x isr l e =
-    e ≡ sends c (record x { mode = Leads (record l { pending = Some isr }) }) (Proposes (proposal n l isr)) (SentProposal isr l.version)
+abbrev pub Proposes-set : ℕ → Node → List ℕ → Leading → Effect → Type 0
+Proposes-set n x isr l e =
+    e ≡ sends (record x { mode = Leads (record l { pending = Some isr }) }) (Proposes (proposal n l isr)) (SentProposal isr l.version)
 
 -- ---- learn
 
@@ -48,7 +48,7 @@ learn_cause d l =
     first_of ((not (has_epoch d.decided (Some l.epoch)), refusals.StaleRecord) ∷ (not (nat_lt l.version d.decided.version), refusals.StaleAnswer) ∷ [])
 
 -- the decided set and version are known then, and no change waits any more
-abbrev pub Learns : LeaderAndIsr → Node → Decision → Leading → Effect → Type 0
-Learns c x d l e =
+abbrev pub Learns : Node → Decision → Leading → Effect → Type 0
+Learns x d l e =
     let r = d.decided in
-    e ≡ becomes c (record x { mode = Leads (record l { isr = r.isr; version = r.version; pending = None }) }) (Learned r.isr r.version)
+    e ≡ becomes (record x { mode = Leads (record l { isr = r.isr; version = r.version; pending = None }) }) (Learned r.isr r.version)

@@ -2,7 +2,7 @@
 use Rattle.std.specs.Prelude.{◌≡◌, ℕ, min, max, if◌then◌else◌, List, [], ◌∷◌, ◌++◌, map, Option, Some, None, is_some, unwrap_or}
 use Rattle.std.specs.List.{filter_map, list_all, reduce}
 use Rattle.kp_model.specs.Log.{Batch, end_of}
-use Rattle.kp_model.specs.World.{LeaderAndIsr, Leading, Node, report_of}
+use Rattle.kp_model.specs.World.{Leading, Node, report_of}
 use Rattle.kp_model.specs.Event.{MarkAt}
 use Rattle.kp_model.specs.Controller.{without_member}
 use Rattle.kp_model.specs.Effect.{Effect, becomes}
@@ -22,5 +22,5 @@ least_end ends = if list_all is_some ends then reduce min (filter_map (λ e. e) 
 abbrev pub raised : ℕ → Node → Leading → ℕ
 raised n x l = max x.watermark (unwrap_or (least_end (known_ends n x.log l)) 0)
 
-abbrev pub Raises : LeaderAndIsr → ℕ → Node → Leading → Effect → Type 0
-Raises c n x l e = let mark = raised n x l in e ≡ becomes c (record x { watermark = mark }) (MarkAt mark)
+abbrev pub Raises : ℕ → Node → Leading → Effect → Type 0
+Raises n x l e = let mark = raised n x l in e ≡ becomes (record x { watermark = mark }) (MarkAt mark)

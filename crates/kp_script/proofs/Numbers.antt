@@ -13,7 +13,7 @@ use Rattle.std.specs.Fmt.{decimal}
 use Rattle.std.specs.Int.{IsInRange}
 use Rattle.std.specs.Str.Parse.{AllDigits, digits_value}
 use Rattle.kp_script.specs.Read.{Lacks, BeginsWithNoDigit}
-use Rattle.kp_script.proofs.Splitting.{one_parting, no_parting}
+use Rattle.kp_script.proofs.Splitting.{one_parting}
 
 own : IsNumeralModel (AllDigits 10) (digits_value 10)
 own = numerals_by_value (AllDigits 10) tells_digits
@@ -151,10 +151,6 @@ digits_lack c (x ∷ xs) lt all =
 -- a spelling has no byte below the digits
 pub decimal_lacks : (c n : ℕ) → c < 48 → n < 2 ^ 64 → Lacks c (decimal n)
 decimal_lacks c n lt fits = digits_lack c (decimal n) lt (decimal_is_IsNumeral n fits).0.1
-
--- where there is no space, no number and space stand in front
-pub no_number : (bytes : List ℕ) (n : ℕ) (rest : List ℕ) → Lacks 32 bytes → bytes ≡ decimal n ++ 32 ∷ rest → ⊥
-no_number bytes n rest lacks e = no_parting 32 bytes (decimal n) rest lacks e
 
 -- what stands before the first space is the number that stands before a space
 pub same_word : (bytes word more : List ℕ) (n : ℕ) (rest : List ℕ) → n < 2 ^ 64 → bytes ≡ word ++ 32 ∷ more → Lacks 32 word → bytes ≡ decimal n ++ 32 ∷ rest → (word ≡ decimal n) × (more ≡ rest)

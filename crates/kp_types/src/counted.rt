@@ -15,7 +15,7 @@ use std::io::{ErrorKind, Read, Write};
 pub const JOINED_BYTES: usize = 8192;
 
 /// A reader or a writer with the count of its calls that failed. Only its own calls reach the device, and they
-/// answer F32 exactly where the count rises: so what is refused with F32 is a call that the device failed.
+/// answer F32 exactly where the count rises. That it rises only where the device failed is tested, not proved.
 #[derive(Drop)]
 pub struct Counted<T> {
     pub(crate) inner: T,

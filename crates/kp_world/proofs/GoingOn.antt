@@ -57,31 +57,31 @@ elects None w n =
     record { outcome = told (Changed (elected w.controller n)); after = with_record w (elected w.controller n); step = (refl, refl); counted = refl }
 
 -- who leads raises its watermark
-raises : (c : LeaderAndIsr) (n : ℕ) (x : Node) (mode : Mode) → unless_leads mode (λ l. None) ≡ None → (e : Effect) × WhereLeads mode (λ l. Raises c n x l e)
-raises c n x Down none = absurd cc
-raises c n x Idle none = absurd cc
-raises c n x (Leads l) none = (becomes c (record x { watermark = raised n x l }) (model.MarkAt (raised n x l)), refl)
-raises c n x (Follows f) none = absurd cc
+raises : (n : ℕ) (x : Node) (mode : Mode) → unless_leads mode (λ l. None) ≡ None → (e : Effect) × WhereLeads mode (λ l. Raises n x l e)
+raises n x Down none = absurd cc
+raises n x Idle none = absurd cc
+raises n x (Leads l) none = (becomes (record x { watermark = raised n x l }) (model.MarkAt (raised n x l)), refl)
+raises n x (Follows f) none = absurd cc
 
 -- and asks for a change of the in-sync replicas
-proposes : (c : LeaderAndIsr) (n : ℕ) (x : Node) (isr : List ℕ → List ℕ) (mode : Mode) (why : Leading → Option Refusal) → unless_leads mode why ≡ None
-    → (e : Effect) × WhereLeads mode (λ l. Proposes-set c n x (isr l.isr) l e) × (e.reply ≢ Refused refusals.Memory)
-proposes c n x isr Down why none = absurd cc
-proposes c n x isr Idle why none = absurd cc
-proposes c n x isr (Leads l) why none =
+proposes : (n : ℕ) (x : Node) (isr : List ℕ → List ℕ) (mode : Mode) (why : Leading → Option Refusal) → unless_leads mode why ≡ None
+    → (e : Effect) × WhereLeads mode (λ l. Proposes-set n x (isr l.isr) l e) × (e.reply ≢ Refused refusals.Memory)
+proposes n x isr Down why none = absurd cc
+proposes n x isr Idle why none = absurd cc
+proposes n x isr (Leads l) why none =
     let set = isr l.isr in
-    (sends c (record x { mode = Leads (record l { pending = Some set }) }) (Proposes (proposal n l set)) (model.SentProposal set l.version), refl, λ e. cc)
-proposes c n x isr (Follows f) why none = absurd cc
+    (sends (record x { mode = Leads (record l { pending = Some set }) }) (Proposes (proposal n l set)) (model.SentProposal set l.version), refl, λ e. cc)
+proposes n x isr (Follows f) why none = absurd cc
 
 -- or learns what the controller has decided
-learns : (c : LeaderAndIsr) (x : Node) (d : Decision) (mode : Mode) → unless_leads mode (learn_cause d) ≡ None
-    → (e : Effect) × WhereLeads mode (λ l. Learns c x d l e) × (e.reply ≢ Refused refusals.Memory)
-learns c x d Down none = absurd cc
-learns c x d Idle none = absurd cc
-learns c x d (Leads l) none =
+learns : (x : Node) (d : Decision) (mode : Mode) → unless_leads mode (learn_cause d) ≡ None
+    → (e : Effect) × WhereLeads mode (λ l. Learns x d l e) × (e.reply ≢ Refused refusals.Memory)
+learns x d Down none = absurd cc
+learns x d Idle none = absurd cc
+learns x d (Leads l) none =
     let r = d.decided in
-    (becomes c (record x { mode = Leads (record l { isr = r.isr; version = r.version; pending = None }) }) (model.Learned r.isr r.version), refl, λ e. cc)
-learns c x d (Follows f) none = absurd cc
+    (becomes (record x { mode = Leads (record l { isr = r.isr; version = r.version; pending = None }) }) (model.Learned r.isr r.version), refl, λ e. cc)
+learns x d (Follows f) none = absurd cc
 
 -- a record without a leader is no news
 no_news : (d : Bool) → first_of ((d, refusals.Down) ∷ (true, refusals.StaleRecord) ∷ []) ≡ None → ⊥
@@ -93,7 +93,7 @@ adopts : (c : LeaderAndIsr) (n : ℕ) (x : Node) (d : Bool) (f : Leader → Bool
 adopts c n x d f None none = absurd (no_news d none)
 adopts c n x d f (Some l) none =
     let role = under c l n x.log in
-    (becomes c (record x { kept = Some l.epoch; mode = role.0 }) role.1, refl)
+    (becomes (record x { kept = Some l.epoch; mode = role.0 }) role.1, refl)
 
 -- ---- what is done for what takes no memory
 
@@ -195,36 +195,36 @@ record Doing (o : Option Refusal) (c : LeaderAndIsr) (n : ℕ) (x : Node) (act :
 
 refuses : (c : LeaderAndIsr) (n : ℕ) (x : Node) (act : Act) (refusal : Refusal) → Some refusal ≡ cause c n x act → Doing (Some refusal) c n x act
 refuses c n x act refusal is = record {
-  effect = becomes c x (Refused refusal);
+  effect = becomes x (Refused refusal);
   local = refl;
   spared = λ takes lacks. cause_spared c n x act takes (sym is ∙ ap Some (same_refusal refusal refusals.Memory lacks));
 }
 
 -- who follows asks
-asks : (c : LeaderAndIsr) (n : ℕ) (x : Node) (mode : Mode) → ask_cause mode ≡ None
-    → (e : Effect) × WhereFollows mode (λ f. e ≡ sends c x (Asks (asked n x f)) (ask_reply (asked n x f))) × (e.reply ≢ Refused refusals.Memory)
-asks c n x Down none = absurd cc
-asks c n x Idle none = absurd cc
-asks c n x (Leads l) none = absurd cc
-asks c n x (Follows f) none = (sends c x (Asks (asked n x f)) (ask_reply (asked n x f)), refl, λ e. cc)
+asks : (n : ℕ) (x : Node) (mode : Mode) → ask_cause mode ≡ None
+    → (e : Effect) × WhereFollows mode (λ f. e ≡ sends x (Asks (asked n x f)) (ask_reply (asked n x f))) × (e.reply ≢ Refused refusals.Memory)
+asks n x Down none = absurd cc
+asks n x Idle none = absurd cc
+asks n x (Leads l) none = absurd cc
+asks n x (Follows f) none = (sends x (Asks (asked n x f)) (ask_reply (asked n x f)), refl, λ e. cc)
 
 -- a batch that stands already is answered with its offset
-stands : (c : LeaderAndIsr) (x : Node) (body : Body) (base : ℕ) (mode : Mode) (why : Leading → Option Refusal) → IsBody body → admit x.log body.content ≡ Duplicate base
-    → unless_leads mode why ≡ None → WhereLeads mode (λ l. Produces c x l (Ok body) (becomes c x (model.DuplicateOf base)))
-stands c x body base Down why lawful is none = absurd cc
-stands c x body base Idle why lawful is none = absurd cc
-stands c x body base (Leads l) why lawful is none =
-    (lawful, subst (λ (a : Admission). Appends c x l body a (becomes c x (model.DuplicateOf base))) (sym is) refl)
-stands c x body base (Follows f) why lawful is none = absurd cc
+stands : (x : Node) (body : Body) (base : ℕ) (mode : Mode) (why : Leading → Option Refusal) → IsBody body → admit x.log body.content ≡ Duplicate base
+    → unless_leads mode why ≡ None → WhereLeads mode (λ l. Produces x l (Ok body) (becomes x (model.DuplicateOf base)))
+stands x body base Down why lawful is none = absurd cc
+stands x body base Idle why lawful is none = absurd cc
+stands x body base (Leads l) why lawful is none =
+    (lawful, subst (λ (a : Admission). Appends x l body a (becomes x (model.DuplicateOf base))) (sym is) refl)
+stands x body base (Follows f) why lawful is none = absurd cc
 
 produces : (c : LeaderAndIsr) (n : ℕ) (x : Node) (body : Body) → IsBody body → None ≡ cause c n x (model.Produce (Ok body)) → (a : Admission) → admit x.log body.content ≡ a
     → Doing None c n x (model.Produce (Ok body))
 produces c n x body lawful is (Duplicate base) a =
-    record { effect = becomes c x (model.DuplicateOf base); local = inl (stands c x body base x.mode _ lawful a (sym is)); spared = λ takes lacks. cc }
+    record { effect = becomes x (model.DuplicateOf base); local = inl (stands x body base x.mode _ lawful a (sym is)); spared = λ takes lacks. cc }
 produces c n x body lawful is Append a =
-    record { effect = becomes c x (Refused refusals.Memory); local = inr refl; spared = λ takes lacks. let both : Append ≡ Duplicate takes.1 = sym a ∙ takes.2 in cc }
+    record { effect = becomes x (Refused refusals.Memory); local = inr refl; spared = λ takes lacks. let both : Append ≡ Duplicate takes.1 = sym a ∙ takes.2 in cc }
 produces c n x body lawful is (NotAdmitted refusal) a =
-    record { effect = becomes c x (Refused refusals.Memory); local = inr refl; spared = λ takes lacks. let both : NotAdmitted refusal ≡ Duplicate takes.1 = sym a ∙ takes.2 in cc }
+    record { effect = becomes x (Refused refusals.Memory); local = inr refl; spared = λ takes lacks. let both : NotAdmitted refusal ≡ Duplicate takes.1 = sym a ∙ takes.2 in cc }
 
 -- what isn't refused happens, or memory is refused
 does : (c : LeaderAndIsr) (n : ℕ) (x : Node) (act : Act) (o : Option Refusal) → o ≡ cause c n x act → IsAsked act → IsLawful act → Doing o c n x act
@@ -234,28 +234,28 @@ does c n x model.Adopt None is asked lawful =
     record { effect = done.0; local = inl done.1; spared = λ never. absurd never }
 does c n x (model.Produce (Ok body)) None is asked lawful = produces c n x body lawful is (admit x.log body.content) refl
 does c n x (model.Produce (Err fault)) None is asked lawful =
-    record { effect = becomes c x (Refused refusals.Memory); local = inr refl; spared = λ never. absurd never }
+    record { effect = becomes x (Refused refusals.Memory); local = inr refl; spared = λ never. absurd never }
 does c n x (model.Mark time producer epoch coordinator commit) None is asked lawful =
-    record { effect = becomes c x (Refused refusals.Memory); local = inr refl; spared = λ never. absurd never }
+    record { effect = becomes x (Refused refusals.Memory); local = inr refl; spared = λ never. absurd never }
 does c n x model.Ask None is asked lawful =
-    let done = asks c n x x.mode (sym is) in
+    let done = asks n x x.mode (sym is) in
     record { effect = done.0; local = inl done.1; spared = λ takes. done.2 }
 does c n x (model.Receive m) None is asked lawful = absurd asked
 does c n x model.Raise None is asked lawful =
-    let done = raises c n x x.mode (sym is) in
+    let done = raises n x x.mode (sym is) in
     record { effect = done.0; local = inl done.1; spared = λ never. absurd never }
 does c n x (model.Join member) None is asked lawful =
-    let done = proposes c n x (with_member member) x.mode _ (sym is) in
+    let done = proposes n x (with_member member) x.mode _ (sym is) in
     record { effect = done.0; local = inl done.1; spared = λ takes. done.2 }
 does c n x (model.Leave member) None is asked lawful =
-    let done = proposes c n x (without_member member) x.mode _ (sym is) in
+    let done = proposes n x (without_member member) x.mode _ (sym is) in
     record { effect = done.0; local = inl done.1; spared = λ takes. done.2 }
 does c n x model.Restart None is asked lawful =
-    record { effect = becomes c x (Refused refusals.Memory); local = inr refl; spared = λ never. absurd never }
+    record { effect = becomes x (Refused refusals.Memory); local = inr refl; spared = λ never. absurd never }
 does c n x (model.Read from) None is asked lawful =
-    record { effect = becomes c x (Refused refusals.Memory); local = inr refl; spared = λ never. absurd never }
+    record { effect = becomes x (Refused refusals.Memory); local = inr refl; spared = λ never. absurd never }
 does c n x (model.Committed from) None is asked lawful =
-    record { effect = becomes c x (Refused refusals.Memory); local = inr refl; spared = λ never. absurd never }
+    record { effect = becomes x (Refused refusals.Memory); local = inr refl; spared = λ never. absurd never }
 does c n x _ None is asked lawful = record { effect = _; local = inl refl; spared = λ never. absurd never }
 
 -- the same, of what a node may do
@@ -280,7 +280,7 @@ sent_spared l (Diverging end) e = cc
 record Known (c : LeaderAndIsr) (n : ℕ) (x : Node) (m : Message) : Type 0 where
   asked : (r : Request) → m ≡ Asks r → (l : Leading) → x.mode ≡ Leads l → serve_cause x.log r l ≡ None
       → DoesSending n x (served x l (asked_letter r)) (Receive (Asks r)) (Fetching (answer_letter x (asked_letter r)))
-  took : (a : Answer) → m ≡ Answers a → IsTrue (is_covered a.log a.request) → take_cause x a ≡ None → Local c n x (Receive (Answers a)) (taken_some c x [])
+  took : (a : Answer) → m ≡ Answers a → IsTrue (is_covered a.log a.request) → take_cause x a ≡ None → Local c n x (Receive (Answers a)) (taken_some x [])
   cuts : (a : Answer) → m ≡ Answers a → IsFalse (is_covered a.log a.request) → Local c n x (Receive (Answers a)) (cut c n x (answered_letter a))
 
 -- who leads answers a request
@@ -292,22 +292,22 @@ serves c n x r (Leads l) is known none =
     let asked = asked_letter r in
     let done = known.asked r refl l is none in
     record {
-      effect = sends c (served x l asked) done.message (sent_reply (Fetching (answer_letter x asked)));
+      effect = sends (served x l asked) done.message (sent_reply (Fetching (answer_letter x asked)));
       local = done.local c;
       spared = λ takes. sent_spared asked (answering_at x asked);
     }
 serves c n x r (Follows f) is known none = absurd cc
 
 -- where a cut isn't refused, its reply is no refusal
-cut_spared : (c : LeaderAndIsr) (x : Node) (place : ℕ) (o : Option Refusal) → o ≡ None → (cut_by o c x place).reply ≢ Refused refusals.Memory
-cut_spared c x place None none e = cc
-cut_spared c x place (Some refusal) none e = absurd cc
+cut_spared : (x : Node) (place : ℕ) (o : Option Refusal) → o ≡ None → (cut_by o x place).reply ≢ Refused refusals.Memory
+cut_spared x place None none e = cc
+cut_spared x place (Some refusal) none e = absurd cc
 
 -- A message that comes: a request is answered; an answer with batches meets want of memory, which leaves the node down, and one
 -- without is done.
 receives : (c : LeaderAndIsr) (n : ℕ) (x : Node) (m : Message) (o : Option Refusal) → o ≡ cause c n x (Receive m) → Known c n x m → Acting c n x (Receive m)
 receives c n x m (Some refusal) is known = record {
-  effect = becomes c x (Refused refusal);
+  effect = becomes x (Refused refusal);
   local = was_refused c n x (Receive m) refusal (sym is);
   spared = λ takes lacks. cause_spared c n x (Receive m) takes (sym is ∙ ap Some (same_refusal refusal refusals.Memory lacks));
 }
@@ -316,17 +316,17 @@ receives c n x (Answers a) None is known = by (is_covered a.log a.request) refl
   where
     by : (b : Bool) → is_covered a.log a.request ≡ b → Acting c n x (Receive (Answers a))
     by true covered = record {
-      effect = taken_some c x [];
+      effect = taken_some x [];
       local = known.took a refl covered (sym (ap (λ (b : Bool). cond b (take_cause x a) (cut_cause c n x a)) covered) ∙ sym is);
       spared = λ takes. absurd (false≢true (sym takes ∙ covered));
     }
     by false parted = record {
       effect = cut c n x (answered_letter a);
       local = known.cuts a refl parted;
-      spared = λ takes. cut_spared c x _ (cut_cause c n x a) (sym (ap (λ (b : Bool). cond b (take_cause x a) (cut_cause c n x a)) parted) ∙ sym is);
+      spared = λ takes. cut_spared x _ (cut_cause c n x a) (sym (ap (λ (b : Bool). cond b (take_cause x a) (cut_cause c n x a)) parted) ∙ sym is);
     }
 receives c n x (Decides d) None is known =
-    let done = learns c x d x.mode (sym is) in
+    let done = learns x d x.mode (sym is) in
     record { effect = done.0; local = happened c n x (Receive (Decides d)) done.0 (sym is) done.1; spared = λ takes. done.2 }
 receives c n x _ None is known = absurd cc
 

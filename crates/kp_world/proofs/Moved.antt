@@ -170,7 +170,7 @@ stepped limits n stage x m act outcome telling w inside there shown given is did
       };
       node_is = here n e.node w.nodes ∙ moves.node_is;
       shown = record {
-        controller_is = moves.record_is;
+        controller_is = shown.controller_is;
         count = shown.count ∙ sym (length-set stage.nodes n m);
         nodes_are = after limits n m stage.nodes e.node w.nodes inside (moves.same.0 ∙ old.number_is) (moves.same.1 ∙ old.limits_are) moves.node_is shown.nodes_are;
         letters_are = map-append letter_of w.messages e.sent ∙ ap (λ (ls : List Letter). ls ++ map letter_of e.sent) shown.letters_are

@@ -3,7 +3,7 @@ use Rattle.std.proofs.Common.{◌≡◌, ◌⊎◌, ℕ, ◌+◌, ◌<◌, ◌�
 use Rattle.std.specs.Prelude.{unwrap_or, if◌then◌else◌}
 use Rattle.std.proofs.lemmas.Bool.{cases_lt, false≢true}
 use Rattle.kp_types.specs.declared.refusal.Refusal.{Refusal}
-use Rattle.kp_model.specs.Beginning.{Begins}
+use Rattle.kp_model.specs.Beginning.{Begins, IsCommonBeginning}
 use Rattle.kp_model.specs.Log.{Batch, end_of, IsLog, below, IsKin}
 use Rattle.kp_model.specs.Epochs.{end_for, cut_place}
 use Rattle.kp_model.specs.World.{LeaderAndIsr, Leading, Leads, Node, Answer, Answers, World, IsSent}
@@ -15,7 +15,7 @@ use Rattle.kp_model.specs.Fetching.{last_epoch, piece, epoch_answer, is_covered,
 use Rattle.kp_model.specs.Local.{Local, LocalBy, cause}
 use Rattle.kp_model.specs.Letter.{Batches, Diverging, answered_letter}
 use Rattle.kp_model.specs.Calls.{answered_end, cut_by, cut}
-use Rattle.kp_model.specs.Laws.{place_of, CutIsTheStep, NoCutBelowTheWatermark, IsRound, IsTake, AreRounds, RoundsEnd, ReconciliationsEnd, TakesGoOn, OldAnswersCutNothing}
+use Rattle.kp_model.specs.Laws.{place_of, CutIsTheStep, NoCutBelowTheWatermark, IsRound, IsTake, AreRounds, RoundsEnd, ReconciliationsEnd, TakesGoOn, IsReconciled, RoundsAndATakeReconcile, OldAnswersCutNothing}
 use Rattle.kp_model.proofs.Plain.Beginnings.{Begins-refl, Begins-nil, Begins-append, Begins-trans, Begins-length, Begins-agree, Begins-whole}
 use Rattle.kp_model.proofs.Plain.Logs.{end_of-append, last_epoch_or, IsLog-begins}
 use Rattle.kp_model.proofs.OneStep.Steps.{each_sent, happened, was_refused}
@@ -42,8 +42,8 @@ place_is x a h g k same =
     subst (λ (epoch : ℕ). IsCutPlace x.log a.log (cut_place x.log (end_for a.log epoch))) (sym top) (is_cut_place x.log a.log h g k)
 
 -- the cut there: the node keeps the batches below the place
-cuts_at : (c : LeaderAndIsr) (x : Node) (a : Answer) (place : ℕ) → IsCutPlace x.log a.log place → a.request.log ≡ x.log → (Begins a.request.log a.log → ⊥) → Cuts c x a (cut_by None c x place)
-cuts_at c x a place p same diverges =
+cuts_at : (x : Node) (a : Answer) (place : ℕ) → IsCutPlace x.log a.log place → a.request.log ≡ x.log → (Begins a.request.log a.log → ⊥) → Cuts x a (cut_by None x place)
+cuts_at x a place p same diverges =
     record {
       diverges = diverges;
       same = same;
@@ -56,15 +56,15 @@ cuts_at c x a place p same diverges =
       effect_is = same_effect (below place x.log) p.left place (end_of p.left) p.left_is (sym p.ends);
     }
   where
-    same_effect : (l m : List Batch) (o q : ℕ) → l ≡ m → o ≡ q → becomes c (record x { log = l }) (Cut o) ≡ becomes c (record x { log = m }) (Cut q)
-    same_effect l m o q e d = λ i. becomes c (record x { log = e i }) (Cut (d i))
+    same_effect : (l m : List Batch) (o q : ℕ) → l ≡ m → o ≡ q → becomes (record x { log = l }) (Cut o) ≡ becomes (record x { log = m }) (Cut q)
+    same_effect l m o q e d = λ i. becomes (record x { log = e i }) (Cut (d i))
 
 -- ---- an answer that is not refused
 
 -- what the letter comes to is said of the answer
-pub by_answer : (c : LeaderAndIsr) (n : ℕ) (x : Node) (a : Answer) → is_covered a.log a.request ≡ false → cut c n x (answered_letter a) ≡ cut_by (cut_cause c n x a) c x (place_of x a)
+pub by_answer : (c : LeaderAndIsr) (n : ℕ) (x : Node) (a : Answer) → is_covered a.log a.request ≡ false → cut c n x (answered_letter a) ≡ cut_by (cut_cause c n x a) x (place_of x a)
 by_answer c n x a f =
-    ap (λ (b : Bool). cut_by (cut_cause c n x a) c x
+    ap (λ (b : Bool). cut_by (cut_cause c n x a) x
     (cut_place x.log (answered_end (Some (if b then Batches (piece a.log a.request) a.watermark else Diverging (epoch_answer a.log a.request)))))) f
 
 pub cause_is : (c : LeaderAndIsr) (n : ℕ) (x : Node) (a : Answer) → is_covered a.log a.request ≡ false → cause c n x (Receive (Answers a)) ≡ cut_cause c n x a
@@ -83,11 +83,11 @@ module _ (c : LeaderAndIsr) (n : ℕ) (x : Node) (a : Answer) (f : is_covered a.
   diverge : Begins a.request.log a.log → ⊥
   diverge p = false≢true (sym f ∙ begins_covered a.request.log a.log g p)
 
-  steps : (o : Option Refusal) → cut_cause c n x a ≡ o → Local c n x (Receive (Answers a)) (cut_by o c x (place_of x a))
+  steps : (o : Option Refusal) → cut_cause c n x a ≡ o → Local c n x (Receive (Answers a)) (cut_by o x (place_of x a))
   steps (Some refusal) e = was_refused c n x (Receive (Answers a)) refusal (cause_is c n x a f ∙ e)
   steps None e =
-      happened c n x (Receive (Answers a)) (cut_by None c x (place_of x a)) (cause_is c n x a f ∙ e)
-      (subst (λ (b : Bool). Accepts c x a b (cut_by None c x (place_of x a))) (sym f) (cuts_at c x a (place_of x a) (place_here e) (same_log e) diverge))
+      happened c n x (Receive (Answers a)) (cut_by None x (place_of x a)) (cause_is c n x a f ∙ e)
+      (subst (λ (b : Bool). Accepts x a b (cut_by None x (place_of x a))) (sym f) (cuts_at x a (place_of x a) (place_here e) (same_log e) diverge))
 
 ends_lower : (left log : List Batch) → IsLog log → Begins left log → length left < length log → end_of left < end_of log
 ends_lower left log h p short =
@@ -156,31 +156,31 @@ no_cut_below count r w i n a sent f c =
 -- ---- what a round leaves
 
 -- only a diverging answer that isn't refused is answered by a cut
-cuts_by : (c : LeaderAndIsr) (x : Node) (a : Answer) (covered : Bool) (e : Effect) (end : ℕ) → Accepts c x a covered e → e.reply ≡ Cut end → Cuts c x a e
-cuts_by c x a true e end h r = absurd (let took = sym (ap (λ (g : Effect). g.reply) h.1) ∙ r in cc)
-cuts_by c x a false e end h r = h
+cuts_by : (x : Node) (a : Answer) (covered : Bool) (e : Effect) (end : ℕ) → Accepts x a covered e → e.reply ≡ Cut end → Cuts x a e
+cuts_by x a true e end h r = absurd (let took = sym (ap (λ (g : Effect). g.reply) h.1) ∙ r in cc)
+cuts_by x a false e end h r = h
 
-cut_of : (c : LeaderAndIsr) (n : ℕ) (y : Node) (a : Answer) (e : Effect) (end : ℕ) → Local c n y (Receive (Answers a)) e → e.reply ≡ Cut end → Cuts c y a e
+cut_of : (c : LeaderAndIsr) (n : ℕ) (y : Node) (a : Answer) (e : Effect) (end : ℕ) → Local c n y (Receive (Answers a)) e → e.reply ≡ Cut end → Cuts y a e
 unfolding Local
 cut_of c n y a e end h r = by_cause (cause c n y (Receive (Answers a))) h
   where
-    by_cause : (o : Option Refusal) → LocalBy o c n y (Receive (Answers a)) e → Cuts c y a e
+    by_cause : (o : Option Refusal) → LocalBy o c n y (Receive (Answers a)) e → Cuts y a e
     by_cause (Some refusal) h = absurd (let refused = sym (ap (λ (g : Effect). g.reply) h) ∙ r in cc)
-    by_cause None (inl h) = cuts_by c y a (is_covered a.log a.request) e end h r
+    by_cause None (inl h) = cuts_by y a (is_covered a.log a.request) e end h r
     by_cause None (inr h) = absurd (let refused = sym (ap (λ (g : Effect). g.reply) h.1.effect_is) ∙ r in cc)
 
 -- and only an answer with batches by a take
-takes_by : (c : LeaderAndIsr) (x : Node) (a : Answer) (covered : Bool) (e : Effect) (end mark : ℕ) → Accepts c x a covered e → e.reply ≡ Took end mark → Takes c x a e
-takes_by c x a true e end mark h r = h
-takes_by c x a false e end mark h r = absurd (let cut = sym (ap (λ (g : Effect). g.reply) h.effect_is) ∙ r in cc)
+takes_by : (x : Node) (a : Answer) (covered : Bool) (e : Effect) (end mark : ℕ) → Accepts x a covered e → e.reply ≡ Took end mark → Takes x a e
+takes_by x a true e end mark h r = h
+takes_by x a false e end mark h r = absurd (let cut = sym (ap (λ (g : Effect). g.reply) h.effect_is) ∙ r in cc)
 
-take_of : (c : LeaderAndIsr) (n : ℕ) (y : Node) (a : Answer) (e : Effect) (end mark : ℕ) → Local c n y (Receive (Answers a)) e → e.reply ≡ Took end mark → Takes c y a e
+take_of : (c : LeaderAndIsr) (n : ℕ) (y : Node) (a : Answer) (e : Effect) (end mark : ℕ) → Local c n y (Receive (Answers a)) e → e.reply ≡ Took end mark → Takes y a e
 unfolding Local
 take_of c n y a e end mark h r = by_cause (cause c n y (Receive (Answers a))) h
   where
-    by_cause : (o : Option Refusal) → LocalBy o c n y (Receive (Answers a)) e → Takes c y a e
+    by_cause : (o : Option Refusal) → LocalBy o c n y (Receive (Answers a)) e → Takes y a e
     by_cause (Some refusal) h = absurd (let refused = sym (ap (λ (g : Effect). g.reply) h) ∙ r in cc)
-    by_cause None (inl h) = takes_by c y a (is_covered a.log a.request) e end mark h r
+    by_cause None (inl h) = takes_by y a (is_covered a.log a.request) e end mark h r
     by_cause None (inr h) = absurd (let refused = sym (ap (λ (g : Effect). g.reply) h.1.effect_is) ∙ r in cc)
 
 -- a log is empty or has a last batch
@@ -292,14 +292,18 @@ module _ (count : ℕ) (r : Run count) (u : World) (n m : ℕ) (l : Leading) (of
       kept.0 ∙ ap led.history.ledger (sym epoch)
 
   one_round : (old new : List Batch) → IsRound r n l.epoch old new → RoundsEnd old new leaders 1
-  one_round old new (v, a, e, end, i, sent, epoch, h, reply, before, after) =
+  one_round old new round =
+      let a = round.answer in
+      let h = round.hears in
+      let v = h.world in
       let run = run_is_held count r.moments r.is_run in
-      let was = was_held count r.moments run v i in
+      let was = was_held count r.moments run v h.is_of in
       let led = was_held count r.moments run u of in
       let made : Begins leaders (run.history.ledger a.request.epoch) =
-      subst (λ (s : List Batch). Begins s (run.history.ledger a.request.epoch)) (sym (whole a epoch)) (led.grows a.request.epoch) in
-      let here = round_ends v was.history was.sets was.all (last r) run.history run.sets run.all n a sent (sent_at_last count r v i (Answers a) sent) leaders made e end h reply in
-      subst (λ (s : List Batch). RoundsEnd old s leaders 1) after (subst (λ (s : List Batch). RoundsEnd s e.node.log leaders 1) before here)
+      subst (λ (s : List Batch). Begins s (run.history.ledger a.request.epoch)) (sym (whole a h.of_epoch)) (led.grows a.request.epoch) in
+      let here =
+      round_ends v was.history was.sets was.all (last r) run.history run.sets run.all n a h.sent (sent_at_last count r v h.is_of (Answers a) h.sent) leaders made h.effect round.end h.local round.cut in
+      subst (λ (s : List Batch). RoundsEnd old s leaders 1) h.new_is (subst (λ (s : List Batch). RoundsEnd s h.effect.node.log leaders 1) h.old_is here)
 
   rounds_end : (old new : List Batch) (between : List (List Batch)) → AreRounds r n l.epoch old between new → RoundsEnd old new leaders (length between + 1)
   rounds_end old new [] h = one_round old new h
@@ -308,22 +312,36 @@ module _ (count : ℕ) (r : Run count) (u : World) (n m : ℕ) (l : Leading) (of
 
   -- the leader still has what it answered, and so all that was taken of it
   one_take : (a : Answer) (old new : List Batch) → IsTake r n l.epoch a old new → IsSent u.messages (Answers a) → Begins old new × Begins new leaders
-  one_take a old new (v, e, end, mark, i, sent, epoch, h, reply, before, after) known =
+  one_take a old new take known =
+      let h = take.hears in
       let led = was_held count r.moments (run_is_held count r.moments r.is_run) u of in
-      let x = v.nodes n in
-      let takes = take_of v.controller n x a e end mark h reply in
+      let x = h.world.nodes n in
+      let takes = take_of h.world.controller n x a h.effect take.end take.mark h.local take.took in
       let sound : MessageIsSound (Answers a) = each_sent MessageIsSound u.messages (Answers a) led.all.sound.messages known in
       let message : MessageIsKept led.history (Answers a) = each_sent (MessageIsKept led.history) u.messages (Answers a) led.all.kept.messages known in
       let own : Begins x.log a.log = subst (λ (s : List Batch). Begins s a.log) takes.0.same takes.0.begins in
       let all : Begins (grown x a) a.log = grown_begins x.log a.log a.log a.request sound.log own (Begins-refl a.log) (ap end_of (sym takes.0.same)) in
-      let there : Begins (grown x a) leaders = Begins-trans all (subst (Begins a.log) (sym (whole a epoch)) message.1) in
-      let left : grown x a ≡ new = sym (ap (λ (i : Effect). i.node.log) takes.1) ∙ after in (
-        subst (λ (s : List Batch). Begins s new) before (subst (Begins x.log) left (Begins-append x.log (piece a.log a.request))),
+      let there : Begins (grown x a) leaders = Begins-trans all (subst (Begins a.log) (sym (whole a h.of_epoch)) message.1) in
+      let left : grown x a ≡ new = sym (ap (λ (i : Effect). i.node.log) takes.1) ∙ h.new_is in (
+        subst (λ (s : List Batch). Begins s new) h.old_is (subst (Begins x.log) left (Begins-append x.log (piece a.log a.request))),
         subst (λ (s : List Batch). Begins s leaders) left there,
       )
+
+  -- the rounds and the first take
+  reconciled : (a : Answer) (old left new : List Batch) (between : List (List Batch)) → AreRounds r n l.epoch old between left → IsTake r n l.epoch a left new → IsSent u.messages (Answers a)
+      → IsReconciled old left new leaders
+  reconciled a old left new between rounds take known =
+      let end = rounds_end old left between rounds in
+      let took = one_take a left new take known in
+      let same : left ≡ end.common = end.ends (Begins-trans took.0 took.1) in
+      record { common = subst (λ (s : List Batch). IsCommonBeginning s old leaders) (sym same) end.is_common; goes_on = took.0; begins = took.1 }
 
 pub reconciliations_end : ReconciliationsEnd
 reconciliations_end count r v n m l old new between i leads h = rounds_end count r v n m l i leads old new between h
 
 pub takes_go_on : TakesGoOn
 takes_go_on count r v n m l a old new i leads h known = one_take count r v n m l i leads a old new h known
+
+pub rounds_and_a_take_reconcile : RoundsAndATakeReconcile
+rounds_and_a_take_reconcile count r v n m l a old left new between i leads rounds take known =
+    reconciled count r v n m l i leads a old left new between rounds take known

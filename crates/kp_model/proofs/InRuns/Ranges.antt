@@ -91,14 +91,13 @@ record WorldIsInRange (count : ℕ) (w : World) : Type 0 where
   nodes : (n : ℕ) → ModeIsInRange count (w.nodes n).mode
 
 record EffectIsInRange (count : ℕ) (e : Effect) : Type 0 where
-  controller : IsInRange count e.controller
   sent : AllByRecursion (MessageIsInRange count) e.sent
   mode : ModeIsInRange count e.node.mode
 
 moved_in_range : (count : ℕ) (w : World) (n : ℕ) (e : Effect) → WorldIsInRange count w → EffectIsInRange count e → WorldIsInRange count (moved w n e)
 moved_in_range count w n e h f =
     record {
-      controller = f.controller;
+      controller = h.controller;
       messages = all_append (MessageIsInRange count) w.messages e.sent h.messages f.sent;
       nodes = with_node_each (λ m y. ModeIsInRange count y.mode) w.nodes n e.node (λ m ne. h.nodes m) f.mode;
     }
@@ -158,7 +157,6 @@ module _ (count : ℕ) (c : LeaderAndIsr) (n : ℕ) (x : Node) (counted : n < co
   does : (messages : List Message) (act : Act) (e : Effect) → AllByRecursion (MessageIsInRange count) messages → Parts messages c n x act e → EffectIsInRange count e
   does messages act e all parts =
       record {
-        controller = subst (IsInRange count) (sym parts.record_stays) h;
         sent = sent_in_range messages e.sent parts.sent;
         mode = mode_in_range messages e.node.mode all parts.mode;
       }

@@ -8,8 +8,7 @@ use Rattle.kp_model.specs.Controller.{same_record, altered}
 use Rattle.kp_model.specs.Step.{Step, decided_on}
 use Rattle.kp_model.specs.Run.{Moment, IsRun, Run, now, worlds, last, extend, Among, IsOf, WasAppended}
 use Rattle.kp_model.specs.Laws.{RunsGoOn}
-use Rattle.kp_model.proofs.OneStep.Classes.{step_cases, acting_class}
-use Rattle.kp_model.proofs.OneStep.Parts.{parts_of}
+use Rattle.kp_model.proofs.OneStep.Classes.{step_cases}
 
 -- the record stays, or its version rises
 abbrev pub Onward : LeaderAndIsr → LeaderAndIsr → Type 0
@@ -46,10 +45,7 @@ step_onward w event outcome new s =
                   | inr d ↦ subst (StepIsOnward w) (sym d.new_is) (refl, decided_onward w.controller d.asked)
                 ]
             | inr a ↦
-                subst (StepIsOnward w) (sym a.new_is) (
-                  refl,
-                  inl (parts_of w.messages w.controller a.node (w.nodes a.node) a.act a.effect (acting_class w new a)).record_stays,
-                )
+                subst (StepIsOnward w) (sym a.new_is) (refl, inl refl)
           ]
     ]
 

@@ -275,7 +275,7 @@ grown_made w g n a h m c t =
     let own : Begins x.log a.log = subst (λ (k : List Batch). Begins k a.log) t.same t.begins in
     (f, q, grown_begins x.log a.log (g.ledger f.epoch) a.request (h.logs f.epoch) (Begins-trans own answer) answer q.end)
 
-pub take_kept : (w : World) (g : History) (n : ℕ) (a : Answer) (effect : Effect) → take_cause (w.nodes n) a ≡ None → IsKept w g → MessageIsKept g (Answers a) → Takes w.controller (w.nodes n) a effect → IsKept (moved w n effect) g
+pub take_kept : (w : World) (g : History) (n : ℕ) (a : Answer) (effect : Effect) → take_cause (w.nodes n) a ≡ None → IsKept w g → MessageIsKept g (Answers a) → Takes (w.nodes n) a effect → IsKept (moved w n effect) g
 take_kept w g n a effect c h m t =
     let x = w.nodes n in
     let p = grown_made w g n a h m c t.0 in
@@ -286,7 +286,7 @@ take_kept w g n a effect c h m t =
     (record { made = made_begins g.ledger p.2 (h.made f.epoch); mode = subst (ModeIsKept g n (grown x a)) (sym p.1.is) mode })
     (λ l e s. Begins-trans (same_log w g n h l e s) (Begins-append x.log (piece a.log a.request))))
 
-pub take_some_kept : (w : World) (g : History) (n : ℕ) (a : Answer) (effect : Effect) → take_cause (w.nodes n) a ≡ None → IsKept w g → MessageIsKept g (Answers a) → TakesSome w.controller (w.nodes n) a effect → IsKept (moved w n effect) g
+pub take_some_kept : (w : World) (g : History) (n : ℕ) (a : Answer) (effect : Effect) → take_cause (w.nodes n) a ≡ None → IsKept w g → MessageIsKept g (Answers a) → TakesSome (w.nodes n) a effect → IsKept (moved w n effect) g
 take_some_kept w g n a effect c h m t =
     let x = w.nodes n in
     let p = grown_made w g n a h m c t.continues in
@@ -333,7 +333,7 @@ cut_facts c n x a free =
       },
     )
 
-pub cut_kept : (w : World) (g : History) (n : ℕ) (a : Answer) (effect : Effect) → cut_cause w.controller n (w.nodes n) a ≡ None → IsKept w g → MessageIsKept g (Answers a) → Cuts w.controller (w.nodes n) a effect → IsKept (moved w n effect) g
+pub cut_kept : (w : World) (g : History) (n : ℕ) (a : Answer) (effect : Effect) → cut_cause w.controller n (w.nodes n) a ≡ None → IsKept w g → MessageIsKept g (Answers a) → Cuts (w.nodes n) a effect → IsKept (moved w n effect) g
 cut_kept w g n a effect c h m cut =
     let x = w.nodes n in
     let found = cut_facts w.controller n x a c in

@@ -1,5 +1,5 @@
 -- Each log of each world of a run is a log, and no leader epoch in it is above its node's.
-use Rattle.std.proofs.Common.{◌≡◌, ℕ, ◌+◌, ◌<◌, ◌≤◌, true, false, cond, eqb, ltb, leb, List, [], ◌∷◌, ◌++◌, Option, Some, None, refl, sym, ap, ◌∙◌, subst, append_assoc, append-nil, arith, inl, inr}
+use Rattle.std.proofs.Common.{◌≡◌, ℕ, ◌+◌, ◌<◌, ◌≤◌, true, cond, eqb, ltb, leb, List, [], ◌∷◌, ◌++◌, Option, Some, None, refl, sym, ap, ◌∙◌, subst, append_assoc, append-nil, arith, inl, inr}
 use Rattle.std.specs.Prelude.{map, unwrap_or, is_some}
 use Rattle.std.specs.List.{AllByRecursion, last_or}
 use Rattle.std.proofs.lemmas.Bool.{cond_both, cases_Bool, ltb-false, and_parts, not-false, eqb-true}
@@ -176,7 +176,7 @@ stamp_keeps elections x l body e h lawful =
     }
 
 -- a leader answers in its own epoch
-serve_keeps : (w : World) (n : ℕ) (r : Request) (l : Leading) (f : Effect) → (w.nodes n).mode ≡ Leads l → serve_cause (w.nodes n).log r l ≡ None → IsLog r.log → WorldIsSound w → Serves w.controller (w.nodes n) r l f → WorldIsSound (moved w n f)
+serve_keeps : (w : World) (n : ℕ) (r : Request) (l : Leading) (f : Effect) → (w.nodes n).mode ≡ Leads l → serve_cause (w.nodes n).log r l ≡ None → IsLog r.log → WorldIsSound w → Serves (w.nodes n) r l f → WorldIsSound (moved w n f)
 serve_keeps w n r l f e c asked h a =
     let x = w.nodes n in
     let sound = h.nodes n in
@@ -208,10 +208,6 @@ pub record TakeFacts (x : Node) (a : Answer) : Type 0 where
   pub expected : awaits x a.request.epoch (end_of a.request.log) (last_epoch a.request.log) x.mode ≡ true
   pub follows : cannot_follow x.log (piece a.log a.request) ≡ None
 
-is_some_none : {A : Type 0} (o : Option A) → is_some o ≡ false → o ≡ None
-is_some_none None e = refl
-is_some_none (Some x) e = absurd cc
-
 pub take_facts : (x : Node) (a : Answer) → take_cause x a ≡ None → TakeFacts x a
 take_facts x a c =
     let up = passed _ _ _ c in
@@ -234,13 +230,13 @@ grown_is_sound elections x a h g c =
       within = h.within;
     }
 
-take_keeps : (w : World) (n : ℕ) (a : Answer) (f : Effect) → take_cause (w.nodes n) a ≡ None → WorldIsSound w → AnswerIsSound a → Takes w.controller (w.nodes n) a f → WorldIsSound (moved w n f)
+take_keeps : (w : World) (n : ℕ) (a : Answer) (f : Effect) → take_cause (w.nodes n) a ≡ None → WorldIsSound w → AnswerIsSound a → Takes (w.nodes n) a f → WorldIsSound (moved w n f)
 take_keeps w n a f c h g t =
     let sound = grown_is_sound (elections_of w) (w.nodes n) a (h.nodes n) g c in
     becoming WorldIsSound w n f _ _ t.1 (changed w n _ h (record { log = sound.log; epochs = sound.epochs; within = sound.within }))
 
 -- a node that went down while it took the batches has a beginning of what it would have
-take_some_keeps : (w : World) (n : ℕ) (a : Answer) (f : Effect) → take_cause (w.nodes n) a ≡ None → WorldIsSound w → AnswerIsSound a → TakesSome w.controller (w.nodes n) a f → WorldIsSound (moved w n f)
+take_some_keeps : (w : World) (n : ℕ) (a : Answer) (f : Effect) → take_cause (w.nodes n) a ≡ None → WorldIsSound w → AnswerIsSound a → TakesSome (w.nodes n) a f → WorldIsSound (moved w n f)
 take_some_keeps w n a f c h g t =
     let x = w.nodes n in
     let sound = grown_is_sound (elections_of w) x a (h.nodes n) g c in
@@ -256,7 +252,7 @@ take_some_keeps w n a f c h g t =
     below_front : (bound : ℕ) (front log : List Batch) → Begins front log → AllBelow bound log → AllBelow bound front
     below_front bound front log p h = all_front (λ b. b.epoch < bound) front p.rest (subst (AllBelow bound) (sym p.is) h)
 
-cut_keeps : (w : World) (n : ℕ) (a : Answer) (effect : Effect) → WorldIsSound w → Cuts w.controller (w.nodes n) a effect → WorldIsSound (moved w n effect)
+cut_keeps : (w : World) (n : ℕ) (a : Answer) (effect : Effect) → WorldIsSound w → Cuts (w.nodes n) a effect → WorldIsSound (moved w n effect)
 cut_keeps w n a effect h c =
     let x = w.nodes n in
     let sound = h.nodes n in
@@ -275,10 +271,10 @@ leads_keeps w n l m e same h =
     let bound : mode_bound (elections_of w) (w.nodes n).mode ≡ m.epoch + 1 = ap (mode_bound (elections_of w)) e ∙ ap (λ (k : ℕ). k + 1) (sym same) in
     changed w n (record (w.nodes n) { mode = Leads m }) h (record { log = sound.log; epochs = rw bound at sound.epochs; within = omega (arith, bound, sound.within) })
 
-propose_keeps : (w : World) (n : ℕ) (isr : List ℕ) (l : Leading) (f : Effect) → (w.nodes n).mode ≡ Leads l → WorldIsSound w → Proposes-set w.controller n (w.nodes n) isr l f → WorldIsSound (moved w n f)
+propose_keeps : (w : World) (n : ℕ) (isr : List ℕ) (l : Leading) (f : Effect) → (w.nodes n).mode ≡ Leads l → WorldIsSound w → Proposes-set n (w.nodes n) isr l f → WorldIsSound (moved w n f)
 propose_keeps w n isr l f e h a = sending WorldIsSound w n f _ _ _ a (sent _ _ (leads_keeps w n l (record l { pending = Some isr }) e refl h) tt)
 
-learn_keeps : (w : World) (n : ℕ) (d : Decision) (l : Leading) (f : Effect) → (w.nodes n).mode ≡ Leads l → WorldIsSound w → Learns w.controller (w.nodes n) d l f → WorldIsSound (moved w n f)
+learn_keeps : (w : World) (n : ℕ) (d : Decision) (l : Leading) (f : Effect) → (w.nodes n).mode ≡ Leads l → WorldIsSound w → Learns (w.nodes n) d l f → WorldIsSound (moved w n f)
 learn_keeps w n d l f e h a =
     becoming WorldIsSound w n f _ _ a (leads_keeps w n l (record l { isr = d.decided.isr; version = d.decided.version; pending = None }) e refl h)
 

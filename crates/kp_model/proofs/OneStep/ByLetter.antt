@@ -28,16 +28,16 @@ module _ (c : LeaderAndIsr) (n : ℕ) (x : Node) (a : Answer) (f : is_covered a.
   cause_is : cause c n x (Receive (Answers a)) ≡ take_cause x a
   cause_is = ap (λ (b : Bool). if b then take_cause x a else cut_cause c n x a) f
 
-  takes : (o : Option Refusal) → take_cause x a ≡ o → Local c n x (Receive (Answers a)) (taken_by o c x (piece a.log a.request) a.watermark)
+  takes : (o : Option Refusal) → take_cause x a ≡ o → Local c n x (Receive (Answers a)) (taken_by o x (piece a.log a.request) a.watermark)
   takes (Some refusal) e = was_refused c n x (Receive (Answers a)) refusal (cause_is ∙ e)
   takes None e =
-      happened c n x (Receive (Answers a)) (taken_by None c x (piece a.log a.request) a.watermark) (cause_is ∙ e)
-      (subst (λ (b : Bool). Accepts c x a b (taken_by None c x (piece a.log a.request) a.watermark)) (sym f) (continues e, refl))
+      happened c n x (Receive (Answers a)) (taken_by None x (piece a.log a.request) a.watermark) (cause_is ∙ e)
+      (subst (λ (b : Bool). Accepts x a b (taken_by None x (piece a.log a.request) a.watermark)) (sym f) (continues e, refl))
 
   -- or some of them, where there is no room for more
-  takes_some : (some : List Batch) → take_cause x a ≡ None → Begins some (piece a.log a.request) → Local c n x (Receive (Answers a)) (taken_some c x some)
+  takes_some : (some : List Batch) → take_cause x a ≡ None → Begins some (piece a.log a.request) → Local c n x (Receive (Answers a)) (taken_some x some)
   takes_some some free begins =
-      lacked_memory c n x (Receive (Answers a)) (taken_some c x some) (cause_is ∙ free)
+      lacked_memory c n x (Receive (Answers a)) (taken_some x some) (cause_is ∙ free)
       (f, record { continues = continues free; some = some; begins = begins; effect_is = refl })
 
 pub take_is_the_step : TakeIsTheStep

@@ -39,7 +39,7 @@ pub record Acting (w : World) (new : World) : Type 0 where
   pub counted : node < w.count
   pub given : IsGiven w.messages act
   pub free : cause w.controller node (w.nodes node) act ≡ None
-  pub does : Happens w.controller node (w.nodes node) act effect ⊎ LacksMemory w.controller (w.nodes node) act effect
+  pub does : Happens w.controller node (w.nodes node) act effect ⊎ LacksMemory (w.nodes node) act effect
   pub new_is : new ≡ moved w node effect
 
 pub record Electing (w : World) (new : World) : Type 0 where
@@ -157,33 +157,33 @@ IsPlain _ = Unit {0}
 -- Node n, whose state is x, acted under record c, with these messages sent before.
 pub data Class (messages : List Message) (c : LeaderAndIsr) (n : ℕ) (x : Node) (act : Act) (e : Effect) : Type 0 where
   -- nothing changes, and nothing is sent
-  Rests : (reply : Reply) → IsPlain reply → e ≡ becomes c x reply → Class messages c n x act e
+  Rests : (reply : Reply) → IsPlain reply → e ≡ becomes x reply → Class messages c n x act e
   -- the mode and the kept epoch change: it takes up the record's leader
   TakesUp : (l : Leader) → c.leader ≡ Some l → is_news c n x ≡ true → Adopts c n x (Some l) e → Class messages c n x act e
   -- the log grows by a batch of its own
-  GrowsByOwn : (l : Leading) (body : Body) → x.mode ≡ Leads l → IsBody body → Hands act body → exhausts x.log body ≡ false → Appends c x l body Append e → Class messages c n x act e
+  GrowsByOwn : (l : Leading) (body : Body) → x.mode ≡ Leads l → IsBody body → Hands act body → exhausts x.log body ≡ false → Appends x l body Append e → Class messages c n x act e
   -- the log grows by what a leader answered, and the watermark may rise
-  GrowsByAnswer : (a : Answer) → IsSent messages (Answers a) → take_cause x a ≡ None → (KeepsMark act → ⊥) → Takes c x a e → Class messages c n x act e
+  GrowsByAnswer : (a : Answer) → IsSent messages (Answers a) → take_cause x a ≡ None → (KeepsMark act → ⊥) → Takes x a e → Class messages c n x act e
   -- the log grows by some of it, and the node goes down
-  GrowsInPart : (a : Answer) → IsSent messages (Answers a) → take_cause x a ≡ None → TakesSome c x a e → Class messages c n x act e
+  GrowsInPart : (a : Answer) → IsSent messages (Answers a) → take_cause x a ≡ None → TakesSome x a e → Class messages c n x act e
   -- the log is cut
-  IsCut : (a : Answer) → IsSent messages (Answers a) → cut_cause c n x a ≡ None → Cuts c x a e → Class messages c n x act e
+  IsCut : (a : Answer) → IsSent messages (Answers a) → cut_cause c n x a ≡ None → Cuts x a e → Class messages c n x act e
   -- a follower's request is sent
-  SendsRequest : (f : Following) (reply : Reply) → IsPlain reply → x.mode ≡ Follows f → e ≡ sends c x (Asks (asked n x f)) reply → Class messages c n x act e
+  SendsRequest : (f : Following) (reply : Reply) → IsPlain reply → x.mode ≡ Follows f → e ≡ sends x (Asks (asked n x f)) reply → Class messages c n x act e
   -- a leader's answer is sent, and a report may be lifted
-  SendsAnswer : (r : Request) (l : Leading) → x.mode ≡ Leads l → IsSent messages (Asks r) → serve_cause x.log r l ≡ None → Serves c x r l e → Class messages c n x act e
+  SendsAnswer : (r : Request) (l : Leading) → x.mode ≡ Leads l → IsSent messages (Asks r) → serve_cause x.log r l ≡ None → Serves x r l e → Class messages c n x act e
   -- a leader's proposal is sent, and its set is pending
-  SendsProposal : (isr : List ℕ) (l : Leading) → x.mode ≡ Leads l → MayPropose n x l isr → Proposes-set c n x isr l e → Class messages c n x act e
+  SendsProposal : (isr : List ℕ) (l : Leading) → x.mode ≡ Leads l → MayPropose n x l isr → Proposes-set n x isr l e → Class messages c n x act e
   -- a leader knows another set
-  KnowsMore : (d : Decision) (l : Leading) → x.mode ≡ Leads l → IsSent messages (Decides d) → learn_cause d l ≡ None → Learns c x d l e → Class messages c n x act e
+  KnowsMore : (d : Decision) (l : Leading) → x.mode ≡ Leads l → IsSent messages (Decides d) → learn_cause d l ≡ None → Learns x d l e → Class messages c n x act e
   -- a leader's watermark rises
-  RaisesMark : (l : Leading) → x.mode ≡ Leads l → (KeepsMark act → ⊥) → Raises c n x l e → Class messages c n x act e
+  RaisesMark : (l : Leading) → x.mode ≡ Leads l → (KeepsMark act → ⊥) → Raises n x l e → Class messages c n x act e
   -- the checkpoint becomes the watermark
-  NotesMark : (reply : Reply) → IsPlain reply → e ≡ becomes c (record x { checkpoint = x.watermark }) reply → Class messages c n x act e
+  NotesMark : (reply : Reply) → IsPlain reply → e ≡ becomes (record x { checkpoint = x.watermark }) reply → Class messages c n x act e
   -- it goes down
-  GoesDown : (reply : Reply) → IsPlain reply → e ≡ becomes c (record x { mode = Down }) reply → Class messages c n x act e
+  GoesDown : (reply : Reply) → IsPlain reply → e ≡ becomes (record x { mode = Down }) reply → Class messages c n x act e
   -- it begins another life, at its checkpoint
-  BeginsLife : (reply : Reply) → IsPlain reply → (KeepsMark act → ⊥) → e ≡ becomes c (record x { watermark = x.checkpoint; life = x.life + 1; mode = Idle }) reply → Class messages c n x act e
+  BeginsLife : (reply : Reply) → IsPlain reply → (KeepsMark act → ⊥) → e ≡ becomes (record x { watermark = x.checkpoint; life = x.life + 1; mode = Idle }) reply → Class messages c n x act e
 
 -- nothing is pending, or the same set
 change_free : (o : Option (List ℕ)) (isr : List ℕ) (tests : Option Refusal) → change_cause o isr tests ≡ None → ((o ≡ None) × (tests ≡ None)) ⊎ (o ≡ Some isr)
@@ -202,34 +202,34 @@ module _ (messages : List Message) (c : LeaderAndIsr) (n : ℕ) (x : Node) where
   adopt_class act None e is news h = absurd h
   adopt_class act (Some l) e is news h = TakesUp l is news h
 
-  append_class : (act : Act) (l : Leading) (body : Body) (admission : Admission) (e : Effect) → x.mode ≡ Leads l → IsBody body → Hands act body → admission_cause x.log body admission ≡ None → Appends c x l body admission e → Is act e
+  append_class : (act : Act) (l : Leading) (body : Body) (admission : Admission) (e : Effect) → x.mode ≡ Leads l → IsBody body → Hands act body → admission_cause x.log body admission ≡ None → Appends x l body admission e → Is act e
   append_class act l body Append e mode lawful hands free h = GrowsByOwn l body mode lawful hands (passed (exhausts x.log body) _ _ free).0 h
   append_class act l body (Duplicate base) e mode lawful hands free h = Rests _ tt h
   append_class act l body (NotAdmitted r) e mode lawful hands free h = absurd h
 
-  produce_class : (l : Leading) (offer : Result Body Refusal) (e : Effect) → x.mode ≡ Leads l → produce_cause x.log offer ≡ None → Produces c x l offer e → Is (Produce offer) e
+  produce_class : (l : Leading) (offer : Result Body Refusal) (e : Effect) → x.mode ≡ Leads l → produce_cause x.log offer ≡ None → Produces x l offer e → Is (Produce offer) e
   produce_class l (Ok body) e mode free h = append_class (Produce (Ok body)) l body (admit x.log body.content) e mode h.0 refl free h.1
   produce_class l (Err fault) e mode free h = absurd h
 
-  propose_class : (act : Act) (isr : List ℕ) (tests : Option Refusal) (l : Leading) (e : Effect) → x.mode ≡ Leads l → change_cause l.pending isr tests ≡ None → (tests ≡ None → IsChange n x l isr) → Proposes-set c n x isr l e → Is act e
+  propose_class : (act : Act) (isr : List ℕ) (tests : Option Refusal) (l : Leading) (e : Effect) → x.mode ≡ Leads l → change_cause l.pending isr tests ≡ None → (tests ≡ None → IsChange n x l isr) → Proposes-set n x isr l e → Is act e
   propose_class act isr tests l e mode free change h =
       SendsProposal isr l mode (elim (change_free l.pending isr tests free) [ inl new ↦ inl (new.0, change new.1) | inr again ↦ inr again ]) h
 
   -- ---- a message comes
 
-  receive_class : (m : Message) (e : Effect) → IsSent messages m → receive_cause c n x m ≡ None → Receives c x m e → Is (Receive m) e
+  receive_class : (m : Message) (e : Effect) → IsSent messages m → receive_cause c n x m ≡ None → Receives x m e → Is (Receive m) e
   receive_class (Asks r) e sent free h =
-      let l = where_leads x.mode (λ l. Serves c x r l e) h in SendsAnswer r l.0 l.1 sent (leads_cause x.mode (serve_cause x.log r) l.0 l.1 free) l.2
+      let l = where_leads x.mode (λ l. Serves x r l e) h in SendsAnswer r l.0 l.1 sent (leads_cause x.mode (serve_cause x.log r) l.0 l.1 free) l.2
   receive_class (Answers a) e sent free h = by_covered (is_covered a.log a.request) refl free h
     where
-      by_covered : (covered : Bool) → is_covered a.log a.request ≡ covered → cond covered (take_cause x a) (cut_cause c n x a) ≡ None → Accepts c x a covered e → Is (Receive (Answers a)) e
+      by_covered : (covered : Bool) → is_covered a.log a.request ≡ covered → cond covered (take_cause x a) (cut_cause c n x a) ≡ None → Accepts x a covered e → Is (Receive (Answers a)) e
       by_covered true is free h = GrowsByAnswer a sent free (λ keeps. false≢true (sym keeps ∙ is)) h
       by_covered false is free h = IsCut a sent free h
   receive_class (Proposes p) e sent free h = absurd h
   receive_class (Decides d) e sent free h =
-      let l = where_leads x.mode (λ l. Learns c x d l e) h in KnowsMore d l.0 l.1 sent (leads_cause x.mode (learn_cause d) l.0 l.1 free) l.2
+      let l = where_leads x.mode (λ l. Learns x d l e) h in KnowsMore d l.0 l.1 sent (leads_cause x.mode (learn_cause d) l.0 l.1 free) l.2
 
-  lacks_class_for : (m : Message) (e : Effect) → IsSent messages m → receive_cause c n x m ≡ None → LacksMemoryFor c x m e → Is (Receive m) e
+  lacks_class_for : (m : Message) (e : Effect) → IsSent messages m → receive_cause c n x m ≡ None → LacksMemoryFor x m e → Is (Receive m) e
   lacks_class_for (Asks r) e sent free h = Rests _ refl h
   lacks_class_for (Answers a) e sent free h = GrowsInPart a sent (subst (λ (t : Bool). cond t (take_cause x a) (cut_cause c n x a) ≡ None) h.0 free) h.1
   lacks_class_for _ e sent free h = absurd h
@@ -239,21 +239,21 @@ module _ (messages : List Message) (c : LeaderAndIsr) (n : ℕ) (x : Node) where
   happens_class : (act : Act) (e : Effect) → IsGiven messages act → cause c n x act ≡ None → Happens c n x act e → Is act e
   happens_class Adopt e given free h = adopt_class Adopt c.leader e refl (not-false _ (passed _ _ _ (passed _ _ _ free).1).0) h
   happens_class (Produce offer) e given free h =
-      let l = where_leads x.mode (λ l. Produces c x l offer e) h in produce_class l.0 offer e l.1 (leads_cause x.mode (λ l. produce_cause x.log offer) l.0 l.1 free) l.2
+      let l = where_leads x.mode (λ l. Produces x l offer e) h in produce_class l.0 offer e l.1 (leads_cause x.mode (λ l. produce_cause x.log offer) l.0 l.1 free) l.2
   happens_class (Mark time producer epoch coordinator commit) e given free h =
       let body = marker_body time producer epoch coordinator commit in
       let admission = admit_marker x.log producer epoch coordinator in
-      let l = where_leads x.mode (λ l. Marks c x l body admission e) h in
+      let l = where_leads x.mode (λ l. Marks x l body admission e) h in
       append_class (Mark time producer epoch coordinator commit) l.0 body admission e l.1 l.2.0 refl (leads_cause x.mode (λ l. admission_cause x.log body admission) l.0 l.1 free) l.2.1
   happens_class Ask e given free h = let f = where_follows x.mode _ h in SendsRequest f.0 _ tt f.1 f.2
   happens_class (Receive m) e given free h = receive_class m e given free h
-  happens_class Raise e given free h = let l = where_leads x.mode (λ l. Raises c n x l e) h in RaisesMark l.0 l.1 (λ keeps. keeps) l.2
+  happens_class Raise e given free h = let l = where_leads x.mode (λ l. Raises n x l e) h in RaisesMark l.0 l.1 (λ keeps. keeps) l.2
   happens_class (Join member) e given free h =
-      let l = where_leads x.mode (λ l. Proposes-set c n x (with_member member l.isr) l e) h in
+      let l = where_leads x.mode (λ l. Proposes-set n x (with_member member l.isr) l e) h in
       propose_class (Join member) (with_member member l.0.isr) _ l.0 e l.1 (leads_cause x.mode (join_cause x member) l.0 l.1 free)
       (λ tested. inl (member, refl, not-false _ (passed _ _ _ tested).0)) l.2
   happens_class (Leave member) e given free h =
-      let l = where_leads x.mode (λ l. Proposes-set c n x (without_member member l.isr) l e) h in
+      let l = where_leads x.mode (λ l. Proposes-set n x (without_member member l.isr) l e) h in
       propose_class (Leave member) (without_member member l.0.isr) _ l.0 e l.1 (leads_cause x.mode (leave_cause n member) l.0 l.1 free)
       (λ tested. inr (member, refl, not_own member l.0 (passed _ _ _ tested).0)) l.2
     where
@@ -270,7 +270,7 @@ module _ (messages : List Message) (c : LeaderAndIsr) (n : ℕ) (x : Node) where
   happens_class (Read from) e given free h = Rests _ tt h
   happens_class (Committed from) e given free h = Rests _ tt h
 
-  lacks_class : (act : Act) (e : Effect) → IsGiven messages act → cause c n x act ≡ None → LacksMemory c x act e → Is act e
+  lacks_class : (act : Act) (e : Effect) → IsGiven messages act → cause c n x act ≡ None → LacksMemory x act e → Is act e
   lacks_class (Produce offer) e given free h = Rests _ refl h
   lacks_class (Mark time producer epoch coordinator commit) e given free h = Rests _ refl h
   lacks_class Ask e given free h = Rests _ refl h
@@ -283,7 +283,7 @@ module _ (messages : List Message) (c : LeaderAndIsr) (n : ℕ) (x : Node) where
   lacks_class _ e given free h = absurd h
 
   -- an action that isn't refused is of a class
-  pub class_of : (act : Act) (e : Effect) → IsGiven messages act → cause c n x act ≡ None → Happens c n x act e ⊎ LacksMemory c x act e → Class messages c n x act e
+  pub class_of : (act : Act) (e : Effect) → IsGiven messages act → cause c n x act ≡ None → Happens c n x act e ⊎ LacksMemory x act e → Class messages c n x act e
   class_of act e given free (inl h) = happens_class act e given free h
   class_of act e given free (inr h) = lacks_class act e given free h
 

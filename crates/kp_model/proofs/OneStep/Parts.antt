@@ -50,14 +50,13 @@ pub data SentPart (messages : List Message) (n : ℕ) (x : Node) (sent : List Me
   AnswerIsSent : (r : Request) (l : Leading) → x.mode ≡ Leads l → IsSent messages (Asks r) → serve_cause x.log r l ≡ None → sent ≡ Answers (answer x r) ∷ [] → SentPart messages n x sent
   ProposalIsSent : (isr : List ℕ) (l : Leading) → x.mode ≡ Leads l → MayPropose n x l isr → sent ≡ Proposes (proposal n l isr) ∷ [] → SentPart messages n x sent
 
--- all parts, and the record, which is the controller's alone
+-- all parts
 pub record Parts (messages : List Message) (c : LeaderAndIsr) (n : ℕ) (x : Node) (act : Act) (e : Effect) : Type 0 where
   pub log : LogPart messages x act e.node.log
   pub marks : MarkPart x act e.node.watermark e.node.checkpoint
   pub mode : ModePart messages c n x e.node.mode
   pub sent : SentPart messages n x e.sent
   pub plain : IsPlain e.reply
-  pub record_stays : e.controller ≡ c
 
 module _ (messages : List Message) (c : LeaderAndIsr) (n : ℕ) (x : Node) (act : Act) where
   parts_by : (e f : Effect) → e ≡ f → Parts messages c n x act f → Parts messages c n x act e
@@ -65,7 +64,7 @@ module _ (messages : List Message) (c : LeaderAndIsr) (n : ℕ) (x : Node) (act 
 
   pub parts_of : (e : Effect) → Class messages c n x act e → Parts messages c n x act e
   parts_of e (Rests reply fair h) =
-      parts_by e _ h (record { log = LogStays refl; marks = MarksStay refl refl; mode = ModeStays refl; sent = NoneIsSent refl; plain = fair; record_stays = refl })
+      parts_by e _ h (record { log = LogStays refl; marks = MarksStay refl refl; mode = ModeStays refl; sent = NoneIsSent refl; plain = fair })
   parts_of e (TakesUp l is news h) =
       parts_by e _ h
       (record {
@@ -74,14 +73,13 @@ module _ (messages : List Message) (c : LeaderAndIsr) (n : ℕ) (x : Node) (act 
         mode = cond_both (eqb l.node n) _ _ (λ (role : Mode × Reply). ModePart messages c n x role.0) (λ t. NowLeading l is (eqb-true l.node n t) refl) (λ t. NowFollowing l is (eqb-false l.node n t) refl);
         sent = NoneIsSent refl;
         plain = cond_both (eqb l.node n) _ _ (λ (role : Mode × Reply). IsPlain role.1) (λ t. tt) (λ t. tt);
-        record_stays = refl;
       })
   parts_of e (GrowsByOwn l body mode lawful hands free h) =
       parts_by e _ h
-      (record { log = LogGains l body mode lawful hands free refl; marks = MarksStay refl refl; mode = ModeStays refl; sent = NoneIsSent refl; plain = tt; record_stays = refl })
+      (record { log = LogGains l body mode lawful hands free refl; marks = MarksStay refl refl; mode = ModeStays refl; sent = NoneIsSent refl; plain = tt })
   parts_of e (GrowsByAnswer a sent free moves h) =
       parts_by e _ h.1
-      (record { log = LogTakes a sent h.0 refl; marks = MarkRises moves (omega arith) refl; mode = ModeStays refl; sent = NoneIsSent refl; plain = tt; record_stays = refl })
+      (record { log = LogTakes a sent h.0 refl; marks = MarkRises moves (omega arith) refl; mode = ModeStays refl; sent = NoneIsSent refl; plain = tt })
   parts_of e (GrowsInPart a sent free h) =
       parts_by e _ h.effect_is
       (record {
@@ -90,24 +88,22 @@ module _ (messages : List Message) (c : LeaderAndIsr) (n : ℕ) (x : Node) (act 
         mode = RoleEnds (inl refl);
         sent = NoneIsSent refl;
         plain = refl;
-        record_stays = refl;
       })
   parts_of e (IsCut a sent free h) =
       parts_by e _ h.effect_is
-      (record { log = LogIsCut h.left h.begins refl; marks = MarksStay refl refl; mode = ModeStays refl; sent = NoneIsSent refl; plain = tt; record_stays = refl })
+      (record { log = LogIsCut h.left h.begins refl; marks = MarksStay refl refl; mode = ModeStays refl; sent = NoneIsSent refl; plain = tt })
   parts_of e (SendsRequest f reply fair mode h) =
-      parts_by e _ h (record { log = LogStays refl; marks = MarksStay refl refl; mode = ModeStays refl; sent = RequestIsSent f mode refl; plain = fair; record_stays = refl })
+      parts_by e _ h (record { log = LogStays refl; marks = MarksStay refl refl; mode = ModeStays refl; sent = RequestIsSent f mode refl; plain = fair })
   parts_of e (SendsAnswer r l mode sent free h) =
-      served_either (Parts messages c n x act) c x r l e
+      served_either (Parts messages c n x act) x r l e
       (record {
         log = LogStays refl;
         marks = MarksStay refl refl;
         mode = ReportIsLifted r l mode sent refl;
         sent = AnswerIsSent r l mode sent free refl;
         plain = tt;
-        record_stays = refl;
       })
-      (record { log = LogStays refl; marks = MarksStay refl refl; mode = ModeStays refl; sent = AnswerIsSent r l mode sent free refl; plain = tt; record_stays = refl })
+      (record { log = LogStays refl; marks = MarksStay refl refl; mode = ModeStays refl; sent = AnswerIsSent r l mode sent free refl; plain = tt })
       h
   parts_of e (SendsProposal isr l mode may h) =
       parts_by e _ h
@@ -117,17 +113,16 @@ module _ (messages : List Message) (c : LeaderAndIsr) (n : ℕ) (x : Node) (act 
         mode = SetIsPending isr l mode may refl;
         sent = ProposalIsSent isr l mode may refl;
         plain = tt;
-        record_stays = refl;
       })
   parts_of e (KnowsMore d l mode sent free h) =
       parts_by e _ h
-      (record { log = LogStays refl; marks = MarksStay refl refl; mode = SetIsKnown d l mode sent free refl; sent = NoneIsSent refl; plain = tt; record_stays = refl })
+      (record { log = LogStays refl; marks = MarksStay refl refl; mode = SetIsKnown d l mode sent free refl; sent = NoneIsSent refl; plain = tt })
   parts_of e (RaisesMark l mode moves h) =
       parts_by e _ h
-      (record { log = LogStays refl; marks = MarkRises moves (omega arith) refl; mode = ModeStays refl; sent = NoneIsSent refl; plain = tt; record_stays = refl })
+      (record { log = LogStays refl; marks = MarkRises moves (omega arith) refl; mode = ModeStays refl; sent = NoneIsSent refl; plain = tt })
   parts_of e (NotesMark reply fair h) =
-      parts_by e _ h (record { log = LogStays refl; marks = MarkIsNoted refl refl; mode = ModeStays refl; sent = NoneIsSent refl; plain = fair; record_stays = refl })
+      parts_by e _ h (record { log = LogStays refl; marks = MarkIsNoted refl refl; mode = ModeStays refl; sent = NoneIsSent refl; plain = fair })
   parts_of e (GoesDown reply fair h) =
-      parts_by e _ h (record { log = LogStays refl; marks = MarksStay refl refl; mode = RoleEnds (inl refl); sent = NoneIsSent refl; plain = fair; record_stays = refl })
+      parts_by e _ h (record { log = LogStays refl; marks = MarksStay refl refl; mode = RoleEnds (inl refl); sent = NoneIsSent refl; plain = fair })
   parts_of e (BeginsLife reply fair moves h) =
-      parts_by e _ h (record { log = LogStays refl; marks = MarkGoesBack moves refl refl; mode = RoleEnds (inr refl); sent = NoneIsSent refl; plain = fair; record_stays = refl })
+      parts_by e _ h (record { log = LogStays refl; marks = MarkGoesBack moves refl refl; mode = RoleEnds (inr refl); sent = NoneIsSent refl; plain = fair })

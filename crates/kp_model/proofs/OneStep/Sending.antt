@@ -3,7 +3,7 @@ use Rattle.std.proofs.Common.{◌≡◌, ℕ, Bool, true, false, Some, refl, sym
 use Rattle.std.specs.Prelude.{if◌then◌else◌}
 use Rattle.std.proofs.lemmas.Bool.{false≢true}
 use Rattle.kp_model.specs.Log.{IsLog, IsKin, end_of}
-use Rattle.kp_model.specs.World.{LeaderAndIsr, Leading, Following, Mode, Leads, Follows, Node, Request, Asks, Answers}
+use Rattle.kp_model.specs.World.{Leading, Following, Mode, Leads, Follows, Node, Request, Asks, Answers}
 use Rattle.kp_model.specs.Event.{Ask, Receive}
 use Rattle.kp_model.specs.Letter.{Batches, Diverging, letter_of}
 use Rattle.kp_model.specs.Effect.{Effect, WhereLeads, WhereFollows, sends, unless_leads}
@@ -21,20 +21,20 @@ asks n x f mode =
       message = Asks r;
       letter_is = refl;
       local = λ c.
-          let effect : Effect = sends c x (Asks r) (ask_reply r) in
+          let effect : Effect = sends x (Asks r) (ask_reply r) in
           happened c n x Ask effect (ap ask_cause mode)
-          (subst (λ (m : Mode). WhereFollows m (λ g. effect ≡ sends c x (Asks (asked n x g)) (ask_reply (asked n x g)))) (sym mode) refl);
+          (subst (λ (m : Mode). WhereFollows m (λ g. effect ≡ sends x (Asks (asked n x g)) (ask_reply (asked n x g)))) (sym mode) refl);
     }
 
 -- what a leader sends to a request that it covers, or doesn't
-abbrev sent_by : LeaderAndIsr → Node → Leading → Request → Bool → Effect
-sent_by c x l r covered =
-    sends c (if covered then record x { mode = Leads (reporting l r.from (end_of r.log)) } else x) (Answers (answer x r))
+abbrev sent_by : Node → Leading → Request → Bool → Effect
+sent_by x l r covered =
+    sends (if covered then record x { mode = Leads (reporting l r.from (end_of r.log)) } else x) (Answers (answer x r))
     (reply_by (end_of r.log) (last_epoch r.log) (Some (if covered then Batches (piece x.log r) x.watermark else Diverging (epoch_answer x.log r))))
 
-serves_by : (c : LeaderAndIsr) (x : Node) (l : Leading) (r : Request) → IsLog x.log → IsLog r.log → IsKin r.log x.log → (covered : Bool) → is_covered x.log r ≡ covered → Serves c x r l (sent_by c x l r covered)
-serves_by c x l r h q k true e = inl (covered_begins r.log x.log q h k e, refl)
-serves_by c x l r h q k false e = inr (λ p. false≢true (sym e ∙ begins_covered r.log x.log h p), refl)
+serves_by : (x : Node) (l : Leading) (r : Request) → IsLog x.log → IsLog r.log → IsKin r.log x.log → (covered : Bool) → is_covered x.log r ≡ covered → Serves x r l (sent_by x l r covered)
+serves_by x l r h q k true e = inl (covered_begins r.log x.log q h k e, refl)
+serves_by x l r h q k false e = inr (λ p. false≢true (sym e ∙ begins_covered r.log x.log h p), refl)
 
 -- a leader that answers a request of its epoch
 pub serve_is_the_step : ServeIsTheStep
@@ -43,7 +43,7 @@ serve_is_the_step n x l r mode h q k free =
       message = Answers (answer x r);
       letter_is = refl;
       local = λ c.
-          let effect : Effect = sent_by c x l r (is_covered x.log r) in
+          let effect : Effect = sent_by x l r (is_covered x.log r) in
           happened c n x (Receive (Asks r)) effect (ap (λ (m : Mode). unless_leads m (serve_cause x.log r)) mode ∙ free)
-          (subst (λ (m : Mode). WhereLeads m (λ k. Serves c x r k effect)) (sym mode) (serves_by c x l r h q k (is_covered x.log r) refl));
+          (subst (λ (m : Mode). WhereLeads m (λ k. Serves x r k effect)) (sym mode) (serves_by x l r h q k (is_covered x.log r) refl));
     }

@@ -5,7 +5,7 @@ use Rattle.std.specs.List.{AllByRecursion}
 use Rattle.kp_types.specs.declared.refusal.Refusal.{Refusal}
 use Rattle.std.proofs.lemmas.Bool.{cond_both, eqb-true}
 use Rattle.kp_model.specs.Log.{end_of}
-use Rattle.kp_model.specs.World.{LeaderAndIsr, Leading, Following, Mode, Down, Idle, Leads, Follows, Node, Request, Proposal, Message, Answers, World, with_record, with_node, with_message, IsSent}
+use Rattle.kp_model.specs.World.{LeaderAndIsr, Leading, Following, Mode, Down, Idle, Leads, Follows, Node, Request, Proposal, Message, Answers, World, with_node, with_message, IsSent}
 use Rattle.kp_model.specs.Event.{Act, Reply, Refused, SentBatches, SentDiverging}
 use Rattle.kp_model.specs.Controller.{altered}
 use Rattle.kp_model.specs.Effect.{Effect, becomes, sends, unless_leads, WhereLeads, WhereFollows}
@@ -14,10 +14,10 @@ use Rattle.kp_model.specs.Local.{Local, LocalBy, Happens, LacksMemory, cause}
 use Rattle.kp_model.specs.Step.{decided_on, moved}
 
 -- what a leader sends: batches, with a lifted report, or how far it has what is asked of
-pub served_either : (P : Effect → Type 0) (c : LeaderAndIsr) (x : Node) (r : Request) (l : Leading) (e : Effect)
-    → P (sends c (record x { mode = Leads (reporting l r.from (end_of r.log)) }) (Answers (answer x r)) (SentBatches (length (piece x.log r)) x.watermark))
-    → P (sends c x (Answers (answer x r)) (SentDiverging (epoch_answer x.log r))) → Serves c x r l e → P e
-served_either P c x r l e lifts diverges h = elim h [ inl b ↦ subst P (sym b.1) lifts | inr b ↦ subst P (sym b.1) diverges ]
+pub served_either : (P : Effect → Type 0) (x : Node) (r : Request) (l : Leading) (e : Effect)
+    → P (sends (record x { mode = Leads (reporting l r.from (end_of r.log)) }) (Answers (answer x r)) (SentBatches (length (piece x.log r)) x.watermark))
+    → P (sends x (Answers (answer x r)) (SentDiverging (epoch_answer x.log r))) → Serves x r l e → P e
+served_either P x r l e lifts diverges h = elim h [ inl b ↦ subst P (sym b.1) lifts | inr b ↦ subst P (sym b.1) diverges ]
 
 -- where only a leader acts
 pub where_leads : (mode : Mode) (P : Leading → Type 0) → WhereLeads mode P → (l : Leading) × (mode ≡ Leads l) × P l
@@ -49,19 +49,19 @@ with_node_same w n = λ i. record w { nodes = λ m. same m i }
     same m = cond_both (eqb m n) (w.nodes n) (w.nodes m) (λ (x : Node). x ≡ w.nodes m) (λ e. ap w.nodes (sym (eqb-true m n e))) (λ e. refl)
 
 -- only the node changed
-pub moved_becomes : (w : World) (n : ℕ) (x : Node) (c : LeaderAndIsr) (reply : Reply) → moved w n (becomes c x reply) ≡ with_record (with_node w n x) c
-moved_becomes w n x c reply = ap (λ (ms : List Message). record (with_record (with_node w n x) c) { messages = ms }) (append-nil w.messages)
+pub moved_becomes : (w : World) (n : ℕ) (x : Node) (reply : Reply) → moved w n (becomes x reply) ≡ with_node w n x
+moved_becomes w n x reply = ap (λ (ms : List Message). record (with_node w n x) { messages = ms }) (append-nil w.messages)
 
-pub becoming : (P : World → Type 0) (w : World) (n : ℕ) (e : Effect) (x : Node) (reply : Reply) → e ≡ becomes w.controller x reply → P (with_node w n x) → P (moved w n e)
+pub becoming : (P : World → Type 0) (w : World) (n : ℕ) (e : Effect) (x : Node) (reply : Reply) → e ≡ becomes x reply → P (with_node w n x) → P (moved w n e)
 becoming P w n e x reply is p =
-    subst (λ (f : Effect). P (moved w n f)) (sym is) (subst P (sym (moved_becomes w n x w.controller reply)) p)
+    subst (λ (f : Effect). P (moved w n f)) (sym is) (subst P (sym (moved_becomes w n x reply)) p)
 
 -- nothing changed
-pub staying : (P : World → Type 0) (w : World) (n : ℕ) (e : Effect) (reply : Reply) → e ≡ becomes w.controller (w.nodes n) reply → P w → P (moved w n e)
+pub staying : (P : World → Type 0) (w : World) (n : ℕ) (e : Effect) (reply : Reply) → e ≡ becomes (w.nodes n) reply → P w → P (moved w n e)
 staying P w n e reply is p = becoming P w n e (w.nodes n) reply is (subst P (sym (with_node_same w n)) p)
 
 -- a message was sent besides
-pub sending : (P : World → Type 0) (w : World) (n : ℕ) (e : Effect) (x : Node) (m : Message) (reply : Reply) → e ≡ sends w.controller x m reply → P (with_message (with_node w n x) m) → P (moved w n e)
+pub sending : (P : World → Type 0) (w : World) (n : ℕ) (e : Effect) (x : Node) (m : Message) (reply : Reply) → e ≡ sends x m reply → P (with_message (with_node w n x) m) → P (moved w n e)
 sending P w n e x m reply is p = subst (λ (f : Effect). P (moved w n f)) (sym is) p
 
 -- a decision leaves the leader
@@ -74,13 +74,13 @@ pub happened : (c : LeaderAndIsr) (n : ℕ) (x : Node) (act : Act) (e : Effect) 
 unfolding Local
 happened c n x act e free h = subst (λ (o : Option Refusal). LocalBy o c n x act e) (sym free) (inl h)
 
-pub lacked_memory : (c : LeaderAndIsr) (n : ℕ) (x : Node) (act : Act) (e : Effect) → cause c n x act ≡ None → LacksMemory c x act e → Local c n x act e
+pub lacked_memory : (c : LeaderAndIsr) (n : ℕ) (x : Node) (act : Act) (e : Effect) → cause c n x act ≡ None → LacksMemory x act e → Local c n x act e
 unfolding Local
 lacked_memory c n x act e free h = subst (λ (o : Option Refusal). LocalBy o c n x act e) (sym free) (inr h)
 
-pub was_refused : (c : LeaderAndIsr) (n : ℕ) (x : Node) (act : Act) (refusal : Refusal) → cause c n x act ≡ Some refusal → Local c n x act (becomes c x (Refused refusal))
+pub was_refused : (c : LeaderAndIsr) (n : ℕ) (x : Node) (act : Act) (refusal : Refusal) → cause c n x act ≡ Some refusal → Local c n x act (becomes x (Refused refusal))
 unfolding Local
-was_refused c n x act refusal held = subst (λ (o : Option Refusal). LocalBy o c n x act (becomes c x (Refused refusal))) (sym held) refl
+was_refused c n x act refusal held = subst (λ (o : Option Refusal). LocalBy o c n x act (becomes x (Refused refusal))) (sym held) refl
 
 -- ---- facts of each element
 

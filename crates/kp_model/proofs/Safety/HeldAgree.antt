@@ -2,14 +2,14 @@
 use Rattle.std.proofs.Common.{◌≡◌, ℕ, ◌+◌, ◌≤◌, true, false, leb, List, [], ◌∷◌, ◌++◌, refl, sym, ap, ◌∙◌, subst, append-nil, arith}
 use Rattle.std.proofs.lemmas.Bool.{le-leb, lt-leb}
 use Rattle.std.proofs.lemmas.List.Elements.{filter-append}
-use Rattle.kp_model.specs.Beginning.{Begins, Agree}
+use Rattle.kp_model.specs.Beginning.{Begins}
 use Rattle.kp_model.specs.Log.{Batch, width, end_of, next_offset, Follow, IsLog, below}
 use Rattle.kp_model.specs.World.{World}
 use Rattle.kp_model.specs.Run.{held}
 use Rattle.kp_model.proofs.Plain.Logs.{end_of-cons, Follow-front, Follow-rest, last_epoch_or}
 use Rattle.kp_model.proofs.Kinship.SoundLogs.{WorldIsSound}
 use Rattle.kp_model.proofs.Kinship.Kin.{History}
-use Rattle.kp_model.proofs.Safety.Held.{Sets, IsHeld, committed_agree}
+use Rattle.kp_model.proofs.Safety.Held.{Sets, IsHeld}
 
 below_end : (offset epoch : ℕ) (log : List Batch) (end : ℕ) → Follow offset epoch log → offset + end_of log ≤ end → below end log ≡ log
 below_end offset epoch [] end h l = refl
@@ -43,10 +43,3 @@ pub held_is : (w : World) (g : History) (t : Sets) → WorldIsSound w → (h : I
 held_is w g t s h n =
     let mark = h.marks n in
     ap (λ (o : ℕ). below o (w.nodes n).log) (sym mark.ends) ∙ below_boundary mark.list (w.nodes n).log (s.nodes n).log mark.begins
-
--- of two nodes' held lists one begins the other
-pub held_agree : (w : World) (g : History) (t : Sets) → WorldIsSound w → IsHeld w g t → (n m : ℕ) → Agree (held (w.nodes n)) (held (w.nodes m))
-held_agree w g t s h n m =
-    subst (λ (P : List Batch). Agree P (held (w.nodes m))) (sym (held_is w g t s h n))
-    (subst (λ (Q : List Batch). Agree (h.marks n).list Q) (sym (held_is w g t s h m))
-    (committed_agree w g t h (h.marks n).list (h.marks m).list (h.marks n).committed (h.marks m).committed))

@@ -95,7 +95,7 @@ module _ (w : World) (g : History) (t : Sets) (a : AllKept w g t) where
 
     -- ---- serve
 
-    serve_onto : (l : Leading) (r : Request) (f : Effect) → x.mode ≡ Leads l → Sent w (Asks r) → MessageIsKept g (Asks r) → r.epoch ≡ l.epoch → Serves w.controller x r l f → Onto w g t (moved w n f)
+    serve_onto : (l : Leading) (r : Request) (f : Effect) → x.mode ≡ Leads l → Sent w (Asks r) → MessageIsKept g (Asks r) → r.epoch ≡ l.epoch → Serves x r l f → Onto w g t (moved w n f)
     serve_onto l r f mode q k epoch h =
         let m : Message = Answers (answer x r) in
         let kept : ModeIsKept g n x.log (Leads l) = subst (ModeIsKept g n x.log) mode (a.kept.nodes n).mode in
@@ -140,24 +140,24 @@ module _ (w : World) (g : History) (t : Sets) (a : AllKept w g t) where
 
     -- ---- take
 
-    take_onto : (b : Answer) → Sent w (Answers b) → MessageIsKept g (Answers b) → take_cause x b ≡ None → (f : Effect) → Takes w.controller x b f → Onto w g t (moved w n f)
+    take_onto : (b : Answer) → Sent w (Answers b) → MessageIsKept g (Answers b) → take_cause x b ≡ None → (f : Effect) → Takes x b f → Onto w g t (moved w n f)
     take_onto b q k c f h =
         let made = grown_made w g n b a.kept k c h.0 in
         let p = made.1 in
         let answered : Begins b.log (g.ledger made.0.epoch) = subst (λ (e : ℕ). Begins b.log (g.ledger e)) (sym p.epoch) k.1 in
         let y : Node = record x { log = grown x b; watermark = max x.watermark (mark_taken x b) } in
         let kept : IsKept (with_node w n y) g =
-        subst (λ (v : World). IsKept v g) (moved_becomes w n y w.controller (Took (end_of (grown x b)) (max x.watermark (mark_taken x b)))) (take_kept w g n b _ c a.kept k (h.0, refl)) in
+        subst (λ (v : World). IsKept v g) (moved_becomes w n y (Took (end_of (grown x b)) (max x.watermark (mark_taken x b)))) (take_kept w g n b _ c a.kept k (h.0, refl)) in
         becoming (Onto w g t) w n f y _ h.1
         (node_onto w g t a n y (takes w g t a.sound a.held a.kept n b q made.0 p made.2 answered) kept (led_follows w g t a n y made.0 p.is)
         (λ P i z. Begins-trans z (Begins-append x.log (piece b.log b.request))))
 
-    take_some_onto : (b : Answer) → Sent w (Answers b) → MessageIsKept g (Answers b) → take_cause x b ≡ None → (f : Effect) → TakesSome w.controller x b f → Onto w g t (moved w n f)
+    take_some_onto : (b : Answer) → Sent w (Answers b) → MessageIsKept g (Answers b) → take_cause x b ≡ None → (f : Effect) → TakesSome x b f → Onto w g t (moved w n f)
     take_some_onto b q k c f h =
         let made = grown_made w g n b a.kept k c h.continues in
         let y : Node = record x { log = x.log ++ h.some; mode = Down } in
         let kept : IsKept (with_node w n y) g =
-        subst (λ (v : World). IsKept v g) (moved_becomes w n y w.controller (Refused refusals.Memory)) (take_some_kept w g n b _ c a.kept k (record { continues = h.continues; some = h.some; begins = h.begins; effect_is = refl })) in
+        subst (λ (v : World). IsKept v g) (moved_becomes w n y (Refused refusals.Memory)) (take_some_kept w g n b _ c a.kept k (record { continues = h.continues; some = h.some; begins = h.begins; effect_is = refl })) in
         becoming (Onto w g t) w n f y _ h.effect_is
         (node_onto w g t a n y (goes_down w g t a.sound a.held a.kept n (x.log ++ h.some) x.kept (Begins-append x.log h.some) (omega arith) (a.held.kept n)) kept (led_follows w g t a n y made.0 made.1.is)
         (λ P i z. Begins-trans z (Begins-append x.log h.some)))
@@ -171,7 +171,7 @@ module _ (w : World) (g : History) (t : Sets) (a : AllKept w g t) where
         by_leader None is = absurd (false≢true (let f = e in rw is at f))
         by_leader (Some l) is = ap next_epoch is ∙ ap (λ (k : ℕ). k + 1) (has_epoch_is w.controller l epoch is e)
 
-    cut_onto : (b : Answer) → Sent w (Answers b) → MessageIsKept g (Answers b) → cut_cause w.controller n x b ≡ None → (f : Effect) → Cuts w.controller x b f → Onto w g t (moved w n f)
+    cut_onto : (b : Answer) → Sent w (Answers b) → MessageIsKept g (Answers b) → cut_cause w.controller n x b ≡ None → (f : Effect) → Cuts x b f → Onto w g t (moved w n f)
     cut_onto b q k c f h =
         let found = cut_facts w.controller n x b c in
         let l = found.0 in
@@ -179,7 +179,7 @@ module _ (w : World) (g : History) (t : Sets) (a : AllKept w g t) where
         let top = last_election l.epoch facts.recorded in
         let y : Node = record x { log = h.left } in
         let kept : IsKept (with_node w n y) g =
-        subst (λ (v : World). IsKept v g) (moved_becomes w n y w.controller (Cut (end_of h.left)))
+        subst (λ (v : World). IsKept v g) (moved_becomes w n y (Cut (end_of h.left)))
         (cut_kept w g n b _ c a.kept k (record {
           diverges = h.diverges;
           same = h.same;
@@ -201,7 +201,7 @@ module _ (w : World) (g : History) (t : Sets) (a : AllKept w g t) where
 
     -- ---- learn
 
-    learn_onto : (d : Decision) (l : Leading) (f : Effect) → x.mode ≡ Leads l → Sent w (Decides d) → learn_cause d l ≡ None → Learns w.controller x d l f → Onto w g t (moved w n f)
+    learn_onto : (d : Decision) (l : Leading) (f : Effect) → x.mode ≡ Leads l → Sent w (Decides d) → learn_cause d l ≡ None → Learns x d l f → Onto w g t (moved w n f)
     learn_onto d l f mode q c h =
         let has = passed _ _ _ c in
         let news = passed _ _ _ has.1 in
@@ -215,7 +215,7 @@ module _ (w : World) (g : History) (t : Sets) (a : AllKept w g t) where
     propose_onto : (isr : List ℕ) (l : Leading) (f : Effect) → x.mode ≡ Leads l → IsIn n isr
         → ((p : Proposal) → Sent w (Proposes p) → IsOfLeader p (g.leader l.epoch) l.epoch → p.known.version ≡ l.version → isr ≡ p.isr)
         → Knows t (record l { pending = Some isr }) → ((m : ℕ) → IsIn m isr → IsIn m l.isr ⊎ CaughtUp x.watermark l m)
-        → Proposes-set w.controller n x isr l f → Onto w g t (moved w n f)
+        → Proposes-set n x isr l f → Onto w g t (moved w n f)
     propose_onto isr l f mode own asked knows ready h =
         let m : Leading = record l { pending = Some isr } in
         let y : Node = record x { mode = Leads m } in
@@ -281,7 +281,7 @@ module _ (w : World) (g : History) (t : Sets) (a : AllKept w g t) where
         )
 
     -- the set that is asked for, by whether it is pending already
-    change_onto : (isr : List ℕ) (l : Leading) (f : Effect) → x.mode ≡ Leads l → MayPropose n x l isr → Proposes-set w.controller n x isr l f → Onto w g t (moved w n f)
+    change_onto : (isr : List ℕ) (l : Leading) (f : Effect) → x.mode ≡ Leads l → MayPropose n x l isr → Proposes-set n x isr l f → Onto w g t (moved w n f)
     change_onto isr l f mode (inl (none, change)) h =
         let ready = change_ready l isr mode change in
         propose_onto isr l f mode ready.0 (asked_before l isr mode (inl none)) (knows_more l isr (a.held.leads n l mode).knows (inl none)) ready.1 h

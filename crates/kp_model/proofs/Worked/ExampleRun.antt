@@ -50,7 +50,7 @@ e1 = (refl, refl)
 
 -- adopt 0, adopt 1
 abbrev a2 : Effect
-a2 = becomes w1.controller (node [] 0 (Leads (leader no_reports))) (NowLeads 0 0)
+a2 = becomes (node [] 0 (Leads (leader no_reports))) (NowLeads 0 0)
 
 abbrev w2 : World
 w2 = moved w1 0 a2
@@ -59,7 +59,7 @@ pub e2 : Step w1 (Acts 0 Adopt) (told (NowLeads 0 0)) w2
 e2 = did w1 0 Adopt a2 (omega arith) tt refl refl
 
 abbrev a3 : Effect
-a3 = becomes w2.controller (node [] 0 follower) (NowFollows 0 0)
+a3 = becomes (node [] 0 follower) (NowFollows 0 0)
 
 abbrev w3 : World
 w3 = moved w2 1 a3
@@ -68,7 +68,7 @@ pub e3 : Step w2 (Acts 1 Adopt) (told (NowFollows 0 0)) w3
 e3 = did w2 1 Adopt a3 (omega arith) tt refl refl
 
 -- what no leader does, bytes that are no batch, and a number that no message has
-e3_raise : Step w3 (Acts 1 Raise) (told (Refused refusals.NotLeader)) (moved w3 1 (becomes w3.controller (w3.nodes 1) (Refused refusals.NotLeader)))
+e3_raise : Step w3 (Acts 1 Raise) (told (Refused refusals.NotLeader)) (moved w3 1 (becomes (w3.nodes 1) (Refused refusals.NotLeader)))
 e3_raise = record { counted = omega arith; given = tt; effect = _; local = was_refused w3.controller 1 (w3.nodes 1) Raise refusals.NotLeader refl; outcome_is = refl; new_is = refl }
 
 e3_fault : cause w3.controller 0 (w3.nodes 0) (Produce (Err refusals.BadCrc)) ≡ Some refusals.BadCrc
@@ -90,7 +90,7 @@ lawful =
     }
 
 abbrev a4 : Effect
-a4 = becomes w3.controller (node (batch ∷ []) 0 (Leads (leader no_reports))) (At 0)
+a4 = becomes (node (batch ∷ []) 0 (Leads (leader no_reports))) (At 0)
 
 abbrev pub w4 : World
 w4 = moved w3 0 a4
@@ -101,7 +101,7 @@ e4 = did w3 0 (Produce (Ok body)) a4 (omega arith) tt refl (lawful, refl)
 
 -- ask 1, deliver 0 (to node 0, whom it asks), deliver 1 (to node 1, which asked)
 abbrev a5 : Effect
-a5 = sends w4.controller (node [] 0 follower) (Asks (ask [])) (AsksFrom 0 None)
+a5 = sends (node [] 0 follower) (Asks (ask [])) (AsksFrom 0 None)
 
 abbrev w5 : World
 w5 = moved w4 1 a5
@@ -111,7 +111,7 @@ e5 = did w4 1 Ask a5 (omega arith) tt refl refl
 
 abbrev a6 : Effect
 a6 =
-    sends w5.controller (node (batch ∷ []) 0 (Leads (leader (None ∷ Some 0 ∷ None ∷ None ∷ None ∷ None ∷ None ∷ []))))
+    sends (node (batch ∷ []) 0 (Leads (leader (None ∷ Some 0 ∷ None ∷ None ∷ None ∷ None ∷ None ∷ []))))
     (Answers (record { request = ask []; log = batch ∷ []; watermark = 0 })) (SentBatches 1 0)
 
 abbrev w6 : World
@@ -122,7 +122,7 @@ unfolding size_of covered record_spelling record_fields records_spelling varint 
 e6 = did w5 0 (Receive (Asks (ask []))) a6 (omega arith) (0, refl) refl (inl (record { rest = batch ∷ []; is = refl }, refl))
 
 abbrev a7 : Effect
-a7 = becomes w6.controller (node (batch ∷ []) 0 follower) (Took 1 0)
+a7 = becomes (node (batch ∷ []) 0 follower) (Took 1 0)
 
 abbrev pub w7 : World
 w7 = moved w6 1 a7
@@ -134,7 +134,7 @@ e7 = did w6 1 (Receive (Answers (record { request = ask []; log = batch ∷ []; 
 
 -- ask 1 again, deliver 2, raise 0: the batch is committed
 abbrev a8 : Effect
-a8 = sends w7.controller (node (batch ∷ []) 0 follower) (Asks (ask (batch ∷ []))) (AsksFrom 1 (Some 0))
+a8 = sends (node (batch ∷ []) 0 follower) (Asks (ask (batch ∷ []))) (AsksFrom 1 (Some 0))
 
 abbrev w8 : World
 w8 = moved w7 1 a8
@@ -147,7 +147,7 @@ reports = None ∷ Some 1 ∷ None ∷ None ∷ None ∷ None ∷ None ∷ []
 
 abbrev a9 : Effect
 a9 =
-    sends w8.controller (node (batch ∷ []) 0 (Leads (leader reports)))
+    sends (node (batch ∷ []) 0 (Leads (leader reports)))
     (Answers (record { request = ask (batch ∷ []); log = batch ∷ []; watermark = 0 })) (SentBatches 0 0)
 
 abbrev w9 : World
@@ -158,7 +158,7 @@ unfolding end_for
 e9 = did w8 0 (Receive (Asks (ask (batch ∷ [])))) a9 (omega arith) (2, refl) refl (inl (record { rest = []; is = refl }, refl))
 
 abbrev a10 : Effect
-a10 = becomes w9.controller (node (batch ∷ []) 1 (Leads (leader reports))) (MarkAt 1)
+a10 = becomes (node (batch ∷ []) 1 (Leads (leader reports))) (MarkAt 1)
 
 abbrev w10 : World
 w10 = moved w9 0 a10
@@ -198,7 +198,7 @@ abbrev again : Mode → Node
 again mode = record { log = batch ∷ []; watermark = 0; checkpoint = 0; life = 1; kept = Some 0; mode = mode }
 
 abbrev a11 : Effect
-a11 = becomes w10.controller (node (batch ∷ []) 0 Down) Stopped
+a11 = becomes (node (batch ∷ []) 0 Down) Stopped
 
 abbrev w11 : World
 w11 = moved w10 1 a11
@@ -207,7 +207,7 @@ e11 : Step w10 (Acts 1 Stop) (told Stopped) w11
 e11 = did w10 1 Stop a11 (omega arith) tt refl refl
 
 abbrev a12 : Effect
-a12 = becomes w11.controller (again Idle) (Restarted 1 1 0)
+a12 = becomes (again Idle) (Restarted 1 1 0)
 
 abbrev w12 : World
 w12 = moved w11 1 a12
@@ -216,7 +216,7 @@ e12 : Step w11 (Acts 1 Restart) (told (Restarted 1 1 0)) w12
 e12 = did w11 1 Restart a12 (omega arith) tt refl refl
 
 abbrev a13 : Effect
-a13 = becomes w12.controller (again follower) (NowFollows 0 0)
+a13 = becomes (again follower) (NowFollows 0 0)
 
 abbrev w13 : World
 w13 = moved w12 1 a13
@@ -225,7 +225,7 @@ e13 : Step w12 (Acts 1 Adopt) (told (NowFollows 0 0)) w13
 e13 = did w12 1 Adopt a13 (omega arith) tt refl refl
 
 abbrev a14 : Effect
-a14 = becomes w13.controller (again follower) (Took 1 0)
+a14 = becomes (again follower) (Took 1 0)
 
 e14 : Step w13 (Deliver 3) (told (Took 1 0)) (moved w13 1 a14)
 unfolding end_for
@@ -234,7 +234,7 @@ e14 =
     (record { begins = record { rest = []; is = refl }; same = refl }, refl)
 
 -- deliver 1: it was asked for with another log
-e13_stale : Step w13 (Deliver 1) (told (Refused refusals.StaleAnswer)) (moved w13 1 (becomes w13.controller (w13.nodes 1) (Refused refusals.StaleAnswer)))
+e13_stale : Step w13 (Deliver 1) (told (Refused refusals.StaleAnswer)) (moved w13 1 (becomes (w13.nodes 1) (Refused refusals.StaleAnswer)))
 e13_stale =
     record {
       counted = omega arith;

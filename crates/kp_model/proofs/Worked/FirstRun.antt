@@ -34,7 +34,7 @@ did w n act e counted given free h =
     }
 
 abbrev refuses : World → ℕ → Refusal → Effect
-refuses w n refusal = becomes w.controller (w.nodes n) (Refused refusal)
+refuses w n refusal = becomes (w.nodes n) (Refused refusal)
 
 abbrev did_not : (w : World) (n : ℕ) (act : Act) (refusal : Refusal) → n < w.count → IsGiven w.messages act
     → cause w.controller n (w.nodes n) act ≡ Some refusal
@@ -82,7 +82,7 @@ e1_produce = did_not w1 0 (Produce (Ok body)) refusals.NotLeader (omega arith) t
 
 -- adopt 0
 abbrev a2 : Effect
-a2 = becomes chosen (node [] 0) (NowLeads 0 0)
+a2 = becomes (node [] 0) (NowLeads 0 0)
 
 abbrev w2 : World
 w2 = moved w1 0 a2
@@ -108,7 +108,7 @@ lawful =
     }
 
 abbrev a3 : Effect
-a3 = becomes chosen (node (batch ∷ []) 0) (At 0)
+a3 = becomes (node (batch ∷ []) 0) (At 0)
 
 abbrev w3 : World
 w3 = moved w2 0 a3
@@ -119,7 +119,7 @@ e3 = did w2 0 (Produce (Ok body)) a3 (omega arith) tt refl (lawful, refl)
 
 -- read 0 from 0: nothing lies below the watermark yet
 abbrev a4 : Effect
-a4 = becomes chosen (node (batch ∷ []) 0) (Lines [])
+a4 = becomes (node (batch ∷ []) 0) (Lines [])
 
 abbrev w4 : World
 w4 = moved w3 0 a4
@@ -130,7 +130,7 @@ e4 = did w3 0 (Read 0) a4 (omega arith) tt refl refl
 
 -- raise 0: it is alone in sync, so its own end is committed
 abbrev a5 : Effect
-a5 = becomes chosen (node (batch ∷ []) 1) (MarkAt 1)
+a5 = becomes (node (batch ∷ []) 1) (MarkAt 1)
 
 abbrev w5 : World
 w5 = moved w4 0 a5
@@ -143,7 +143,7 @@ abbrev line : Line
 line = record { offset = 0; value = Some (0x61 ∷ []) }
 
 abbrev a6 : Effect
-a6 = becomes chosen (node (batch ∷ []) 1) (Lines (line ∷ []))
+a6 = becomes (node (batch ∷ []) 1) (Lines (line ∷ []))
 
 abbrev w6 : World
 w6 = moved w5 0 a6
@@ -154,7 +154,7 @@ e6 = did w5 0 (Read 0) a6 (omega arith) tt refl refl
 
 -- show 0: its life, its log's end, its watermark and its stable offset
 abbrev a7 : Effect
-a7 = becomes chosen (node (batch ∷ []) 1) (Shown 0 1 1 1)
+a7 = becomes (node (batch ∷ []) 1) (Shown 0 1 1 1)
 
 abbrev w7 : World
 w7 = moved w6 0 a7

@@ -27,7 +27,7 @@ use Rattle.kp_model.proofs.Worked.ExampleRun.{did, batch, leader, node, w7, take
 
 -- an action that is refused leaves the world as it is
 abbrev refuses : World → ℕ → Refusal → Effect
-refuses w n refusal = becomes w.controller (w.nodes n) (Refused refusal)
+refuses w n refusal = becomes (w.nodes n) (Refused refusal)
 
 abbrev did_not : (w : World) (n : ℕ) (act : Act) (refusal : Refusal) → n < w.count → IsGiven w.messages act
     → cause w.controller n (w.nodes n) act ≡ Some refusal → NodeStep w n act (told (Refused refusal)) (moved w n (refuses w n refusal))
@@ -117,7 +117,7 @@ heard = None ∷ Some 0 ∷ None ∷ None ∷ None ∷ None ∷ None ∷ []
 -- produce at 0, elect 1, adopt 1, leave of 0 at 1, deliver 2 (to the controller), deliver 3 (what it decided), produce at 1,
 -- raise 1: node 1 commits alone
 abbrev a8 : Effect
-a8 = becomes w7.controller (node own 0 (Leads (leader heard))) (At 1)
+a8 = becomes (node own 0 (Leads (leader heard))) (At 1)
 
 abbrev w8 : World
 w8 = moved w7 0 a8
@@ -133,7 +133,7 @@ e9 : Step w8 (Elect 1) (told (Changed (by (0 ∷ 1 ∷ []) 2))) w9
 e9 = (refl, refl)
 
 abbrev a10 : Effect
-a10 = becomes (by (0 ∷ 1 ∷ []) 2) (later (batch ∷ []) 0 (leads (0 ∷ 1 ∷ []) 2 no_reports)) (NowLeads 1 1)
+a10 = becomes (later (batch ∷ []) 0 (leads (0 ∷ 1 ∷ []) 2 no_reports)) (NowLeads 1 1)
 
 abbrev w10 : World
 w10 = moved w9 1 a10
@@ -143,7 +143,7 @@ e10 = did w9 1 Adopt a10 (omega arith) tt refl refl
 
 abbrev a11 : Effect
 a11 =
-    sends (by (0 ∷ 1 ∷ []) 2) (later (batch ∷ []) 0 (asking (0 ∷ 1 ∷ []) 2 (Some (1 ∷ [])) no_reports))
+    sends (later (batch ∷ []) 0 (asking (0 ∷ 1 ∷ []) 2 (Some (1 ∷ [])) no_reports))
     (Proposes (proposed (by (0 ∷ 1 ∷ []) 2) (1 ∷ []))) (SentProposal (1 ∷ []) 2)
 
 abbrev w11 : World
@@ -162,7 +162,7 @@ e11_decided : Step w11 (Deliver 2) (record { reply = SentDecision (by (1 ∷ [])
 e11_decided = (refl, refl)
 
 abbrev a11_learned : Effect
-a11_learned = becomes (by (1 ∷ []) 3) (later (batch ∷ []) 0 (leads (1 ∷ []) 3 no_reports)) (Learned (1 ∷ []) 3)
+a11_learned = becomes (later (batch ∷ []) 0 (leads (1 ∷ []) 3 no_reports)) (Learned (1 ∷ []) 3)
 
 abbrev w11_learned : World
 w11_learned = moved w11_decided 1 a11_learned
@@ -171,7 +171,7 @@ e11_learned : Step w11_decided (Deliver 3) (told (Learned (1 ∷ []) 3)) w11_lea
 e11_learned = did w11_decided 1 (Receive (Decides left)) a11_learned (omega arith) (3, refl) refl refl
 
 abbrev a12 : Effect
-a12 = becomes (by (1 ∷ []) 3) (later theirs 0 (leads (1 ∷ []) 3 no_reports)) (At 1)
+a12 = becomes (later theirs 0 (leads (1 ∷ []) 3 no_reports)) (At 1)
 
 abbrev w12 : World
 w12 = moved w11_learned 1 a12
@@ -181,7 +181,7 @@ unfolding admit
 e12 = did w11_learned 1 (Produce (Ok (text 30 0x63))) a12 (omega arith) tt refl (c_lawful, refl)
 
 abbrev a13 : Effect
-a13 = becomes (by (1 ∷ []) 3) (later theirs 2 (leads (1 ∷ []) 3 no_reports)) (MarkAt 2)
+a13 = becomes (later theirs 2 (leads (1 ∷ []) 3 no_reports)) (MarkAt 2)
 
 abbrev w13 : World
 w13 = moved w12 1 a13
@@ -191,7 +191,7 @@ e13 = did w12 1 Raise a13 (omega arith) tt refl refl
 
 -- adopt 0, ask 0, deliver 4: node 1's epoch 0 ends below node 0's log
 abbrev a14 : Effect
-a14 = becomes (by (1 ∷ []) 3) (later own 0 follows) (NowFollows 1 1)
+a14 = becomes (later own 0 follows) (NowFollows 1 1)
 
 abbrev w14 : World
 w14 = moved w13 0 a14
@@ -200,7 +200,7 @@ e14 : Step w13 (Acts 0 Adopt) (told (NowFollows 1 1)) w14
 e14 = did w13 0 Adopt a14 (omega arith) tt refl refl
 
 abbrev a15 : Effect
-a15 = sends (by (1 ∷ []) 3) (later own 0 follows) (Asks (asks own)) (AsksFrom 2 (Some 0))
+a15 = sends (later own 0 follows) (Asks (asks own)) (AsksFrom 2 (Some 0))
 
 abbrev w15 : World
 w15 = moved w14 0 a15
@@ -220,7 +220,7 @@ diverge : Begins own theirs → ⊥
 diverge p = let short = apart own (record { rest = []; is = refl }) p in omega arith
 
 abbrev a16 : Effect
-a16 = sends (by (1 ∷ []) 3) (later theirs 2 (leads (1 ∷ []) 3 no_reports)) (Answers (answers own)) (SentDiverging (Some (0, 1)))
+a16 = sends (later theirs 2 (leads (1 ∷ []) 3 no_reports)) (Answers (answers own)) (SentDiverging (Some (0, 1)))
 
 abbrev w16 : World
 w16 = moved w15 1 a16
@@ -231,7 +231,7 @@ e16 = did w15 1 (Receive (Asks (asks own))) a16 (omega arith) (4, refl) refl (in
 
 -- deliver 5: node 0 cuts to where its own log and node 1's part
 abbrev a17 : Effect
-a17 = becomes (by (1 ∷ []) 3) (later (batch ∷ []) 0 follows) (Cut 1)
+a17 = becomes (later (batch ∷ []) 0 follows) (Cut 1)
 
 abbrev w17 : World
 w17 = moved w16 0 a17
@@ -240,7 +240,7 @@ place : cut_place own (Some (0, 1)) ≡ 1
 unfolding cut_place end_for
 place = refl
 
-cut_is : Cuts (by (1 ∷ []) 3) (w16.nodes 0) (answers own) a17
+cut_is : Cuts (w16.nodes 0) (answers own) a17
 cut_is =
     record {
       diverges = diverge;
@@ -272,7 +272,7 @@ e18 = did_not w17 1 (Join 0) refusals.NotCaughtUp (omega arith) tt refl
 
 -- ask 0, deliver 6: what is left begins node 1's log; join of 0 at 1: its reported end lies below the watermark
 abbrev a19 : Effect
-a19 = sends (by (1 ∷ []) 3) (later (batch ∷ []) 0 follows) (Asks (asks (batch ∷ []))) (AsksFrom 1 (Some 0))
+a19 = sends (later (batch ∷ []) 0 follows) (Asks (asks (batch ∷ []))) (AsksFrom 1 (Some 0))
 
 abbrev w19 : World
 w19 = moved w18 0 a19
@@ -284,7 +284,7 @@ abbrev at_end : ℕ → List (Option ℕ)
 at_end end = Some end ∷ None ∷ None ∷ None ∷ None ∷ None ∷ None ∷ []
 
 abbrev a20 : Effect
-a20 = sends (by (1 ∷ []) 3) (later theirs 2 (leads (1 ∷ []) 3 (at_end 1))) (Answers (answers (batch ∷ []))) (SentBatches 1 2)
+a20 = sends (later theirs 2 (leads (1 ∷ []) 3 (at_end 1))) (Answers (answers (batch ∷ []))) (SentBatches 1 2)
 
 abbrev w20 : World
 w20 = moved w19 1 a20
@@ -301,7 +301,7 @@ e21 = did_not w20 1 (Join 0) refusals.NotCaughtUp (omega arith) tt refl
 
 -- deliver 7: node 0 takes the batch in the place of the one that it cut
 abbrev a22 : Effect
-a22 = becomes (by (1 ∷ []) 3) (later theirs 2 follows) (Took 2 2)
+a22 = becomes (later theirs 2 follows) (Took 2 2)
 
 abbrev w22 : World
 w22 = moved w21 0 a22
@@ -313,7 +313,7 @@ e22 = did w21 0 (Receive (Answers (answers (batch ∷ [])))) a22 (omega arith) (
 
 -- ask 0, deliver 8, join of 0 at 1, deliver 10 and 11: it is in sync again
 abbrev a23 : Effect
-a23 = sends (by (1 ∷ []) 3) (later theirs 2 follows) (Asks (asks theirs)) (AsksFrom 2 (Some 1))
+a23 = sends (later theirs 2 follows) (Asks (asks theirs)) (AsksFrom 2 (Some 1))
 
 abbrev w23 : World
 w23 = moved w22 0 a23
@@ -322,7 +322,7 @@ e23 : Step w22 (Acts 0 Ask) (record { reply = AsksFrom 2 (Some 1); number = Some
 e23 = did w22 0 Ask a23 (omega arith) tt refl refl
 
 abbrev a24 : Effect
-a24 = sends (by (1 ∷ []) 3) (later theirs 2 (leads (1 ∷ []) 3 (at_end 2))) (Answers (answers theirs)) (SentBatches 0 2)
+a24 = sends (later theirs 2 (leads (1 ∷ []) 3 (at_end 2))) (Answers (answers theirs)) (SentBatches 0 2)
 
 abbrev w24 : World
 w24 = moved w23 1 a24
@@ -333,7 +333,7 @@ e24 = did w23 1 (Receive (Asks (asks theirs))) a24 (omega arith) (8, refl) refl 
 
 abbrev a25 : Effect
 a25 =
-    sends (by (1 ∷ []) 3) (later theirs 2 (asking (1 ∷ []) 3 (Some (0 ∷ 1 ∷ [])) (at_end 2)))
+    sends (later theirs 2 (asking (1 ∷ []) 3 (Some (0 ∷ 1 ∷ [])) (at_end 2)))
     (Proposes (proposed (by (1 ∷ []) 3) (0 ∷ 1 ∷ []))) (SentProposal (0 ∷ 1 ∷ []) 3)
 
 abbrev w25 : World
@@ -352,7 +352,7 @@ e25_decided : Step w25 (Deliver 10) (record { reply = SentDecision (by (0 ∷ 1 
 e25_decided = (refl, refl)
 
 abbrev a25_learned : Effect
-a25_learned = becomes (by (0 ∷ 1 ∷ []) 4) (later theirs 2 (leads (0 ∷ 1 ∷ []) 4 (at_end 2))) (Learned (0 ∷ 1 ∷ []) 4)
+a25_learned = becomes (later theirs 2 (leads (0 ∷ 1 ∷ []) 4 (at_end 2))) (Learned (0 ∷ 1 ∷ []) 4)
 
 abbrev w25_learned : World
 w25_learned = moved w25_decided 1 a25_learned
@@ -365,7 +365,7 @@ abbrev lines : List Line
 lines = record { offset = 0; value = Some (0x61 ∷ []) } ∷ record { offset = 1; value = Some (0x63 ∷ []) } ∷ []
 
 abbrev a26 : Effect
-a26 = becomes (by (0 ∷ 1 ∷ []) 4) (later theirs 2 follows) (Lines lines)
+a26 = becomes (later theirs 2 follows) (Lines lines)
 
 abbrev w26 : World
 w26 = moved w25_learned 0 a26

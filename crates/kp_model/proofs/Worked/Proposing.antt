@@ -13,12 +13,12 @@ use Rattle.kp_model.proofs.OneStep.Steps.{was_refused}
 use Rattle.kp_model.proofs.Worked.ExampleRun.{did, batch, w4}
 
 abbrev did_not : (w : World) (n : ℕ) (act : Act) (refusal : Refusal) → n < w.count → IsGiven w.messages act → cause w.controller n (w.nodes n) act ≡ Some refusal
-    → NodeStep w n act (told (Refused refusal)) (moved w n (becomes w.controller (w.nodes n) (Refused refusal)))
+    → NodeStep w n act (told (Refused refusal)) (moved w n (becomes (w.nodes n) (Refused refusal)))
 did_not w n act refusal counted given held =
     record {
       counted = counted;
       given = given;
-      effect = becomes w.controller (w.nodes n) (Refused refusal);
+      effect = becomes (w.nodes n) (Refused refusal);
       local = was_refused w.controller n (w.nodes n) act refusal held;
       outcome_is = refl;
       new_is = refl;
@@ -53,7 +53,7 @@ waiting = node 0 0 0 (leads 0 both 1 (Some alone) 0)
 
 -- leave 0 1: the set is pending, and the watermark still waits for node 1
 abbrev a5 : Effect
-a5 = sends (by 0 both 1) waiting (Proposes asking) (SentProposal alone 1)
+a5 = sends waiting (Proposes asking) (SentProposal alone 1)
 
 abbrev w5 : World
 w5 = moved w4 0 a5
@@ -62,7 +62,7 @@ e5 : Step w4 (Acts 0 (Leave 1)) (record { reply = SentProposal alone 1; number =
 e5 = did w4 0 (Leave 1) a5 (omega arith) tt refl refl
 
 abbrev a6 : Effect
-a6 = becomes (by 0 both 1) waiting (MarkAt 0)
+a6 = becomes waiting (MarkAt 0)
 
 abbrev w6 : World
 w6 = moved w5 0 a6
@@ -77,11 +77,11 @@ w7 = moved w6 0 a5
 e7 : Step w6 (Acts 0 (Leave 1)) (record { reply = SentProposal alone 1; number = Some 1 }) w7
 e7 = did w6 0 (Leave 1) a5 (omega arith) tt refl refl
 
-e7_join : Step w7 (Acts 0 (Join 1)) (told (Refused refusals.ChangePending)) (moved w7 0 (becomes w7.controller (w7.nodes 0) (Refused refusals.ChangePending)))
+e7_join : Step w7 (Acts 0 (Join 1)) (told (Refused refusals.ChangePending)) (moved w7 0 (becomes (w7.nodes 0) (Refused refusals.ChangePending)))
 e7_join = did_not w7 0 (Join 1) refusals.ChangePending (omega arith) tt refl
 
 -- a proposal that comes to a node is to no request of it
-e7_node : Step w7 (Acts 1 (Receive (Proposes asking))) (told (Refused refusals.StaleAnswer)) (moved w7 1 (becomes w7.controller (w7.nodes 1) (Refused refusals.StaleAnswer)))
+e7_node : Step w7 (Acts 1 (Receive (Proposes asking))) (told (Refused refusals.StaleAnswer)) (moved w7 1 (becomes (w7.nodes 1) (Refused refusals.StaleAnswer)))
 e7_node = did_not w7 1 (Receive (Proposes asking)) refusals.StaleAnswer (omega arith) (0, refl) refl
 
 -- deliver 0: the controller follows it; raise 0: the leader hasn't learned of it
@@ -92,7 +92,7 @@ e8 : Step w7 (Deliver 0) (record { reply = SentDecision (by 0 alone 2); number =
 e8 = (refl, refl)
 
 abbrev a9 : Effect
-a9 = becomes (by 0 alone 2) waiting (MarkAt 0)
+a9 = becomes waiting (MarkAt 0)
 
 abbrev w9 : World
 w9 = moved w8 0 a9
@@ -109,7 +109,7 @@ e10 = (refl, refl)
 
 -- deliver 3: the leader learns, and is alone in sync; raise 0
 abbrev a11 : Effect
-a11 = becomes (by 0 alone 2) (node 0 0 0 (leads 0 alone 2 None 0)) (Learned alone 2)
+a11 = becomes (node 0 0 0 (leads 0 alone 2 None 0)) (Learned alone 2)
 
 abbrev w11 : World
 w11 = moved w10 0 a11
@@ -118,7 +118,7 @@ e11 : Step w10 (Deliver 3) (told (Learned alone 2)) w11
 e11 = did w10 0 (Receive (Decides made)) a11 (omega arith) (3, refl) refl refl
 
 abbrev a12 : Effect
-a12 = becomes (by 0 alone 2) (node 1 0 0 (leads 0 alone 2 None 0)) (MarkAt 1)
+a12 = becomes (node 1 0 0 (leads 0 alone 2 None 0)) (MarkAt 1)
 
 abbrev w12 : World
 w12 = moved w11 0 a12
@@ -130,12 +130,12 @@ committed : held (w12.nodes 0) ≡ batch ∷ []
 committed = refl
 
 -- deliver 2: that is known
-e12_known : Step w12 (Deliver 2) (told (Refused refusals.StaleAnswer)) (moved w12 0 (becomes w12.controller (w12.nodes 0) (Refused refusals.StaleAnswer)))
+e12_known : Step w12 (Deliver 2) (told (Refused refusals.StaleAnswer)) (moved w12 0 (becomes (w12.nodes 0) (Refused refusals.StaleAnswer)))
 e12_known = did_not w12 0 (Receive (Decides made)) refusals.StaleAnswer (omega arith) (2, refl) refl
 
 -- stop 0, restart 0, adopt 0: it led in this epoch; elect 0, adopt 0: it leads in the next one
 abbrev a13 : Effect
-a13 = becomes (by 0 alone 2) (node 1 0 0 Down) Stopped
+a13 = becomes (node 1 0 0 Down) Stopped
 
 abbrev w13 : World
 w13 = moved w12 0 a13
@@ -144,7 +144,7 @@ e13 : Step w12 (Acts 0 Stop) (told Stopped) w13
 e13 = did w12 0 Stop a13 (omega arith) tt refl refl
 
 abbrev a14 : Effect
-a14 = becomes (by 0 alone 2) (node 0 1 0 Idle) (Restarted 1 1 0)
+a14 = becomes (node 0 1 0 Idle) (Restarted 1 1 0)
 
 abbrev w14 : World
 w14 = moved w13 0 a14
@@ -152,7 +152,7 @@ w14 = moved w13 0 a14
 e14 : Step w13 (Acts 0 Restart) (told (Restarted 1 1 0)) w14
 e14 = did w13 0 Restart a14 (omega arith) tt refl refl
 
-e14_adopt : Step w14 (Acts 0 Adopt) (told (Refused refusals.StaleRecord)) (moved w14 0 (becomes w14.controller (w14.nodes 0) (Refused refusals.StaleRecord)))
+e14_adopt : Step w14 (Acts 0 Adopt) (told (Refused refusals.StaleRecord)) (moved w14 0 (becomes (w14.nodes 0) (Refused refusals.StaleRecord)))
 e14_adopt = did_not w14 0 Adopt refusals.StaleRecord (omega arith) tt refl
 
 abbrev w15 : World
@@ -162,7 +162,7 @@ e15 : Step w14 (Elect 0) (told (Changed (by 1 alone 3))) w15
 e15 = (refl, refl)
 
 abbrev a16 : Effect
-a16 = becomes (by 1 alone 3) (node 0 1 1 (leads 1 alone 3 None 1)) (NowLeads 1 1)
+a16 = becomes (node 0 1 1 (leads 1 alone 3 None 1)) (NowLeads 1 1)
 
 e16 : Step w15 (Acts 0 Adopt) (told (NowLeads 1 1)) (moved w15 0 a16)
 e16 = did w15 0 Adopt a16 (omega arith) tt refl refl

@@ -18,7 +18,9 @@ use Rattle.kp_model.specs.Effect.{Effect, becomes, sends}
 use Rattle.kp_model.specs.Fetching.{Cuts}
 use Rattle.kp_model.specs.Step.{Step, moved, told}
 use Rattle.kp_model.specs.Run.{Run, extend, held}
-use Rattle.kp_model.proofs.OneStep.Steps.{was_refused}
+use Rattle.kp_model.specs.Laws.{IsRound, IsTake, IsReconciled}
+use Rattle.kp_model.proofs.OneStep.Steps.{happened, was_refused}
+use Rattle.kp_model.proofs.Cuts.Cutting.{rounds_and_a_take_reconcile}
 use Rattle.kp_model.proofs.Worked.ExampleRun.{did, body, leader, lawful, w7, taken}
 
 -- the batches by their base offset and leader epoch
@@ -55,7 +57,7 @@ heard = None ∷ Some 0 ∷ None ∷ None ∷ None ∷ None ∷ None ∷ []
 
 -- produce at 0, elect 1, adopt 1, produce at 1
 abbrev a8 : Effect
-a8 = becomes w7.controller (node 0 (at 0 0 ∷ at 1 0 ∷ []) 0 (Leads (leader heard))) (At 1)
+a8 = becomes (node 0 (at 0 0 ∷ at 1 0 ∷ []) 0 (Leads (leader heard))) (At 1)
 
 abbrev w8 : World
 w8 = moved w7 0 a8
@@ -71,7 +73,7 @@ e9 : Step w8 (Elect 1) (told (Changed (by 1 1))) w9
 e9 = (refl, refl)
 
 abbrev a10 : Effect
-a10 = becomes (by 1 1) (node 1 (at 0 0 ∷ []) 0 (leads 1 1 no_reports)) (NowLeads 1 1)
+a10 = becomes (node 1 (at 0 0 ∷ []) 0 (leads 1 1 no_reports)) (NowLeads 1 1)
 
 abbrev w10 : World
 w10 = moved w9 1 a10
@@ -80,7 +82,7 @@ e10 : Step w9 (Acts 1 Adopt) (told (NowLeads 1 1)) w10
 e10 = did w9 1 Adopt a10 (omega arith) tt refl refl
 
 abbrev a11 : Effect
-a11 = becomes (by 1 1) (node 1 (at 0 0 ∷ at 1 1 ∷ []) 0 (leads 1 1 no_reports)) (At 1)
+a11 = becomes (node 1 (at 0 0 ∷ at 1 1 ∷ []) 0 (leads 1 1 no_reports)) (At 1)
 
 abbrev w11 : World
 w11 = moved w10 1 a11
@@ -97,7 +99,7 @@ e12 : Step w11 (Elect 0) (told (Changed (by 0 2))) w12
 e12 = (refl, refl)
 
 abbrev a13 : Effect
-a13 = becomes (by 0 2) (node 2 (at 0 0 ∷ at 1 0 ∷ []) 0 (leads 2 2 no_reports)) (NowLeads 2 2)
+a13 = becomes (node 2 (at 0 0 ∷ at 1 0 ∷ []) 0 (leads 2 2 no_reports)) (NowLeads 2 2)
 
 abbrev w13 : World
 w13 = moved w12 0 a13
@@ -106,7 +108,7 @@ e13 : Step w12 (Acts 0 Adopt) (told (NowLeads 2 2)) w13
 e13 = did w12 0 Adopt a13 (omega arith) tt refl refl
 
 abbrev a14 : Effect
-a14 = becomes (by 0 2) (node 2 own 0 (leads 2 2 no_reports)) (At 2)
+a14 = becomes (node 2 own 0 (leads 2 2 no_reports)) (At 2)
 
 abbrev w14 : World
 w14 = moved w13 0 a14
@@ -123,7 +125,7 @@ e15 : Step w14 (Elect 1) (told (Changed (by 1 3))) w15
 e15 = (refl, refl)
 
 abbrev a16 : Effect
-a16 = becomes (by 1 3) (node 3 (at 0 0 ∷ at 1 1 ∷ []) 0 (leads 3 2 no_reports)) (NowLeads 3 2)
+a16 = becomes (node 3 (at 0 0 ∷ at 1 1 ∷ []) 0 (leads 3 2 no_reports)) (NowLeads 3 2)
 
 abbrev w16 : World
 w16 = moved w15 1 a16
@@ -132,7 +134,7 @@ e16 : Step w15 (Acts 1 Adopt) (told (NowLeads 3 2)) w16
 e16 = did w15 1 Adopt a16 (omega arith) tt refl refl
 
 abbrev a17 : Effect
-a17 = becomes (by 1 3) (node 3 theirs 0 (leads 3 2 no_reports)) (At 2)
+a17 = becomes (node 3 theirs 0 (leads 3 2 no_reports)) (At 2)
 
 abbrev w17 : World
 w17 = moved w16 1 a17
@@ -142,7 +144,7 @@ unfolding admit
 e17 = did w16 1 (Produce (Ok body)) a17 (omega arith) tt refl (lawful, refl)
 
 abbrev a18 : Effect
-a18 = becomes (by 1 3) (node 3 own 0 follows) (NowFollows 1 3)
+a18 = becomes (node 3 own 0 follows) (NowFollows 1 3)
 
 abbrev w18 : World
 w18 = moved w17 0 a18
@@ -163,7 +165,7 @@ diverge p = let short = apart own (record { rest = []; is = refl }) p in omega a
 
 -- ask 0, deliver 2: node 1 lacks epoch 2, and answers where its epoch 1 ends. What begins both logs is the first batch at most.
 abbrev a19 : Effect
-a19 = sends (by 1 3) (node 3 own 0 follows) (Asks (asks own)) (AsksFrom 3 (Some 2))
+a19 = sends (node 3 own 0 follows) (Asks (asks own)) (AsksFrom 3 (Some 2))
 
 abbrev w19 : World
 w19 = moved w18 0 a19
@@ -172,7 +174,7 @@ e19 : Step w18 (Acts 0 Ask) (record { reply = AsksFrom 3 (Some 2); number = Some
 e19 = did w18 0 Ask a19 (omega arith) tt refl refl
 
 abbrev a20 : Effect
-a20 = sends (by 1 3) (node 3 theirs 0 (leads 3 2 no_reports)) (Answers (answers own)) (SentDiverging (Some (1, 2)))
+a20 = sends (node 3 theirs 0 (leads 3 2 no_reports)) (Answers (answers own)) (SentDiverging (Some (1, 2)))
 
 abbrev w20 : World
 w20 = moved w19 1 a20
@@ -183,12 +185,12 @@ e20 = did w19 1 (Receive (Asks (asks own))) a20 (omega arith) (2, refl) refl (in
 
 -- deliver 3: node 0 lacks epoch 1, and cuts at the end of its epoch 0
 abbrev a21 : Effect
-a21 = becomes (by 1 3) (node 3 (at 0 0 ∷ at 1 0 ∷ []) 0 follows) (Cut 2)
+a21 = becomes (node 3 (at 0 0 ∷ at 1 0 ∷ []) 0 follows) (Cut 2)
 
 abbrev w21 : World
 w21 = moved w20 0 a21
 
-first_round : Cuts (by 1 3) (w20.nodes 0) (answers own) a21
+first_round : Cuts (w20.nodes 0) (answers own) a21
 first_round =
     record {
       diverges = diverge;
@@ -226,7 +228,7 @@ diverge_once : Begins cut_once theirs → ⊥
 diverge_once p = let short = apart_once cut_once (record { rest = []; is = refl }) p in omega arith
 
 abbrev a22 : Effect
-a22 = sends (by 1 3) (node 3 cut_once 0 follows) (Asks (asks cut_once)) (AsksFrom 2 (Some 0))
+a22 = sends (node 3 cut_once 0 follows) (Asks (asks cut_once)) (AsksFrom 2 (Some 0))
 
 abbrev w22 : World
 w22 = moved w21 0 a22
@@ -235,7 +237,7 @@ e22 : Step w21 (Acts 0 Ask) (record { reply = AsksFrom 2 (Some 0); number = Some
 e22 = did w21 0 Ask a22 (omega arith) tt refl refl
 
 abbrev a23 : Effect
-a23 = sends (by 1 3) (node 3 theirs 0 (leads 3 2 no_reports)) (Answers (answers cut_once)) (SentDiverging (Some (0, 1)))
+a23 = sends (node 3 theirs 0 (leads 3 2 no_reports)) (Answers (answers cut_once)) (SentDiverging (Some (0, 1)))
 
 abbrev w23 : World
 w23 = moved w22 1 a23
@@ -245,12 +247,12 @@ unfolding end_for
 e23 = did w22 1 (Receive (Asks (asks cut_once))) a23 (omega arith) (4, refl) refl (inr (diverge_once, refl))
 
 abbrev a24 : Effect
-a24 = becomes (by 1 3) (node 3 (at 0 0 ∷ []) 0 follows) (Cut 1)
+a24 = becomes (node 3 (at 0 0 ∷ []) 0 follows) (Cut 1)
 
 abbrev w24 : World
 w24 = moved w23 0 a24
 
-second_round : Cuts (by 1 3) (w23.nodes 0) (answers cut_once) a24
+second_round : Cuts (w23.nodes 0) (answers cut_once) a24
 second_round =
     record {
       diverges = diverge_once;
@@ -279,7 +281,7 @@ second_place = refl
 
 -- deliver 3 again: the first round's answer is to no request that node 0 would make now
 abbrev a25 : Effect
-a25 = becomes (by 1 3) (w24.nodes 0) (Refused refusals.StaleAnswer)
+a25 = becomes (w24.nodes 0) (Refused refusals.StaleAnswer)
 
 abbrev w25 : World
 w25 = moved w24 0 a25
@@ -298,7 +300,7 @@ e25 =
 
 -- ask 0, deliver 6, deliver 7: node 0 takes what node 1 has; raise 1: what node 0 has reported is committed
 abbrev a26 : Effect
-a26 = sends (by 1 3) (node 3 (at 0 0 ∷ []) 0 follows) (Asks (asks (at 0 0 ∷ []))) (AsksFrom 1 (Some 0))
+a26 = sends (node 3 (at 0 0 ∷ []) 0 follows) (Asks (asks (at 0 0 ∷ []))) (AsksFrom 1 (Some 0))
 
 abbrev w26 : World
 w26 = moved w25 0 a26
@@ -310,7 +312,7 @@ abbrev reports : List (Option ℕ)
 reports = Some 1 ∷ None ∷ None ∷ None ∷ None ∷ None ∷ None ∷ []
 
 abbrev a27 : Effect
-a27 = sends (by 1 3) (node 3 theirs 0 (leads 3 2 reports)) (Answers (answers (at 0 0 ∷ []))) (SentBatches 2 0)
+a27 = sends (node 3 theirs 0 (leads 3 2 reports)) (Answers (answers (at 0 0 ∷ []))) (SentBatches 2 0)
 
 abbrev w27 : World
 w27 = moved w26 1 a27
@@ -320,7 +322,7 @@ unfolding end_for size_of covered record_spelling record_fields records_spelling
 e27 = did w26 1 (Receive (Asks (asks (at 0 0 ∷ [])))) a27 (omega arith) (6, refl) refl (inl (record { rest = at 1 1 ∷ at 2 3 ∷ []; is = refl }, refl))
 
 abbrev a28 : Effect
-a28 = becomes (by 1 3) (node 3 theirs 0 follows) (Took 3 0)
+a28 = becomes (node 3 theirs 0 follows) (Took 3 0)
 
 abbrev w28 : World
 w28 = moved w27 0 a28
@@ -331,7 +333,7 @@ e28 = did w27 0 (Receive (Answers (answers (at 0 0 ∷ [])))) a28 (omega arith) 
     (record { begins = record { rest = at 1 1 ∷ at 2 3 ∷ []; is = refl }; same = refl }, refl)
 
 abbrev a29 : Effect
-a29 = becomes (by 1 3) (node 3 theirs 1 (leads 3 2 reports)) (MarkAt 1)
+a29 = becomes (node 3 theirs 1 (leads 3 2 reports)) (MarkAt 1)
 
 abbrev w29 : World
 w29 = moved w28 1 a29
@@ -376,7 +378,7 @@ second_cut =
     (Deliver 5) (told (Cut 1)) w24 e24)
     (Deliver 3) (told (Refused refusals.StaleAnswer)) w25 e25
 
-whole : Run 2
+abbrev whole : Run 2
 whole =
     extend
     (extend
@@ -386,3 +388,71 @@ whole =
 
 committed : held (w29.nodes 1) ≡ at 0 0 ∷ []
 committed = refl
+
+-- ---- the two rounds and the take are what the law of reconciliations speaks of
+
+round_one : IsRound whole 0 3 own cut_once
+unfolding end_for
+round_one =
+    record {
+      answer = answers own;
+      hears =
+          record {
+            world = w20;
+            is_of = inr (inr (inr (inr (inr (inr (inr (inr (inr (inl refl)))))))));
+            sent = (3, refl);
+            of_epoch = refl;
+            effect = a21;
+            local = happened (by 1 3) 0 (w20.nodes 0) (Receive (Answers (answers own))) a21 refl first_round;
+            old_is = refl;
+            new_is = refl;
+          };
+      end = 2;
+      cut = refl;
+    }
+
+round_two : IsRound whole 0 3 cut_once (at 0 0 ∷ [])
+unfolding end_for
+round_two =
+    record {
+      answer = answers cut_once;
+      hears =
+          record {
+            world = w23;
+            is_of = inr (inr (inr (inr (inr (inr (inl refl))))));
+            sent = (5, refl);
+            of_epoch = refl;
+            effect = a24;
+            local = happened (by 1 3) 0 (w23.nodes 0) (Receive (Answers (answers cut_once))) a24 refl second_round;
+            old_is = refl;
+            new_is = refl;
+          };
+      end = 1;
+      cut = refl;
+    }
+
+first_take : IsTake whole 0 3 (answers (at 0 0 ∷ [])) (at 0 0 ∷ []) theirs
+unfolding end_for size_of covered record_spelling record_fields records_spelling varint varint_within sized sized_or_null
+first_take =
+    record {
+      hears =
+          record {
+            world = w27;
+            is_of = inr (inr (inl refl));
+            sent = (7, refl);
+            of_epoch = refl;
+            effect = a28;
+            local = happened (by 1 3) 0 (w27.nodes 0) (Receive (Answers (answers (at 0 0 ∷ [])))) a28 refl
+                (record { begins = record { rest = at 1 1 ∷ at 2 3 ∷ []; is = refl }; same = refl }, refl);
+            old_is = refl;
+            new_is = refl;
+          };
+      end = 3;
+      mark = 0;
+      took = refl;
+    }
+
+reconciled : IsReconciled own (at 0 0 ∷ []) theirs theirs
+reconciled =
+    rounds_and_a_take_reconcile 2 whole w27 0 1 _ (answers (at 0 0 ∷ [])) own (at 0 0 ∷ []) theirs (cut_once ∷ [])
+    (inr (inr (inl refl))) refl (round_one, round_two) first_take (7, refl)

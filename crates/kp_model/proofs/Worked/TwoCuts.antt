@@ -84,7 +84,7 @@ diverge_once p = let short = apart_once cut_once (record { rest = []; is = refl 
 
 -- ask 1, deliver 0: the leader has no epoch 3, and its epoch 2 ends at 5
 abbrev a1 : Effect
-a1 = sends record_is (node whole 0 follows) (Asks (asks whole)) (AsksFrom 6 (Some 3))
+a1 = sends (node whole 0 follows) (Asks (asks whole)) (AsksFrom 6 (Some 3))
 
 abbrev w1 : World
 w1 = moved w0 1 a1
@@ -93,7 +93,7 @@ e1 : Step w0 (Acts 1 Ask) (record { reply = AsksFrom 6 (Some 3); number = Some 0
 e1 = did w0 1 Ask a1 (omega arith) tt refl refl
 
 abbrev a2 : Effect
-a2 = sends record_is (node theirs 0 (leads no_reports)) (Answers (answers whole)) (SentDiverging (Some (2, 5)))
+a2 = sends (node theirs 0 (leads no_reports)) (Answers (answers whole)) (SentDiverging (Some (2, 5)))
 
 abbrev w2 : World
 w2 = moved w1 0 a2
@@ -104,7 +104,7 @@ e2 = did w1 0 (Receive (Asks (asks whole))) a2 (omega arith) (0, refl) refl (inr
 
 -- deliver 1: the follower has no epoch 2, and cuts at the end of its epoch 1
 abbrev a3 : Effect
-a3 = becomes record_is (node cut_once 0 follows) (Cut 4)
+a3 = becomes (node cut_once 0 follows) (Cut 4)
 
 abbrev w3 : World
 w3 = moved w2 1 a3
@@ -113,7 +113,7 @@ first_place : cut_place whole (Some (2, 5)) ≡ 4
 unfolding cut_place end_for
 first_place = refl
 
-first_cut : Cuts record_is (w2.nodes 1) (answers whole) a3
+first_cut : Cuts (w2.nodes 1) (answers whole) a3
 first_cut =
     record {
       diverges = diverge;
@@ -138,7 +138,7 @@ e3 = did w2 1 (Receive (Answers (answers whole))) a3 (omega arith) (1, refl) ref
 
 -- ask 1, deliver 2, deliver 3: the leader's epoch 1 ends at 3, and there the logs part
 abbrev a4 : Effect
-a4 = sends record_is (node cut_once 0 follows) (Asks (asks cut_once)) (AsksFrom 4 (Some 1))
+a4 = sends (node cut_once 0 follows) (Asks (asks cut_once)) (AsksFrom 4 (Some 1))
 
 abbrev w4 : World
 w4 = moved w3 1 a4
@@ -147,7 +147,7 @@ e4 : Step w3 (Acts 1 Ask) (record { reply = AsksFrom 4 (Some 1); number = Some 2
 e4 = did w3 1 Ask a4 (omega arith) tt refl refl
 
 abbrev a5 : Effect
-a5 = sends record_is (node theirs 0 (leads no_reports)) (Answers (answers cut_once)) (SentDiverging (Some (1, 3)))
+a5 = sends (node theirs 0 (leads no_reports)) (Answers (answers cut_once)) (SentDiverging (Some (1, 3)))
 
 abbrev w5 : World
 w5 = moved w4 0 a5
@@ -157,7 +157,7 @@ unfolding end_for
 e5 = did w4 0 (Receive (Asks (asks cut_once))) a5 (omega arith) (2, refl) refl (inr (diverge_once, refl))
 
 abbrev a6 : Effect
-a6 = becomes record_is (node (shared ∷ []) 0 follows) (Cut 3)
+a6 = becomes (node (shared ∷ []) 0 follows) (Cut 3)
 
 abbrev w6 : World
 w6 = moved w5 1 a6
@@ -166,7 +166,7 @@ second_place : cut_place cut_once (Some (1, 3)) ≡ 3
 unfolding cut_place end_for
 second_place = refl
 
-second_cut : Cuts record_is (w5.nodes 1) (answers cut_once) a6
+second_cut : Cuts (w5.nodes 1) (answers cut_once) a6
 second_cut =
     record {
       diverges = diverge_once;
@@ -191,7 +191,7 @@ e6 = did w5 1 (Receive (Answers (answers cut_once))) a6 (omega arith) (3, refl) 
 
 -- ask 1, deliver 4, deliver 5: from 3 on the leader's log goes on
 abbrev a7 : Effect
-a7 = sends record_is (node (shared ∷ []) 0 follows) (Asks (asks (shared ∷ []))) (AsksFrom 3 (Some 1))
+a7 = sends (node (shared ∷ []) 0 follows) (Asks (asks (shared ∷ []))) (AsksFrom 3 (Some 1))
 
 abbrev w7 : World
 w7 = moved w6 1 a7
@@ -201,7 +201,7 @@ e7 = did w6 1 Ask a7 (omega arith) tt refl refl
 
 abbrev a8 : Effect
 a8 =
-    sends record_is (node theirs 0 (leads (None ∷ Some 3 ∷ None ∷ None ∷ None ∷ None ∷ None ∷ [])))
+    sends (node theirs 0 (leads (None ∷ Some 3 ∷ None ∷ None ∷ None ∷ None ∷ None ∷ [])))
     (Answers (answers (shared ∷ []))) (SentBatches 2 0)
 
 abbrev w8 : World
@@ -214,7 +214,7 @@ e8 =
     (inl (record { rest = at 3 2 (letter ∷ letter ∷ []) ∷ at 5 4 (letter ∷ letter ∷ []) ∷ []; is = refl }, refl))
 
 abbrev a9 : Effect
-a9 = becomes record_is (node theirs 0 follows) (Took 7 0)
+a9 = becomes (node theirs 0 follows) (Took 7 0)
 
 e9 : Step w8 (Deliver 5) (told (Took 7 0)) (moved w8 1 a9)
 unfolding end_for size_of covered record_spelling record_fields records_spelling varint varint_within sized sized_or_null
