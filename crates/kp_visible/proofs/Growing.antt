@@ -305,3 +305,22 @@ visible_stays front more earlier later lawful le =
     apart_front : (low : ℕ) (xs ys : List Batch) → Apart low (xs ++ ys) → Apart low xs
     apart_front low [] ys h = tt
     apart_front low (x ∷ xs) ys h = (h.0, h.1, apart_front (next_offset x) xs ys h.2)
+
+-- ---- what lies above the high watermark counts for nothing
+
+pub visible_below : (log : List Batch) (high_watermark : ℕ) → IsLog log → visible log high_watermark ≡ visible (below high_watermark log) high_watermark
+unfolding visible
+visible_below log high_watermark lawful =
+    let apart = log_apart log lawful in
+    let known = below high_watermark log in
+    let f = front_of 0 high_watermark log apart in
+    let known_apart = apart_filter (λ x. leb (next_offset x) high_watermark) 0 log apart in
+    let high = stable_within known high_watermark known_apart in
+    let held = stable_known log high_watermark in
+    let shown = below (stable known high_watermark) known in
+    let same : below (stable log high_watermark) log ≡ shown =
+    sym (below_twice (stable log high_watermark) high_watermark log (omega (arith, high, held))) ∙ ap (λ (offset : ℕ). below offset known) (sym held) in
+    let stand = all_weaker _ (λ x. Contains known x × (next_offset x ≤ stable known high_watermark)) (λ x h. (h.0, leb-true (next_offset x) (stable known high_watermark) h.1)) shown
+    (all_filter (λ x. leb (next_offset x) (stable known high_watermark)) (Contains known) known (all_itself known)) in
+    let settled = filter_agree_on _ (is_visible (known ++ f.rest)) (is_visible known) (λ x h. settled_is known f.rest high_watermark x known_apart h.0 h.1) shown stand in
+    ap records_in (ap (filter (is_visible log)) same ∙ ap (λ (l : List Batch). filter (is_visible l) shown) f.is ∙ settled)

@@ -11,6 +11,7 @@ pub mod Stopping
 pub mod Showing
 pub mod Consumers
 pub mod Growing
+pub mod Runs
 pub mod Passing
 pub mod Keys
 pub mod Needed

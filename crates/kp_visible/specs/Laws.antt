@@ -5,7 +5,9 @@ use Rattle.std.specs.Option.{IsSomeAnd, option_and_then}
 use Rattle.kp_batch.specs.Batch.{records_of, is_transactional}
 use Rattle.kp_record.specs.Record.{Record}
 use Rattle.kp_model.specs.Beginning.{Begins}
-use Rattle.kp_model.specs.Log.{Batch, IsLog, next_offset, from_offset}
+use Rattle.kp_model.specs.Log.{Batch, IsLog, next_offset, below, from_offset}
+use Rattle.kp_model.specs.World.{World}
+use Rattle.kp_model.specs.Run.{Run, IsOf, held}
 use Rattle.kp_model.specs.Producers.{content_of, producer_of}
 use Rattle.kp_model.specs.Transactions.{is_abort, is_marker_of, stable}
 use Rattle.kp_model.specs.Visible.{is_commit, is_data, visible}
@@ -59,3 +61,15 @@ abbrev pub VisibleRecordsStay : Type 0
 VisibleRecordsStay =
     (front more : List Batch) (earlier later : ℕ) → IsLog (front ++ more) → earlier ≤ later
     → Begins (visible front earlier) (visible (front ++ more) later)
+
+-- What is visible at a high watermark is a matter of the batches below it alone.
+abbrev pub OnlyBatchesBelowCount : Type 0
+OnlyBatchesBelowCount =
+    (log : List Batch) (high_watermark : ℕ) → IsLog log → visible log high_watermark ≡ visible (below high_watermark log) high_watermark
+
+-- So in a run no node shows a record of an aborted transaction, at any moment: it is enough that the batch and the abort marker stand
+-- in what some node holds below its high watermark, at whatever moment, before or after (KIP-98).
+abbrev pub AbortedRecordsAreHiddenInRuns : Type 0
+AbortedRecordsAreHiddenInRuns =
+    (count : ℕ) (r : Run count) (v w : World) → IsOf v r → IsOf w r → (n m : ℕ) (b : Batch) → IsAbortedIn (held (v.nodes m)) b
+    → AllByRecursion (λ line. ¬ Spans b line.0) (visible (w.nodes n).log (w.nodes n).watermark)

@@ -19,7 +19,7 @@ ghost use Rattle.kp_model.specs.Transactions.{aborted_in, stable};
 ghost use Rattle.kp_model.specs.Visible.{is_visible, records_in, visible};
 ghost use Rattle.kp_visible.specs.Filter.{shows};
 ghost use Rattle.kp_visible.specs.Lent.{committed_left};
-ghost use Rattle.kp_visible.specs.Laws.{AbortedRecordsAreHidden, AbortedRecordsWereHidden, CommittedRecordsAreVisible, VisibleOffsetsRise, VisibleRecordsStay};
+ghost use Rattle.kp_visible.specs.Laws.{AbortedRecordsAreHidden, AbortedRecordsWereHidden, CommittedRecordsAreVisible, VisibleOffsetsRise, VisibleRecordsStay, OnlyBatchesBelowCount, AbortedRecordsAreHiddenInRuns};
 
 use crate::by_producer::ByProducer;
 use crate::filter::deciding;
@@ -80,3 +80,15 @@ pub fn committed_records_are_visible()
     ensures rising { VisibleOffsetsRise }
     ensures staying { VisibleRecordsStay }
 {}
+
+/// What is visible at a high watermark is a matter of the batches below it alone, so it is the same at all nodes of a run that hold
+/// the same. In a run no node shows a record of a transaction, at any moment, whose abort marker stands in what some node holds
+/// below its high watermark, at whatever moment. It costs nothing.
+pub fn aborted_records_are_hidden_in_runs()
+    ensures below { OnlyBatchesBelowCount }
+    ensures runs { AbortedRecordsAreHiddenInRuns }
+{
+    kp_model::runs_are_safe();
+    kp_model::runs_keep_logs();
+    kp_model::marks_are_ends();
+}
