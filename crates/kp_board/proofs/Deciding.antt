@@ -1,5 +1,5 @@
 -- A decision on a proposal, a step on word 0 by the proposal's pass, keeps the rule.
-use Rattle.std.proofs.Common.{◌≡◌, ◌≢◌, ℕ, ◌<◌, Bool, true, false, List, [], ◌∷◌, length, get_or, set, eqb, Option, Some, None, inr, refl, sym, ap, ◌∙◌, subst, arith, length-set, get_or-set_other, get_or-set_same, eq-eqb, ne_eqb}
+use Rattle.std.proofs.Common.{◌≡◌, ◌≢◌, ℕ, ◌<◌, Bool, true, false, List, [], ◌∷◌, ◌+◌, length, get_or, set, eqb, Option, Some, None, inl, inr, refl, sym, ap, ◌∙◌, subst, arith, length-set, get_or-set_other, get_or-set_same, eq-eqb, ne_eqb}
 use Rattle.std.specs.Prelude.{slice_get, nat_le, ◌&&◌, if◌then◌else◌}
 use mathlib.Core.Logic.{dite}
 use mathlib.Core.Option.{none, some}
@@ -20,12 +20,13 @@ use Rattle.kp_model.proofs.InRuns.RunLaws.{last_is_of}
 use Rattle.kp_model.proofs.Plain.SameRecords.{same_record_is}
 use Rattle.kp_control.specs.Word.{packed}
 use Rattle.kp_control.proofs.Words.{one_word}
-use Rattle.kp_board.specs.Views.{View, of_message, message_view}
-use Rattle.kp_board.specs.Rule.{mark_word, WasWatermark, Fits, Ruled}
-use Rattle.kp_board.specs.Plays.{IsRecordOfWord}
-use Rattle.kp_board.specs.Decisions.{EndsDeciding, ShowsDecision, ShowsAfter, Decided, unless_refused, record_after}
-use Rattle.kp_board.proofs.Steps.{sent_before, keeps_rule, looks_on, record_on}
-use Rattle.kp_board.proofs.Fitting.{record_word, sent_after}
+use Rattle.kp_board.specs.Views.{CallerView, View, of_caller}
+use Rattle.kp_board.specs.Rule.{mark_word, WasWatermark, WasRecord, WereRecords, AreSent, IsOfRun, FitsCaller, Ruled}
+use Rattle.kp_board.specs.Plays.{Finds}
+use Rattle.kp_board.specs.Decisions.{EndsDeciding, ShowsDecision, ShowsAfter, Decided, deciding, unless_refused, record_after}
+use Rattle.kp_board.proofs.Counting.{caller_counts}
+use Rattle.kp_board.proofs.Steps.{sent_before, caller_later, keeps_rule, looks_on, record_on}
+use Rattle.kp_board.proofs.Fitting.{caller_fits, same_caller, record_word, not_above, version_le, shown_now, sent_after}
 
 -- a proposal that names another record leaves this one
 not_named : (c : LeaderAndIsr) (p : Proposal) → same_record c p.known ≡ false → record_after c p ≡ c
@@ -77,60 +78,91 @@ module _ {n : ℕ} (r : Run n) (number : ℕ) (p : Proposal) (proposed : slice_g
   }
 
 -- a decision's record is newer than the one that its proposal names
-pub is_newer : (p : Proposal) (c : LeaderAndIsr) → ShowsDecision p c → p.known.version < (decided_on c p).version
-is_newer p c shows =
+pub is_newer : (p : Proposal) (c : LeaderAndIsr) (x : CallerView) → ShowsDecision p c x → p.known.version < (decided_on c p).version
+is_newer p c x shows =
     let n = shows.0 in
     let r = shows.1 in
-    let ends = shows.2 in
+    let ends = shows.3 in
     let here : last r ≡ ends.after = ap (λ (q : Run n). last q) ends.is in
     decisions_rise n r (last r) (last_is_of n r) (decision c p) (subst (λ (w : World). IsSent w.messages (Decides (decision c p))) (sym here) ends.sent)
 
-abbrev proposal_in : Message → Proposal → Proposal
-proposal_in (Proposes p) other = p
-proposal_in _ other = other
+-- the record's version rises by as many changes as the pass counts more
+rises_as_counted : (c : LeaderAndIsr) (p : Proposal) (x : CallerView) → length (deciding c p x).changes + c.version ≡ length x.changes + (decided_on c p).version
+rises_as_counted c p x = by_cases (same_record c p.known)
+  where
+    by_cases : (b : Bool) → length (if b then (if b then altered c p.isr else c) ∷ x.changes else x.changes) + c.version ≡ length x.changes + (if b then altered c p.isr else c).version
+    by_cases true = omega arith
+    by_cases false = refl
+
+-- and what it counts were records
+were_counted : {n : ℕ} (r : Run n) (b : Bool) (c : LeaderAndIsr) (cs : List LeaderAndIsr) → WasRecord r c → WereRecords r cs → WereRecords r (if b then c ∷ cs else cs)
+were_counted r true c cs a w = (a, w)
+were_counted r false c cs a w = w
 
 abbrev Same : Me ℕ View → Me ℕ View → Type 0
 Same a b = a ≡ b
 
-same_proposal : (p q : Proposal) → of_message (Proposes p) ≡ of_message (Proposes q) → p ≡ q
-same_proposal p q e = ap (λ (v : View). proposal_in (message_view v) p) e
+abbrev first_proposal : List Message → Proposal → Proposal
+first_proposal (Proposes p ∷ _) other = p
+first_proposal _ other = other
 
-module _ (n : ℕ) (id : ℕ) (m : Me ℕ View) (p : Proposal) (is : m.0 ≡ of_message (Proposes p)) (s : State ℕ View) (d : Ruled n s) (at : get_elem? s.views id ≡ some m.0) where
+same_first : (p q : Proposal) → Proposes p ∷ [] ≡ Proposes q ∷ [] → p ≡ q
+same_first p q e = ap (λ (ls : List Message). first_proposal ls p) e
+
+module _ (n : ℕ) (id : ℕ) (m : Me ℕ View) (x : CallerView) (p : Proposal) (is : m.0 ≡ of_caller x) (told : x.sent ≡ Proposes p ∷ []) (s : State ℕ View) (d : Ruled n s) (at : get_elem? s.views id ≡ some m.0) where
   abbrev now : LeaderAndIsr
   now = (last d.run).controller
 
+  fits : FitsCaller d.run s.words x
+  fits = caller_fits n s d id m.0 x at is
+
   proposed : IsSent (last d.run).messages (Proposes p)
-  proposed = subst (Fits d.run d.owner s.words id) is (d.seats id m.0 at)
+  proposed = (subst (AreSent (last d.run).messages) told fits.of_run.sent).0
 
   abbrev Picks : Option Refusal → ℕ → Type 0
   Picks o word = (w : View) × (a : Act ℕ) × Valid s.homes m.1 a × Ruled n (stepped s 0 word id m.1 w a)
-      × ((l : Message) × Same (w, carried_after m.1 a) (of_message l, m.1) × ShowsAfter o now p l)
+      × ((y : CallerView) × Same (w, carried_after m.1 a) (of_caller y, m.1) × ShowsAfter o now p x y)
 
   -- the view after the step, by the cause that refuses the decision
   picks : (o : Option Refusal) (word : ℕ) → decide_cause now p ≡ o → word ≡ packed (unless_refused o (decided_on now p) now) → Picks o word
   picks None word free to =
       let sent = proposed in
       let l : Message = Decides (decision now p) in
+      let y : CallerView = deciding now p x in
       let q : Run n = decided_run d.run sent.0 p sent.1 free in
       let words' : List ℕ = set s.words 0 word in
       let there : 0 < length s.words = (let a = d.wide in omega arith) in
       let others = λ (j : ℕ). get_or-set_other s.words 0 (mark_word j) word 0 (λ e. omega arith) in
-      let later = record_on d.run q d.owner s.words words' id (λ w a. inr a) (λ w a. a) (λ j. refl) (λ x t. sent_before (last d.run).messages (l ∷ []) x t) others in (
-        of_message l,
+      let later = record_on d.run q d.owner s.words words' id (λ w a. inr a) (λ w a. a) (λ j. refl) (λ z t. sent_before (last d.run).messages (l ∷ []) z t) others in
+      let g = caller_later d.run q d.owner s.words words' id later x fits in
+      let is_now : WasRecord q (decided_on now p) = (last q, inl refl, refl) in
+      let of_run : IsOfRun q y = record {
+        wide = g.of_run.wide;
+        seen = g.of_run.seen;
+        shown = is_now;
+        marks = g.of_run.marks;
+        receipts = g.of_run.receipts;
+        sent = (sent_after n (last d.run).messages (l ∷ []) l (0, refl), tt);
+        changes = were_counted q (same_record now p.known) (decided_on now p) x.changes is_now g.of_run.changes;
+      } in (
+        of_caller y,
         keeps,
         tt,
-        keeps_rule s d q words' id (of_message l) later (length-set s.words 0 word) (get_or-set_same s.words 0 word 0 there ∙ to)
+        keeps_rule s d q words' id (of_caller y) later (length-set s.words 0 word) (get_or-set_same s.words 0 word 0 there ∙ to)
             (λ j i. subst (WasWatermark q j) (sym (others j)) (let w = d.marks j i in (w.0, inr w.1, w.2)))
-            (sent_after n (last d.run).messages (l ∷ []) l (0, refl)),
-        (l, refl, (refl, (n, q, ends_deciding d.run sent.0 p sent.1 free))),
+            record { of_run = of_run; told = g.told; reached = g.reached }
+            m.0 at (caller_counts m.0 x y now.version (last q).controller.version is (rises_as_counted now p x)),
+        (y, refl, (refl, (n, q, of_run, ends_deciding d.run sent.0 p sent.1 free))),
       )
-  picks (Some refusal) word full to = (
-    of_message (Proposes p),
-    keeps,
-    tt,
-    subst (λ (x : ℕ). Ruled n (stepped s 0 x id m.1 (of_message (Proposes p)) keeps)) (sym (to ∙ sym d.record_is)) (looks_on s d 0 id (of_message (Proposes p)) proposed),
-    (Proposes p, refl, (refl, (n, d.run, proposed, refl))),
-  )
+  picks (Some refusal) word full to =
+      let y : CallerView = record x { shown = now } in (
+        of_caller y,
+        keeps,
+        tt,
+        subst (λ (z : ℕ). Ruled n (stepped s 0 z id m.1 (of_caller y) keeps)) (sym (to ∙ sym d.record_is))
+            (looks_on s d 0 id (of_caller y) record { of_run = shown_now n s d x fits; told = fits.told; reached = fits.reached } m.0 at (caller_counts m.0 x y now.version now.version is refl)),
+        (y, refl, (refl, (n, d.run, shown_now n s d x fits, refl))),
+      )
 
   pub decides : (old new : ℕ) → IsInRange most_nodes p.known → old ≡ packed p.known → new ≡ packed (record_after p.known p)
       → (w : View) × (a : Act ℕ) × Valid s.homes m.1 a × Ruled n (stepped s 0 (either (eqb (get_or s.words 0 0) old) new (get_or s.words 0 0)) id m.1 w a)
@@ -138,17 +170,28 @@ module _ (n : ℕ) (id : ℕ) (m : Me ℕ View) (p : Proposal) (is : m.0 ≡ of_
   decides old new range old_is new_is =
       let found : ℕ = get_or s.words 0 0 in
       let here = record_word n s d in
-      let x = picks (decide_cause now p) (either (eqb found old) new found) refl
+      let later = version_le n x.shown now (not_above n s d x.shown fits.of_run.shown) in
+      let z = picks (decide_cause now p) (either (eqb found old) new found) refl
       ((λ i. either (eqb (d.record_is i) (old_is i)) (new_is i) (d.record_is i)) ∙ word_is now p here.range range) in (
-        x.0,
-        x.1,
-        x.2,
-        x.3,
-        λ q e. let same = same_proposal p q (sym is ∙ e) in
-            subst (λ (z : Proposal). (c : LeaderAndIsr) × IsRecordOfWord c found × ((l : Message) × Same (x.0, carried_after m.1 x.1) (of_message l, m.1) × ShowsAfter (decide_cause c z) c z l)) same (now, here, x.4),
+        z.0,
+        z.1,
+        z.2,
+        z.3,
+        λ x' p' e told'.
+            let same : x ≡ x' = same_caller n x x' (sym is ∙ e) in
+            let same_p : p ≡ p' = same_first p p' (sym told ∙ ap (λ (v : CallerView). v.sent) same ∙ told') in
+            subst (λ (t : CallerView × Proposal). (c : LeaderAndIsr) × Finds t.0.shown c found × ((y : CallerView) × Same (z.0, carried_after m.1 z.1) (of_caller y, m.1) × ShowsAfter (decide_cause c t.1) c t.1 t.0 y)) (λ i. (same i, same_p i))
+            (now, record { is = here; later = later }, z.4),
       )
 
--- the exchange on word 0 by the pass of a proposal
-pub decides_at : (n slots id : ℕ) (m : Me ℕ View) (p : Proposal) (old new : ℕ) → m.0 ≡ of_message (Proposes p) → IsInRange most_nodes p.known → old ≡ packed p.known → new ≡ packed (record_after p.known p)
-    → Allows (Ruled n) slots id m 0 (λ x. either (eqb x old) new x) (Decided (step slots 0 old new none) m)
-decides_at n slots id m p old new is range old_is new_is s d _ at _ = decides n id m p is s d at old new range old_is new_is
+-- the exchange on word 0 by a caller's pass that was told of the proposal
+pub decides_at : (n slots id : ℕ) (m : Me ℕ View) (x : CallerView) (p : Proposal) (old new : ℕ) → m.0 ≡ of_caller x → x.sent ≡ Proposes p ∷ [] → IsInRange most_nodes p.known → old ≡ packed p.known → new ≡ packed (record_after p.known p)
+    → Allows (Ruled n) slots id m 0 (λ z. either (eqb z old) new z) (Decided (step slots 0 old new none) m)
+decides_at n slots id m x p old new is told range old_is new_is s d _ at _ = decides n id m x p is told s d at old new range old_is new_is
+
+-- the message that a pass gives on is the one that it was told of, or has sent, last
+pub told_first : (ls : List Message) (l m : Message) → ls ≡ l ∷ [] → slice_get ls 0 ≡ Some m → m ≡ l
+told_first ls l m e f = sym (some_one l m (ap (λ (xs : List Message). slice_get xs 0) (sym e) ∙ f))
+  where
+    some_one : (a b : Message) → slice_get (a ∷ []) 0 ≡ Some b → a ≡ b
+    some_one a b h = cc

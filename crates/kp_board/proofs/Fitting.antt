@@ -15,6 +15,7 @@ use Rattle.kp_model.proofs.InRuns.RunLaws.{last_is_of, one_record}
 use Rattle.kp_model.proofs.InRuns.Ranges.{records_are_in_range}
 use Rattle.kp_control.specs.Word.{packed}
 use Rattle.kp_control.proofs.Words.{one_word}
+use Rattle.kp_board.proofs.Counting.{node_counts}
 use Rattle.kp_board.proofs.InRange.{in_seven}
 use Rattle.kp_board.specs.Views.{NodeView, CallerView, View, of_node, of_caller, node_view, caller_view}
 use Rattle.kp_board.specs.Rule.{end_word, mark_word, WasWatermark, NoWatermarkAbove, WasRecord, AreSent, FitsNode, FitsCaller, IsOfRun, Fits, Ruled}
@@ -58,19 +59,19 @@ module _ (n : ℕ) where
   version_le c z (inr l) = omega arith
 
   pub shows : (s : State ℕ View) (d : Ruled n s) (id : ℕ) (p : NodeView) → FitsNode d.run d.owner s.words id p → Shows d.run p
-  shows s d id p f = record { inside = f.inside; state = f.state; shown = f.shown; told = f.told }
+  shows s d id p f = record { count = f.count; inside = f.inside; state = f.state; shown = f.shown; told = f.told }
 
   -- a caller's pass, once the run's record is the one shown
   pub shown_now : (s : State ℕ View) (d : Ruled n s) (c : CallerView) → FitsCaller d.run s.words c → IsOfRun d.run (record c { shown = (last d.run).controller })
-  shown_now s d c f = record { wide = f.of_run.wide; seen = f.of_run.seen; shown = (last d.run, last_is_of n d.run, refl); marks = f.of_run.marks; receipts = f.of_run.receipts; elections = f.of_run.elections }
+  shown_now s d c f = record { wide = f.of_run.wide; seen = f.of_run.seen; shown = (last d.run, last_is_of n d.run, refl); marks = f.of_run.marks; receipts = f.of_run.receipts; sent = f.of_run.sent; changes = f.of_run.changes }
 
   -- a node's step, at words that leave the others' words as they were
-  pub node_step : (s : State ℕ View) (d : Ruled n s) (words' : List ℕ) (id : ℕ) (p p' : NodeView) (act : Act) (e : Effect) → FitsNode d.run d.owner s.words id p
-      → IsGiven (last d.run).messages act → Local (last d.run).controller p.number p.state act e → p'.state ≡ e.node → p'.number ≡ p.number
-      → length words' ≡ length s.words → get_or words' 0 0 ≡ packed e.controller → ((j : ℕ) → j < n → j ≢ p.number → get_or words' (mark_word j) 0 ≡ get_or s.words (mark_word j) 0)
+  pub node_step : (s : State ℕ View) (d : Ruled n s) (words' : List ℕ) (id : ℕ) (v : View) (p p' : NodeView) (act : Act) (e : Effect) → get_elem? s.views id ≡ some v → v ≡ of_node p → FitsNode d.run d.owner s.words id p
+      → IsGiven (last d.run).messages act → Local (last d.run).controller p.number p.state act e → p'.state ≡ e.node → p'.number ≡ p.number → p'.count ≡ p.count
+      → length words' ≡ length s.words → get_or words' 0 0 ≡ packed (last d.run).controller → ((j : ℕ) → j < n → j ≢ p.number → get_or words' (mark_word j) 0 ≡ get_or s.words (mark_word j) 0)
       → get_or words' (mark_word p.number) 0 ≡ p'.published → p.published ≤ p'.published → (p'.published ≡ p.published) ⊎ (p'.published ≡ p'.state.watermark) → p.state.watermark ≤ max p'.published p'.state.watermark
       → WasRecord d.run p'.shown → AreSent ((last d.run).messages ++ e.sent) p'.told → Ruled n record { words = words'; homes = s.homes; views = set s.views id (of_node p') }
-  node_step s d words' id p p' act e f given local as_effect same wide zero_word others mark rise which low shown told =
+  node_step s d words' id v p p' act e at is f given local as_effect same count wide zero_word others mark rise which low shown told =
       let k : ℕ = p.number in
       let y : Node = p'.state in
       let local' : Local (last d.run).controller k ((last d.run).nodes k) act e = subst (λ (x : Node). Local (last d.run).controller k x act e) (sym f.state) local in
@@ -86,6 +87,7 @@ module _ (n : ℕ) where
       (λ (b : p'.published ≡ y.watermark). (last q, inl refl, ap (λ (x : Node). x.watermark) here ∙ sym b)) which)))
       (λ ne. subst (WasWatermark q j) (sym (others j l ne)) (carried_over j (get_or s.words (mark_word j) 0) (d.marks j l))))
       record {
+        count = count ∙ f.count;
         inside = subst (λ (z : ℕ). z < n) (sym same) f.inside;
         own = ap d.owner same ∙ f.own;
         state = ap (λ (z : ℕ). (last q).nodes z) same ∙ here;
@@ -96,6 +98,7 @@ module _ (n : ℕ) where
             (λ (b : IsOf w d.run). let g = f.top w b in omega arith) a);
         told = told;
       }
+      v at (node_counts v p p' (last d.run).controller.version is)
 
   pub end_words : (words : List ℕ) (k j x : ℕ) → get_or (set words (end_word k) x) (mark_word j) 0 ≡ get_or words (mark_word j) 0
   end_words words k j x = get_or-set_other words (end_word k) (mark_word j) x 0 (λ e. omega arith)

@@ -1,10 +1,11 @@
 pub mod InRange
 pub mod Lists
+pub mod Counting
 pub mod Steps
 pub mod Fitting
 pub mod OwnWords
 pub mod RecordWord
-pub mod Deciding
+mod Deciding
 pub mod MarkWord
 pub mod Sharing
 pub mod Sits

@@ -8,14 +8,16 @@ use Rattle.atomic_table.specs.Table.{Me, step, keeps, Allows}
 use Rattle.kp_model.specs.Beginning.{Begins}
 use Rattle.kp_model.specs.Log.{Batch, end_of}
 use Rattle.kp_model.specs.World.{World}
-use Rattle.kp_model.specs.Run.{Run, IsOf, held, WasAppended}
-use Rattle.kp_model.proofs.Plain.Beginnings.{Begins-refl, Begins-trans}
+use Rattle.kp_model.specs.Run.{Run, IsOf, last, held, WasAppended}
+use Rattle.kp_model.proofs.Plain.Beginnings.{Begins-agree, Begins-refl, Begins-trans}
 use Rattle.kp_model.proofs.Plain.Logs.{end_of-append}
 use Rattle.kp_model.proofs.Safety.HeldRuns.{runs_are_safe, marks_are_ends}
 use Rattle.kp_model.proofs.InRuns.MessageLogs.{offset_and_epoch_fix}
 use Rattle.kp_board.specs.Views.{CallerView, KeptReceipt, View, of_caller}
 use Rattle.kp_board.specs.Rule.{mark_word, WasWatermark, BeginsHeld, WasLog, AreAppended, Ruled, IsOfRun}
+use Rattle.kp_board.specs.Laws.{CallersAgree}
 use Rattle.kp_board.specs.Plays.{Learned, MarkShown}
+use Rattle.kp_board.proofs.Counting.{caller_counts}
 use Rattle.kp_board.proofs.Steps.{looks_on}
 use Rattle.kp_board.proofs.Lists.{Cleft, cleft}
 use Rattle.kp_board.proofs.Fitting.{caller_fits, same_caller}
@@ -83,7 +85,8 @@ module _ (n : ℕ) where
             (λ e. subst (λ (x : ℕ). WasWatermark d.run x (get_or (set c.marks k found) x 0)) (sym e) (subst (WasWatermark d.run k) (sym here) was))
             (λ ne. subst (WasWatermark d.run j) (sym (other j ne)) (f.of_run.marks j l));
         receipts = f.of_run.receipts;
-        elections = f.of_run.elections;
+        sent = f.of_run.sent;
+        changes = f.of_run.changes;
       } in (
         of_caller c',
         keeps,
@@ -94,7 +97,7 @@ module _ (n : ℕ) where
           reached = λ j l. dite (ℕ_discrete j k)
               (λ e. subst (λ (x : ℕ). get_or (set c.marks k found) x 0 ≤ get_or s.words (mark_word x) 0) (sym e) (omega (arith, here)))
               (λ ne. subst (λ (x : ℕ). x ≤ get_or s.words (mark_word j) 0) (sym (other j ne)) (f.reached j l));
-        },
+        } m.0 at (caller_counts m.0 c c' (last d.run).controller.version (last d.run).controller.version is refl),
         λ q j e at_word. let same = same_caller n c q (sym is ∙ e) in let whose : k ≡ j = omega arith in (
           c',
           refl,
@@ -109,9 +112,18 @@ module _ (n : ℕ) where
             rises = low;
             wide = length-set c.marks k found;
             receipts = refl;
-            elections = refl;
+            sent = refl;
+            changes = refl;
             agrees = λ x b x_in b_in base epoch. one_batch d.run c.receipts c.told.log f.of_run.receipts f.told.log x b x_in b_in base epoch;
             of_run = (n, d.run, of_run);
           },
         ),
       )
+
+-- two callers of one board have seen lists of which one begins the other
+pub callers_agree : CallersAgree
+callers_agree n s d one other c e at_one at_other =
+    let a = (d.seats one (of_caller c) at_one).of_run.seen in
+    let b = (d.seats other (of_caller e) at_other).of_run.seen in
+    let both = both_begin n d.run a.0 b.0 a.1 b.1 a.2 b.2 in
+    Begins-agree (Begins-trans a.3 both.3) (Begins-trans b.3 both.4)

@@ -13,6 +13,7 @@ use Rattle.kp_board.specs.Views.{NodeView, View, of_node}
 use Rattle.kp_board.specs.Rule.{end_word, mark_word, WasWatermark, Ruled}
 use Rattle.kp_board.specs.Premises.{leaves, MayStep, ShowsAWorld}
 use Rattle.kp_board.specs.Plays.{Stepped, SteppedAndSent, Unchanged, MarkRaised}
+use Rattle.kp_board.proofs.Counting.{node_counts}
 use Rattle.kp_board.proofs.Steps.{keeps_rule}
 use Rattle.kp_board.proofs.Fitting.{node_fits, same_node, shows, node_step, end_words, told_more, told_sent}
 
@@ -27,7 +28,7 @@ module _ (n : ℕ) where
         of_node p',
         keeps,
         tt,
-        node_step n s d (set s.words i new) id p p' act (leaves (last d.run).controller y sent may.reply) f (may.given (last d.run).messages f.told) (may.local n d.run (shows n s d id p f)) refl refl (length-set s.words i new)
+        node_step n s d (set s.words i new) id m.0 p p' act (leaves y sent may.reply) at is f (may.given (last d.run).messages f.told) (may.local n d.run (shows n s d id p f)) refl refl refl (length-set s.words i new)
             (get_or-set_other s.words i 0 new 0 (λ e. omega arith) ∙ d.record_is)
             (λ j l ne. end_words n s.words p.number j new) (end_words n s.words p.number p.number new ∙ f.word) (omega arith) (inl refl) low f.shown (told_sent n (last d.run).messages sent p.told f.told),
         λ q e. let same = same_node n p q (sym is ∙ e) in (
@@ -58,7 +59,8 @@ module _ (n : ℕ) where
             }
             (length-set s.words i new) (get_or-set_other s.words i 0 new 0 (λ e. omega arith) ∙ d.record_is)
             (λ j l. subst (WasWatermark d.run j) (sym (marks j)) (d.marks j l))
-            record { inside = f.inside; own = f.own; state = f.state; shown = f.shown; word = marks p.number ∙ f.word; top = f.top; told = f.told },
+            record { count = f.count; inside = f.inside; own = f.own; state = f.state; shown = f.shown; word = marks p.number ∙ f.word; top = f.top; told = f.told }
+            m.0 at (node_counts m.0 p p (last d.run).controller.version is),
         λ q e. λ j. (sym is j, m.1),
       )
 
@@ -73,7 +75,7 @@ module _ (n : ℕ) where
         keeps,
         tt,
         subst (λ (ws : List ℕ). Ruled n record { words = ws; homes = s.homes; views = set s.views id (of_node p') }) (sym (set-get_or s.words i 0))
-            (node_step n s d s.words id p p' act (leaves (last d.run).controller y sent may.reply) f (may.given (last d.run).messages f.told) (may.local n d.run (shows n s d id p f)) refl refl refl d.record_is
+            (node_step n s d s.words id m.0 p p' act (leaves y sent may.reply) at is f (may.given (last d.run).messages f.told) (may.local n d.run (shows n s d id p f)) refl refl refl refl d.record_is
             (λ j l ne. refl) f.word (omega arith) (inl refl) low f.shown (told_sent n (last d.run).messages sent p.told f.told)),
         λ q e. let same = same_node n p q (sym is ∙ e) in (
           ap (λ (z : NodeView). let x : Me ℕ View = (of_node (record z { state = y; told = sent ++ z.told }), m.1) in x) same,
@@ -102,7 +104,7 @@ module _ (n : ℕ) where
         of_node p',
         keeps,
         tt,
-        node_step n s d (set s.words i (max (get_or s.words i 0) new)) id p p' act (leaves (last d.run).controller y [] may.reply) f (may.given (last d.run).messages f.told) (may.local n d.run (shows n s d id p f)) refl refl
+        node_step n s d (set s.words i (max (get_or s.words i 0) new)) id m.0 p p' act (leaves y [] may.reply) at is f (may.given (last d.run).messages f.told) (may.local n d.run (shows n s d id p f)) refl refl refl
             (length-set s.words i (max (get_or s.words i 0) new))
             (get_or-set_other s.words i 0 (max (get_or s.words i 0) new) 0 (λ e. omega arith) ∙ d.record_is)
             (λ j l ne. mark_words s.words p.number j (max (get_or s.words i 0) new) ne) (get_or-set_same s.words i (max (get_or s.words i 0) new) 0 inside ∙ ap (λ (z : ℕ). max z new) here) (omega arith)
@@ -142,6 +144,7 @@ module _ (n : ℕ) where
             (λ b. let g : new ≡ max p.published new = omega arith in (last d.run, last_is_of n d.run, ap (λ (z : Node). z.watermark) f.state ∙ sym to ∙ g)))))
             (λ ne. subst (WasWatermark d.run j) (sym (mark_words s.words k j x ne)) (d.marks j l)))
             record {
+              count = f.count;
               inside = f.inside;
               own = f.own;
               state = f.state ∙ sym stay;
@@ -149,7 +152,8 @@ module _ (n : ℕ) where
               word = now;
               top = λ w a. let g = f.top w a in let h = ap (λ (z : Node). z.watermark) stay in omega arith;
               told = f.told;
-            },
+            }
+            m.0 at (node_counts m.0 p p' (last d.run).controller.version is),
         λ q e. let same = same_node n p q (sym is ∙ e) in ap (λ (z : NodeView). let v : Me ℕ View = (of_node (record z { state = y; published = max z.published new }), m.1) in v) same,
       )
 

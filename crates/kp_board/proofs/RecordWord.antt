@@ -21,6 +21,7 @@ use Rattle.kp_board.specs.Views.{NodeView, CallerView, KeptReceipt, View, of_nod
 use Rattle.kp_board.specs.Rule.{mark_word, WasWatermark, NoWatermarkAbove, WasRecord, IsOfRun, Ruled, EndsElecting, ShowsLastRecord, ShowsElection}
 use Rattle.kp_board.specs.Premises.{leaves, MayStepUnder}
 use Rattle.kp_board.specs.Plays.{IsRecordOfWord, Finds, SteppedUnder, Looked, ReceiptKept, Elected, electing}
+use Rattle.kp_board.proofs.Counting.{node_counts, caller_counts}
 use Rattle.kp_board.proofs.Steps.{caller_later, keeps_rule, looks_on, record_on}
 use Rattle.kp_board.proofs.Fitting.{node_fits, caller_fits, same_node, same_caller, record_word, shown_range, same_word, not_above, version_le, shows, shown_now, node_step, told_more}
 
@@ -37,7 +38,7 @@ module _ (n : ℕ) where
         of_caller c',
         keeps,
         tt,
-        looks_on s d 0 id (of_caller c') record { of_run = shown_now n s d c f; told = f.told; reached = f.reached },
+        looks_on s d 0 id (of_caller c') record { of_run = shown_now n s d c f; told = f.told; reached = f.reached } m.0 at (caller_counts m.0 c c' (last d.run).controller.version (last d.run).controller.version is refl),
         λ q e. let same = same_caller n c q (sym is ∙ e) in
             subst (λ (x : CallerView). (k : LeaderAndIsr) × Finds x.shown k (get_or s.words 0 0) × Same (of_caller c', m.1) (of_caller (record x { shown = k }), m.1) × ShowsLastRecord (record x { shown = k })) same
             (now, record { is = record_word n s d; later = version_le n c.shown now (not_above n s d c.shown f.of_run.shown) }, refl, (n, d.run, shown_now n s d c f, refl)),
@@ -54,10 +55,10 @@ module _ (n : ℕ) where
         keeps,
         tt,
         looks_on s d 0 id (of_caller c') record {
-          of_run = record { wide = f.of_run.wide; seen = f.of_run.seen; shown = f.of_run.shown; marks = f.of_run.marks; receipts = ((log.0, log.1, log.2, subst (λ (l : List Batch). Contains l x.batch) log.3 stands), f.of_run.receipts); elections = f.of_run.elections };
+          of_run = record { wide = f.of_run.wide; seen = f.of_run.seen; shown = f.of_run.shown; marks = f.of_run.marks; receipts = ((log.0, log.1, log.2, subst (λ (l : List Batch). Contains l x.batch) log.3 stands), f.of_run.receipts); sent = f.of_run.sent; changes = f.of_run.changes };
           told = f.told;
           reached = f.reached;
-        },
+        } m.0 at (caller_counts m.0 c c' (last d.run).controller.version (last d.run).controller.version is refl),
         λ q e. let same = same_caller n c q (sym is ∙ e) in
             subst (λ (z : CallerView). (r : KeptReceipt) × fits r × Same (of_caller c', m.1) (of_caller (record z { receipts = r ∷ z.receipts }), m.1)) same (x, fit, refl),
       )
@@ -79,6 +80,7 @@ module _ (n : ℕ) where
         tt,
         ⊎_elim
             (λ (stay : y now ≡ p.state). looks_on s d 0 id (of_node p') record {
+              count = f.count;
               inside = f.inside;
               own = f.own;
               state = f.state ∙ sym stay;
@@ -86,10 +88,10 @@ module _ (n : ℕ) where
               word = f.word;
               top = subst (λ (x : Node). NoWatermarkAbove d.run p.number (max p.published x.watermark)) (sym stay) f.top;
               told = f.told;
-            })
-            (λ (goes_on : (reply : Reply) × Local now p.number p.state act (leaves now (y now) [] reply)).
+            } m.0 at (node_counts m.0 p p' (last d.run).controller.version is))
+            (λ (goes_on : (reply : Reply) × Local now p.number p.state act (leaves (y now) [] reply)).
             subst (λ (ws : List ℕ). Ruled n record { words = ws; homes = s.homes; views = set s.views id (of_node p') }) (sym (set-get_or s.words 0 0))
-            (node_step n s d s.words id p p' act (leaves now (y now) [] goes_on.0) f (may.given (last d.run).messages f.told) goes_on.1 refl refl refl d.record_is
+            (node_step n s d s.words id m.0 p p' act (leaves (y now) [] goes_on.0) at is f (may.given (last d.run).messages f.told) goes_on.1 refl refl refl refl d.record_is
             (λ j l ne. refl) f.word (omega arith) (inl refl) low showed (told_more n (last d.run).messages [] p.told f.told)))
             (may.local n d.run (shows n s d id p f)),
         λ q e. let same = same_node n p q (sym is ∙ e) in
@@ -142,14 +144,15 @@ module _ (n : ℕ) where
       let later = record_on d.run q d.owner s.words words' id (λ w a. inr a) (λ w a. a) (λ j. refl) (λ l t. t) others in
       let c' : CallerView = electing (elected c.shown k) c in
       let g = caller_later d.run q d.owner s.words words' id later c f in
-      let of_run : IsOfRun q c' = record { wide = g.of_run.wide; seen = g.of_run.seen; shown = (last q, inl refl, ap (λ (x : LeaderAndIsr). elected x k) same); marks = g.of_run.marks; receipts = g.of_run.receipts; elections = ((last q, inl refl, ap (λ (x : LeaderAndIsr). elected x k) same), g.of_run.elections) } in (
+      let of_run : IsOfRun q c' = record { wide = g.of_run.wide; seen = g.of_run.seen; shown = (last q, inl refl, ap (λ (x : LeaderAndIsr). elected x k) same); marks = g.of_run.marks; receipts = g.of_run.receipts; sent = g.of_run.sent; changes = ((last q, inl refl, ap (λ (x : LeaderAndIsr). elected x k) same), g.of_run.changes) } in (
         of_caller c',
         keeps,
         tt,
         subst (λ b. Ruled n (stepped s 0 (either b new found) id m.1 (of_caller c') keeps)) (sym (eq-eqb found old hit))
             (keeps_rule s d q words' id (of_caller c') later (length-set s.words 0 new) (get_or-set_same s.words 0 new 0 there ∙ ap (λ (x : LeaderAndIsr). packed (elected x k)) (sym same))
             (λ j l. subst (WasWatermark q j) (sym (others j)) (let w = d.marks j l in (w.0, inr w.1, w.2)))
-            record { of_run = of_run; told = g.told; reached = g.reached }),
+            record { of_run = of_run; told = g.told; reached = g.reached }
+            m.0 at (caller_counts m.0 c c' now.version (last q).controller.version is (omega arith))),
         λ x e. let here = same_caller n c x (sym is ∙ e) in
             subst (λ b. ElectedBy b c' m.1 x k (elected c.shown k) found) (sym (eq-eqb found old hit))
             (subst (λ (y : CallerView). Same (of_caller c', m.1) (of_caller (electing (elected c.shown k) y), m.1) × ShowsElection k y.shown (electing (elected c.shown k) y)) here
@@ -164,7 +167,7 @@ module _ (n : ℕ) where
         keeps,
         tt,
         subst (λ b. Ruled n (stepped s 0 (either b new found) id m.1 (of_caller c') keeps)) (sym (ne_eqb found old miss))
-            (looks_on s d 0 id (of_caller c') record { of_run = shown_now n s d c f; told = f.told; reached = f.reached }),
+            (looks_on s d 0 id (of_caller c') record { of_run = shown_now n s d c f; told = f.told; reached = f.reached } m.0 at (caller_counts m.0 c c' now.version now.version is refl)),
         λ x e. let here = same_caller n c x (sym is ∙ e) in
             subst (λ b. ElectedBy b c' m.1 x k (elected c.shown k) found)
             (sym (ne_eqb found old miss))

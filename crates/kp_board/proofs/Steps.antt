@@ -19,6 +19,7 @@ use Rattle.kp_model.proofs.InRuns.RunLaws.{last_is_of, count_stays}
 use Rattle.kp_model.proofs.OneStep.Steps.{get_front}
 use Rattle.kp_control.specs.Word.{packed}
 use Rattle.kp_board.specs.Views.{CallerView, Note, KeptReceipt, View, founder, of_node, of_caller, of_message, of_note, spent}
+use Rattle.kp_board.proofs.Counting.{Counts, counts_on}
 use Rattle.kp_board.specs.Rule.{mark_word, WasWatermark, NoWatermarkAbove, WasRecord, BeginsHeld, AreAppended, AreSent, WereRecords, IsOfRun, FitsNote, FitsCaller, Fits, Ruled}
 
 pub told_later : (messages messages' : List Message) → ((l : Message) → IsSent messages l → IsSent messages' l) → (ls : List Message) → AreSent messages ls → AreSent messages' ls
@@ -51,16 +52,17 @@ module _ {n : ℕ} where
     pub was_later : (k m : ℕ) → WasWatermark r k m → WasWatermark q k m
     was_later k m b = (b.0, later.among b.0 b.1, b.2)
 
+    pub appended_later : (xs : List KeptReceipt) → AreAppended r xs → AreAppended q xs
+    appended_later [] a = tt
+    appended_later (x ∷ xs) a = let b : WasAppended r x.batch = a.0 in ((b.0, b.1, later.among b.0 b.2, b.3), appended_later xs a.1)
+
     pub note_later : (x : Note) → FitsNote r words x → FitsNote q words' x
     note_later x f = record {
       list = begins_later x.list f.list;
       mark = λ l. let a = f.mark l in let b = later.rises x.node l in omega arith;
       log = (f.log.0, f.log.1, later.among f.log.0 f.log.2, f.log.3);
+      receipts = appended_later x.receipts f.receipts;
     }
-
-    pub appended_later : (xs : List KeptReceipt) → AreAppended r xs → AreAppended q xs
-    appended_later [] a = tt
-    appended_later (x ∷ xs) a = let b : WasAppended r x.batch = a.0 in ((b.0, b.1, later.among b.0 b.2, b.3), appended_later xs a.1)
 
     pub records_later : (cs : List LeaderAndIsr) → WereRecords r cs → WereRecords q cs
     records_later [] w = tt
@@ -73,7 +75,8 @@ module _ {n : ℕ} where
       shown = showed_later c.shown f.shown;
       marks = λ k l. was_later k (get_or c.marks k 0) (f.marks k l);
       receipts = appended_later c.receipts f.receipts;
-      elections = records_later c.elections f.elections;
+      sent = told_later (last r).messages (last q).messages later.messages c.sent f.sent;
+      changes = records_later c.changes f.changes;
     }
 
     pub caller_later : (c : CallerView) → FitsCaller r words c → FitsCaller q words' c
@@ -84,7 +87,7 @@ module _ {n : ℕ} where
     }
 
     pub others_fit : (j : ℕ) (v : View) → j ≢ id → Fits r owner words j v → Fits q owner words' j v
-    others_fit j (founder i m) apart f = record {
+    others_fit j (founder i m made) apart f = record {
       count = f.count;
       own = f.own;
       state = λ k a l. later.nodes k l (λ e. apart (sym (f.own k a l) ∙ e)) ∙ f.state k a l;
@@ -92,6 +95,7 @@ module _ {n : ℕ} where
       top = λ k a l. later.tops k 0 l (λ e. apart (sym (f.own k a l) ∙ e)) (f.top k a l);
     }
     others_fit j (of_node p) apart f = let ne : owner p.number ≢ id = λ e. apart (sym f.own ∙ e) in record {
+      count = f.count;
       inside = f.inside;
       own = f.own;
       state = later.nodes p.number f.inside ne ∙ f.state;
@@ -115,8 +119,8 @@ module _ {n : ℕ} where
   -- A step keeps the rule: the one lemma under all kinds.
   pub keeps_rule : (s : State ℕ View) (d : Ruled n s) (q : Run n) (words' : List ℕ) (id : ℕ) (w : View) → Later d.run q d.owner s.words words' id → length words' ≡ length s.words
       → get_or words' 0 0 ≡ packed (last q).controller → ((k : ℕ) → k < n → WasWatermark q k (get_or words' (mark_word k) 0)) → Fits q d.owner words' id w
-      → Ruled n record { words = words'; homes = s.homes; views = set s.views id w }
-  keeps_rule s d q words' id w later as_wide record_is marks fits = record {
+      → (v : View) → get_elem? s.views id ≡ some v → Counts v w (last d.run).controller.version (last q).controller.version → Ruled n record { words = words'; homes = s.homes; views = set s.views id w }
+  keeps_rule s d q words' id w later as_wide record_is marks fits v at counts = record {
     small = d.small;
     run = q;
     owner = d.owner;
@@ -124,6 +128,7 @@ module _ {n : ℕ} where
     record_is = record_is;
     marks = marks;
     seats = views_fit q d.owner words' s.views id w fits (λ j v apart e. others_fit d.run q d.owner s.words words' id later j v apart (d.seats j v e));
+    counted = counts_on s.views id v w (last d.run).controller.version (last q).controller.version at counts d.counted;
   }
 
   -- nothing happens in the model
@@ -131,9 +136,11 @@ module _ {n : ℕ} where
   stays r owner words id = record { among = λ w a. a; messages = λ l s. s; nodes = λ k l ne. refl; tops = λ k m l ne t. t; same = λ k l ne. refl; rises = λ k l. omega arith }
 
   -- a load that tells the seat something
-  pub looks_on : (s : State ℕ View) (d : Ruled n s) (i id : ℕ) (w : View) → Fits d.run d.owner s.words id w → Ruled n record { words = set s.words i (get_or s.words i 0); homes = s.homes; views = set s.views id w }
-  looks_on s d i id w fits = subst (λ (ws : List ℕ). Ruled n record { words = ws; homes = s.homes; views = set s.views id w }) (sym (set-get_or s.words i 0))
-      (keeps_rule s d d.run s.words id w (stays d.run d.owner s.words id) refl d.record_is d.marks fits)
+  pub looks_on : (s : State ℕ View) (d : Ruled n s) (i id : ℕ) (w : View) → Fits d.run d.owner s.words id w
+      → (v : View) → get_elem? s.views id ≡ some v → Counts v w (last d.run).controller.version (last d.run).controller.version
+      → Ruled n record { words = set s.words i (get_or s.words i 0); homes = s.homes; views = set s.views id w }
+  looks_on s d i id w fits v at counts = subst (λ (ws : List ℕ). Ruled n record { words = ws; homes = s.homes; views = set s.views id w }) (sym (set-get_or s.words i 0))
+      (keeps_rule s d d.run s.words id w (stays d.run d.owner s.words id) refl d.record_is d.marks fits v at counts)
 
   -- the run after a node's step
   abbrev pub acted : (r : Run n) (k : ℕ) (act : Act) (e : Effect) → k < n → IsGiven (last r).messages act → Local (last r).controller k ((last r).nodes k) act e → Run n

@@ -3,3 +3,4 @@ pub mod Rule
 pub mod Premises
 pub mod Plays
 pub mod Decisions
+pub mod Laws

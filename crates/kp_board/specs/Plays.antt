@@ -6,7 +6,7 @@ use Rattle.kp_model.specs.Beginning.{Begins}
 use Rattle.kp_model.specs.Log.{Batch, end_of}
 use Rattle.kp_model.specs.World.{LeaderAndIsr, Node, Message, most_nodes}
 use Rattle.kp_model.specs.Step.{IsInRange, elect_cause}
-use Rattle.kp_board.specs.Views.{NodeView, CallerView, KeptReceipt, View, of_node, of_caller, new_caller, founder_count}
+use Rattle.kp_board.specs.Views.{NodeView, CallerView, KeptReceipt, View, of_node, of_caller}
 use Rattle.kp_board.specs.Rule.{mark_word, ShowsARun, ShowsLastRecord, ShowsElection}
 use Rattle.kp_board.specs.Premises.{ShowsAWorld}
 
@@ -50,10 +50,6 @@ SteppedUnder y knows st m found m' = (p : NodeView) → m.0 ≡ of_node p
 
 -- ---- a caller's steps
 
--- a caller came, who knows how many nodes there are
-abbrev pub Arrived : Step ℕ → Seated → ℕ → Seated → Type 0
-Arrived st m found m' = m'.0 ≡ of_caller (new_caller (founder_count m.0))
-
 -- the record was shown, the last one of some run that has all that the pass then shows
 abbrev pub Looked : Step ℕ → Seated → ℕ → Seated → Type 0
 Looked st m found m' = (c : CallerView) → m.0 ≡ of_caller c
@@ -72,7 +68,8 @@ pub record Learned (c d : CallerView) (k mark : ℕ) : Type 0 where
   pub rises : slice_index c.marks k ≤ mark
   pub wide : length d.marks ≡ length c.marks
   pub receipts : d.receipts ≡ c.receipts
-  pub elections : d.elections ≡ c.elections
+  pub sent : d.sent ≡ c.sent
+  pub changes : d.changes ≡ c.changes
   -- a receipt's batch is the one of its offset and leader epoch in whatever log the pass was told of
   pub agrees : (x : KeptReceipt) (b : Batch) → Contains c.receipts x → Contains c.told.log b → x.batch.base ≡ b.base → x.batch.epoch ≡ b.epoch → x.batch ≡ b
   pub of_run : ShowsARun d
@@ -93,7 +90,7 @@ pub record IsPassedBy (old new : LeaderAndIsr) (node : ℕ) : Type 0 where
 
 -- the pass after an election, which made this record
 abbrev pub electing : LeaderAndIsr → CallerView → CallerView
-electing next c = record c { shown = next; elections = next ∷ c.elections }
+electing next c = record c { shown = next; changes = next ∷ c.changes }
 
 -- By one event of this node the record has become the next one, which the pass counts; or another one was found, of a higher
 -- version.

@@ -1,6 +1,6 @@
 -- The rule of the board (own rule): some run of the definitions ends in just the world that the words and the passes show.
 -- It holds between any two steps of any threads.
-use Rattle.std.specs.Prelude.{◌≡◌, ℕ, ◌+◌, ◌*◌, ◌<◌, ◌≤◌, max, List, [], ◌∷◌, length, slice_index}
+use Rattle.std.specs.Prelude.{◌≡◌, ℕ, ◌+◌, ◌*◌, ◌<◌, ◌≤◌, max, List, [], ◌∷◌, length, slice_index, sum_by}
 use mathlib.Core.Option.{some}
 use lib.ListN.{get_elem?}
 use Rattle.atomic_table.specs.Table.{State}
@@ -11,7 +11,7 @@ use Rattle.kp_model.specs.World.{LeaderAndIsr, Message, World, fresh, IsSent}
 use Rattle.kp_model.specs.Event.{Outcome, Elect}
 use Rattle.kp_model.specs.Step.{Step}
 use Rattle.kp_model.specs.Run.{Run, IsOf, last, extend, held, WasAppended}
-use Rattle.kp_board.specs.Views.{NodeView, CallerView, Note, KeptReceipt, View, founder, of_node, of_caller, of_message, of_note, spent}
+use Rattle.kp_board.specs.Views.{NodeView, CallerView, Note, KeptReceipt, View, founder, of_node, of_caller, of_message, of_note, spent, made_by, one_if_founder, one_if_caller, changes_by}
 
 -- The words: word 0 is the controller's record, packed; then for each node its log end offset and its watermark. Of an end
 -- word the rule says nothing: it is for those who look and need no promise.
@@ -64,7 +64,8 @@ module _ {n : ℕ} (r : Run n) where
     pub shown : WasRecord c.shown
     pub marks : (k : ℕ) → k < n → WasWatermark k (slice_index c.marks k)
     pub receipts : AreAppended c.receipts
-    pub elections : WereRecords c.elections
+    pub sent : AreSent (last r).messages c.sent
+    pub changes : WereRecords c.changes
 
   -- ---- what the rule says of each sort of pass, by these words
 
@@ -72,10 +73,12 @@ module _ {n : ℕ} (r : Run n) where
     pub list : BeginsHeld x.list
     pub mark : x.node < n → x.mark ≤ slice_index words (mark_word x.node)
     pub log : WasLog x.log
+    pub receipts : AreAppended x.receipts
 
   -- The node in the run's last world is just what the pass shows, and its mark word too. Only one pass is its own. The mark
   -- word, or where it doesn't yet follow the node's watermark, is the greatest watermark that the node had.
   pub record FitsNode (owner : ℕ → ℕ) (words : List ℕ) (id : ℕ) (p : NodeView) : Type 0 where
+    pub count : p.count ≡ n
     pub inside : p.number < n
     pub own : owner p.number ≡ id
     pub state : (last r).nodes p.number ≡ p.state
@@ -99,15 +102,23 @@ module _ {n : ℕ} (r : Run n) where
     pub top : (k : ℕ) → j ≤ k → k < n → NoWatermarkAbove k 0
 
   abbrev pub Fits : (owner : ℕ → ℕ) (words : List ℕ) (id : ℕ) → View → Type 0
-  Fits owner words id (founder j m) = FitsFounder owner words id j m
+  Fits owner words id (founder j m made) = FitsFounder owner words id j m
   Fits owner words id (of_node p) = FitsNode owner words id p
   Fits owner words id (of_caller c) = FitsCaller words c
   Fits owner words id (of_message l) = IsSent (last r).messages l
   Fits owner words id (of_note x) = FitsNote words x
   Fits owner words id spent = Unit {0}
 
+-- What the passes of a board count between them: there is one founder; it has made each caller's pass; and each change of the
+-- controller's record, which raises its version by one, is one that a caller's pass has made. So nobody elects or decides but
+-- by a pass that shows it, and nobody comes by such a pass but from the founder.
+pub record AreCounted (views : List View) (version : ℕ) : Type 0 where
+  pub founders : sum_by one_if_founder views ≡ 1
+  pub callers : sum_by one_if_caller views ≡ sum_by made_by views
+  pub changes : sum_by changes_by views ≡ version
+
 -- The rule, of a board of n nodes: word 0 is the record of the last world of a run; each mark word is a watermark that its
--- node had; and each pass fits. `owner` says which pass is each node's own.
+-- node had; each pass fits, and the passes are counted. `owner` says which pass is each node's own.
 pub record Ruled (n : ℕ) (s : State ℕ View) : Type 0 where
   pub small : n ≤ 7
   pub run : Run n
@@ -116,6 +127,7 @@ pub record Ruled (n : ℕ) (s : State ℕ View) : Type 0 where
   pub record_is : slice_index s.words 0 ≡ packed (last run).controller
   pub marks : (k : ℕ) → k < n → WasWatermark run k (slice_index s.words (mark_word k))
   pub seats : (id : ℕ) (v : View) → get_elem? s.views id ≡ some v → Fits run owner s.words id v
+  pub counted : AreCounted s.views (last run).controller.version
 
 -- ---- what a call can say of that run, which it can't name
 

@@ -1,46 +1,49 @@
 -- What the passes of a board show (own rule). A pass has no bytes: what it shows stands in the proof alone.
-use Rattle.std.specs.Prelude.{ℕ, ◌+◌, List, [], ◌∷◌, replicate}
+use Rattle.std.specs.Prelude.{ℕ, ◌+◌, List, [], ◌∷◌, ◌++◌, length, replicate}
 use Rattle.kp_model.specs.Log.{Batch}
 use Rattle.kp_model.specs.World.{LeaderAndIsr, Node, Message, Asks, fresh, initial}
 use Rattle.kp_model.specs.Run.{held}
 
--- A node's pass: the node's number and its state now, the record that the node was last shown, the value of its mark
--- word, and messages that are known to have been sent.
+-- A node's pass: how many nodes the board has, the node's number and its state now, the record that the node was last
+-- shown, the value of its mark word, and messages that are known to have been sent.
 pub record NodeView : Type 0 where
+  pub count : ℕ
   pub number : ℕ
   pub state : Node
   pub shown : LeaderAndIsr
   pub published : ℕ
   pub told : List Message
 
--- What one pass tells another: a committed list, a watermark that the mark word of this node has reached, and a log that
--- some node had.
-pub record Note : Type 0 where
-  pub list : List Batch
-  pub node : ℕ
-  pub mark : ℕ
-  pub log : List Batch
-
 -- A receipt that a caller keeps: the batch that it names, and the bytes that were handed in for it.
 pub record KeptReceipt : Type 0 where
   pub batch : Batch
   pub bytes : List ℕ
 
--- A caller's pass: the committed list that it has seen, what it was told last, the record that it was last shown, the
--- watermark of each node that it was last shown, its receipts, and the records that its elections made. The newest of these
--- come first.
+-- What one pass tells another: a committed list, a watermark that the mark word of this node has reached, a log that some
+-- node had, and receipts.
+pub record Note : Type 0 where
+  pub list : List Batch
+  pub node : ℕ
+  pub mark : ℕ
+  pub log : List Batch
+  pub receipts : List KeptReceipt
+
+-- A caller's pass: the committed list that it has seen, what it was told last, messages that are known to have been sent, the
+-- record that it was last shown, the watermark of each node that it was last shown, its receipts, and the records that its
+-- elections and decisions made. The newest of these come first.
 pub record CallerView : Type 0 where
   pub seen : List Batch
   pub told : Note
+  pub sent : List Message
   pub shown : LeaderAndIsr
   pub marks : List ℕ
   pub receipts : List KeptReceipt
-  pub elections : List LeaderAndIsr
+  pub changes : List LeaderAndIsr
 
--- All passes: the one that makes the passes of the nodes from j to n - 1; a node's; a caller's; that of a message that
--- was sent; a note on its way from one pass to another; and one that is used up.
+-- All passes: the founder, which makes the passes of the nodes from j to n - 1, and has made those of so many callers; a
+-- node's; a caller's; that of a message that was sent; a note on its way from one pass to another; and one that is used up.
 pub data View : Type 0 where
-  founder : (j n : ℕ) → View
+  founder : (j n made : ℕ) → View
   of_node : NodeView → View
   of_caller : CallerView → View
   of_message : Message → View
@@ -51,14 +54,14 @@ pub data View : Type 0 where
 
 -- node k's, on a board of n nodes
 abbrev pub new_node : (n k : ℕ) → NodeView
-new_node n k = record { number = k; state = fresh; shown = initial n; published = 0; told = [] }
+new_node n k = record { count = n; number = k; state = fresh; shown = initial n; published = 0; told = [] }
 
 abbrev pub no_note : Note
-no_note = record { list = []; node = 0; mark = 0; log = [] }
+no_note = record { list = []; node = 0; mark = 0; log = []; receipts = [] }
 
 -- a caller's, on a board of n nodes: it has seen the empty list, the record of the start and watermark 0 of each node
 abbrev pub new_caller : (n : ℕ) → CallerView
-new_caller n = record { seen = []; told = no_note; shown = initial n; marks = replicate n 0; receipts = []; elections = [] }
+new_caller n = record { seen = []; told = no_note; sent = []; shown = initial n; marks = replicate n 0; receipts = []; changes = [] }
 
 abbrev pub no_message : Message
 no_message = Asks (record { from = 0; to = 0; life = 0; epoch = 0; log = [] })
@@ -78,27 +81,56 @@ message_view (of_message l) = l
 message_view _ = no_message
 
 abbrev pub founder_count : View → ℕ
-founder_count (founder j n) = n
+founder_count (founder j n made) = n
 founder_count _ = 0
+
+-- ---- what the rule counts
+
+-- how many callers' passes a pass has made, which is one that has, and which is one of them
+abbrev pub made_by : View → ℕ
+made_by (founder j n made) = made
+made_by _ = 0
+
+abbrev pub one_if_founder : View → ℕ
+one_if_founder (founder j n made) = 1
+one_if_founder _ = 0
+
+abbrev pub one_if_caller : View → ℕ
+one_if_caller (of_caller c) = 1
+one_if_caller _ = 0
+
+-- how often a pass has changed the controller's record
+abbrev pub changes_by : View → ℕ
+changes_by (of_caller c) = length c.changes
+changes_by _ = 0
 
 -- ---- how a view is cut in two, and how two are joined
 
 -- the founder makes one node's pass, and goes on with the next node
 abbrev pub next_founder : View → View
-next_founder (founder j n) = founder (j + 1) n
+next_founder (founder j n made) = founder (j + 1) n made
 next_founder v = v
 
 abbrev pub founded_node : View → View
-founded_node (founder j n) = of_node (new_node n j)
+founded_node (founder j n made) = of_node (new_node n j)
 founded_node v = spent
+
+-- or makes one caller's pass
+abbrev pub admitting : View → View
+admitting (founder j n made) = founder j n (made + 1)
+admitting v = v
+
+abbrev pub admitted : View → View
+admitted (founder j n made) = of_caller (new_caller n)
+admitted v = spent
 
 -- a node tells what it holds, its mark word's value and its log
 abbrev pub node_note : NodeView → Note
-node_note p = record { list = held p.state; node = p.number; mark = p.published; log = p.state.log }
+node_note p = record { list = held p.state; node = p.number; mark = p.published; log = p.state.log; receipts = [] }
 
--- a caller tells what it has seen
+-- a caller tells what it has seen, and its receipts
 abbrev pub caller_note : CallerView → Note
-caller_note c = record { list = c.seen; node = 0; mark = 0; log = [] }
+caller_note c = record { list = c.seen; node = 0; mark = 0; log = []; receipts = c.receipts }
 
 abbrev pub noted : View → View
 noted (of_node p) = of_note (node_note p)
@@ -109,14 +141,24 @@ abbrev pub first_message : List Message → View
 first_message [] = spent
 first_message (l ∷ ls) = of_message l
 
--- a node gives out the message that it sent last; a message's pass is doubled
+-- a node gives out the message that it sent last, and so does a caller; a message's pass is doubled
 abbrev pub sent_message : View → View
 sent_message (of_node p) = first_message p.told
+sent_message (of_caller c) = first_message c.sent
 sent_message (of_message l) = of_message l
 sent_message _ = spent
 
--- a caller is told a note; a node is told that a message was sent
+-- a caller is told a note; a node or a caller is told that a message was sent
 abbrev pub told_of : View → View → View
 told_of (of_caller c) (of_note x) = of_caller (record c { told = x })
+told_of (of_caller c) (of_message l) = of_caller (record c { sent = l ∷ [] })
 told_of (of_node p) (of_message l) = of_node (record p { told = l ∷ [] })
 told_of v w = v
+
+-- a caller takes over the receipts of a note
+abbrev pub with_receipts : CallerView → List KeptReceipt → CallerView
+with_receipts c receipts = record c { receipts = receipts ++ c.receipts }
+
+abbrev pub receipts_of : View → View → View
+receipts_of (of_caller c) (of_note x) = of_caller (with_receipts c x.receipts)
+receipts_of v w = v

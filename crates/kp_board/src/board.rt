@@ -10,9 +10,9 @@ ghost use Rattle.kp_board.specs.Views.{KeptReceipt, new_node, new_caller};
 ghost use Rattle.kp_board.specs.Rule.{ShowsLastRecord, ShowsElection};
 ghost use Rattle.kp_board.specs.Plays.{Finds, IsPassedBy, Learned, electing};
 
-use crate::passes::{BoardName, FreshPass, NodePass, Pass};
+use crate::passes::{BoardName, Callers, FreshPass, NodePass, Pass};
 use crate::plays::{
-    Arrives, Election, Elects, Founds, KeepsReceipt, Looks, LooksAtMark, ReceiptFiling,
+    Admits, Election, Elects, Founds, KeepsReceipt, Looks, LooksAtMark, ReceiptFiling,
 };
 use crate::rule::{BoardSeat, BoardTable};
 use crate::word::record_of_word;
@@ -44,7 +44,7 @@ impl Model for Opened {
 
     ghost view = { λ o. o.table.shared.table_id };
 
-    ghost invariant = { λ o. (o.first.table_id ≡ o.table.shared.table_id) × (o.first.me ≡ (founder 0 o.nodes, [])) × (o.table.shared.key ≡ o.nodes) × (o.table.shared.table_id.words ≡ 2 * o.nodes + 1) × (o.nodes ≤ 7) };
+    ghost invariant = { λ o. (o.first.table_id ≡ o.table.shared.table_id) × (o.first.me ≡ (founder 0 o.nodes 0, [])) × (o.table.shared.key ≡ o.nodes) × (o.table.shared.table_id.words ≡ 2 * o.nodes + 1) × (o.nodes ≤ 7) };
 }
 
 /// The words that all threads share: word 0 is the controller's record, then each node has an end word and a mark word. A clause
@@ -97,13 +97,17 @@ impl Opened {
 }
 
 impl<B: BoardName> Board<B> {
-    /// The board under its name, and the pass of each node once, in their order. F33 is the only refusal, of the list of passes.
-    /// (Own rule.)
-    pub fn new(alloc: Global, opened: Opened) -> Result<(Board<B>, Vec<FreshPass<B>>), Refusal>
+    /// The board under its name, the pass of each node once, in their order, and what makes the passes of callers, which has made
+    /// none. F33 is the only refusal, of the list of passes. (Own rule.)
+    pub fn new(
+        alloc: Global,
+        opened: Opened,
+    ) -> Result<(Board<B>, Vec<FreshPass<B>>, Callers<B>), Refusal>
         requires { opened ≡ B.table }
         ensures nodes { IfOk result (λ r. 2 * r.0 + 1 ≡ opened.words) }
         ensures passes { IfOk result (λ r. (length r.1.items ≡ r.0)
             × ((k : ℕ) → k < r.0 → slice_get (map (λ f. f.pass) r.1.items) k ≡ Some (new_node r.0 k))) }
+        ensures callers { IfOk result (λ r. r.2 ≡ 0) }
         ensures only { IfErr result (λ refusal. refusal ≡ Memory) }
     {
         let Opened {
@@ -126,7 +130,11 @@ impl<B: BoardName> Board<B> {
             nodes,
             name: PhantomData,
         };
-        Ok((board, passes))
+        let callers = Callers {
+            seat: first,
+            name: PhantomData,
+        };
+        Ok((board, passes, callers))
     }
 
     /// How many nodes it is of. O(1).
@@ -137,12 +145,14 @@ impl<B: BoardName> Board<B> {
         self.nodes
     }
 
-    /// A new caller's pass: it has seen the empty list, the record of the start and watermark 0 of each node. A pass has no
-    /// bytes, so none is refused. O(1). (Own rule.)
-    pub fn pass(&self) -> Pass<B>
-        ensures { result ≡ new_caller self.now }
+    /// A new caller's pass: it has seen the empty list, the record of the start and watermark 0 of each node, and has changed
+    /// nothing. A pass has no bytes, so none is refused. One load, without memory or waiting. O(1). (Own rule.)
+    pub fn pass(&self, callers: &mut Callers<B>) -> Pass<B>
+        ensures new { result ≡ new_caller self.now }
+        ensures one { callers.new ≡ callers.old + 1 }
     {
-        let (_found, seat) = self.table.shared.load_new_seat::<Arrives>(0);
+        let _nodes = self.nodes; // as many as its words are for
+        let seat = self.table.shared.split_seat::<Admits>(&mut callers.seat);
         Pass {
             seat,
             name: PhantomData,

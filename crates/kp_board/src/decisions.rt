@@ -1,15 +1,15 @@
-//! The controller's decisions: each is one exchange of word 0, with the pass of the proposal that it is of.
-ghost use Rattle.std.specs.Prelude.{◌≡◌, ◌<◌, IfOk, IfErr, None};
+//! The controller's decisions: each is one exchange of word 0, with a caller's pass that was told of the proposal.
+ghost use Rattle.std.specs.Prelude.{◌≡◌, ◌<◌, ◌≤◌, [], ◌∷◌, IfOk, IfErr, OnErr, None};
 ghost use Rattle.kp_model.specs.World.{LeaderAndIsr as ModelRecord, Message as ModelMessage, Proposal as ModelProposal, Decision as ModelDecision, Proposes, Decides};
 ghost use Rattle.kp_model.specs.Letter.{letter, proposal_of, Proposing, Deciding};
 ghost use Rattle.kp_model.specs.Step.{decide_cause, decision};
 ghost use Rattle.kp_control.specs.Word.{packed};
-ghost use Rattle.kp_board.specs.Plays.{IsRecordOfWord};
-ghost use Rattle.kp_board.specs.Decisions.{IsUndecided, ShowsAfter, ShowsDecision, record_after};
+ghost use Rattle.kp_board.specs.Plays.{Finds};
+ghost use Rattle.kp_board.specs.Decisions.{IsUndecided, ShowsAfter, ShowsDecision, deciding, record_after};
 
 use crate::board::Board;
 use crate::message::Message;
-use crate::passes::{BoardName, MessagePass};
+use crate::passes::{BoardName, Pass};
 use crate::plays::DecidesOn;
 use crate::word::record_of_word;
 use kp_control::{decided, pack};
@@ -30,10 +30,10 @@ fn word_after(proposal: &Proposal) -> u64
 impl<B: BoardName> Board<B> {
     // The record's word as it is found. Where it is that of the record which the proposal names, the record has the proposed set
     // then, unless it is full.
-    fn exchange_decided(&self, pass: &mut MessagePass<B>, proposal: &Proposal) -> u64
-        requires { pass.old ≡ Proposes (proposal_of proposal.now) }
-        ensures { (c : ModelRecord) × IsRecordOfWord c result
-            × ShowsAfter (decide_cause c (proposal_of proposal.now)) c (proposal_of proposal.now) pass.new }
+    fn exchange_decided(&self, pass: &mut Pass<B>, proposal: &Proposal) -> u64
+        requires { pass.old.sent ≡ Proposes (proposal_of proposal.now) ∷ [] }
+        ensures { (c : ModelRecord) × Finds pass.old.shown c result
+            × ShowsAfter (decide_cause c (proposal_of proposal.now)) c (proposal_of proposal.now) pass.old pass.new }
     {
         proposal.known.is_in_range();
         let old = pack(&proposal.known);
@@ -43,28 +43,33 @@ impl<B: BoardName> Board<B> {
             .compare_exchange::<DecidesOn>(&mut pass.seat, 0, old, new)
     }
 
-    /// The controller's decision on a proposal, by the proposal's own pass: one event of the run decided on it. Where the record
-    /// still is the one that the proposal names, it has the proposed set then. The answer, which goes to the proposal's sender,
-    /// tells the record as it is after that event, whose version is above that of the one named. F24 where the record would change,
-    /// but its version is at its greatest; F29 for a message that is no proposal. The message is gone then, and nothing has
-    /// changed. One exchange of word 0, without memory or waiting. (KIP-497; own rule.)
-    pub fn decide(&self, message: Message<B>) -> Result<Message<B>, Refusal>
+    /// The controller's decision on a proposal: one event of the run decided on it. Where the record still is the one that the
+    /// proposal names, it has the proposed set then, and the pass has one change more. The answer, which goes to the proposal's
+    /// sender, tells the record as it is after that event, which is the one shown then; its version is above that of the one named.
+    /// F24 where the record would change, but its version is at its greatest; F29 for a message that is no proposal. The message
+    /// is gone then, and nothing has changed but the record shown. One exchange of word 0 and two loads, without memory or
+    /// waiting. (KIP-497; own rule.)
+    pub fn decide(&self, pass: &mut Pass<B>, message: Message<B>) -> Result<Message<B>, Refusal>
         ensures decided { IfOk result (λ answer. (p : ModelProposal) × (c : ModelRecord) × (letter message.body ≡ Proposing p)
             × (answer.pass ≡ Decides (decision c p)) × (letter answer.body ≡ Deciding (decision c p))
-            × (decide_cause c p ≡ None) × ShowsDecision p c) }
+            × (decide_cause c p ≡ None) × (pass.old.shown.version ≤ c.version) × (pass.new ≡ deciding c p pass.old)
+            × ShowsDecision p c pass.new) }
         ensures newer { IfOk result (λ answer. (d : ModelDecision) × (letter answer.body ≡ Deciding d)
             × (d.proposal.known.version < d.decided.version)) }
-        ensures refused { IfErr result (λ refusal. IsUndecided (letter message.body) refusal) }
+        ensures refused { IfErr result (IsUndecided (letter message.body) pass.old pass.new) }
+        ensures pass { OnErr result (pass.new ≡ record pass.old { sent = pass.new.sent; shown = pass.new.shown }) }
     {
-        let (body, mut pass) = message.into_parts();
+        let (body, told) = message.into_parts();
         let MessageBody::Proposal(proposal) = body else {
             return Err(Refusal::StaleAnswer);
         };
-        let found = self.exchange_decided(&mut pass, &proposal);
+        self.hear(pass, told);
+        let found = self.exchange_decided(pass, &proposal);
         let decision = decided(&record_of_word(found), &proposal)?;
+        let answer = self.heard(pass);
         Ok(Message {
             body: MessageBody::Decision(decision),
-            pass,
+            pass: answer,
         })
     }
 }

@@ -3,6 +3,8 @@
 //! The layer above reads off a pass what holds of a run of the definitions; each step on a word is a step of that run.
 #![tactic(auto)]
 
+ghost use Rattle.kp_board.specs.Laws.{CallersAgree};
+
 mod board;
 mod decisions;
 mod message;
@@ -16,7 +18,12 @@ mod word;
 
 pub use board::{Board, Opened};
 pub use message::Message;
-pub use passes::{BoardName, FreshPass, MessagePass, NodePass, Pass};
+pub use passes::{BoardName, Callers, FreshPass, MessagePass, NodePass, Pass};
 pub use plays::{Election, NodeStep, ReceiptFiling, SendingStep, StepUnderRecord};
 pub use rule::{BoardRule, BoardSeat, BoardTable};
 pub use views::SeatView;
+
+/// Of the committed lists that any two callers of one board have seen, whoever they are, one begins the other. It costs nothing.
+pub fn callers_agree()
+    ensures { CallersAgree }
+{}

@@ -68,8 +68,34 @@ impl<B: BoardName> NodePass<B> {
     }
 }
 
+/// Makes the passes of callers: `Board::new` gives it once, and neither a board nor a node has it, so that none of their calls has a
+/// caller's pass but those that it is lent. It has no bytes. A clause sees how many passes it has made. (Own rule.)
+pub struct Callers<B: BoardName> {
+    pub(crate) seat: BoardSeat,
+    pub(crate) name: PhantomData<B>,
+}
+
+// By hand, so that a function that drops it calls this, and isn't proved with what drops each of its parts.
+impl<B: BoardName> Drop for Callers<B> {
+    fn drop(self) {
+        let Callers { seat: _, name: _ } = self;
+    }
+}
+
+impl<B: BoardName> Model for Callers<B> {
+    ghost use Rattle.std.specs.Prelude.{◌≡◌, ◌+◌, ◌*◌, ℕ, []};
+    ghost use Rattle.kp_board.specs.Views.{founder, founder_count, made_by};
+
+    ghost Value = { ℕ };
+
+    ghost view = { λ c. made_by c.seat.me.0 };
+
+    ghost invariant = { λ c. (c.seat.table_id ≡ B.table) × (c.seat.me ≡ (founder (founder_count c.seat.me.0) (founder_count c.seat.me.0) (made_by c.seat.me.0), [])) × (B.table.words ≡ 2 * founder_count c.seat.me.0 + 1) };
+}
+
 /// A caller's pass. A clause sees what it shows (`CallerView`): the committed list that it has seen, the record and the
-/// watermarks that it was last shown, its receipts, and what it was told last. What it was shown never goes back.
+/// watermarks that it was last shown, its receipts, the changes of the record that its elections and decisions made, and what it was
+/// told last. What it was shown never goes back.
 pub struct Pass<B: BoardName> {
     pub(crate) seat: BoardSeat,
     pub(crate) name: PhantomData<B>,

@@ -144,15 +144,6 @@ impl<E: StepUnderRecord> Play<u8, SeatView> for StepsUnder<E> {
     ghost then = { SteppedUnder E.next E.knows };
 }
 
-// A new caller.
-pub(crate) struct Arrives;
-
-impl Play<u8, SeatView> for Arrives {
-    ghost use Rattle.kp_board.specs.Plays.{Arrived};
-
-    ghost then = { Arrived };
-}
-
 // A caller looks at the record.
 pub(crate) struct Looks;
 
@@ -213,6 +204,17 @@ impl Split<SeatView> for Founds {
     ghost right = { founded_node };
 }
 
+// A caller's pass is made.
+pub(crate) struct Admits;
+
+impl Split<SeatView> for Admits {
+    ghost use Rattle.kp_board.specs.Views.{admitting, admitted};
+
+    ghost left = { admitting };
+
+    ghost right = { admitted };
+}
+
 // A pass notes what it shows for another.
 pub(crate) struct Notes;
 
@@ -233,6 +235,17 @@ impl Split<SeatView> for Sends {
     ghost left = { λ v. v };
 
     ghost right = { sent_message };
+}
+
+// A caller's pass takes over the receipts that it is told of.
+pub(crate) struct TakesReceipts;
+
+impl Join<SeatView> for TakesReceipts {
+    ghost use Rattle.kp_board.specs.Views.{receipts_of, spent};
+
+    ghost both = { receipts_of };
+
+    ghost spent = { spent };
 }
 
 // A pass takes in what it is told.

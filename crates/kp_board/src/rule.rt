@@ -13,7 +13,7 @@ impl TableRule<u8, SeatView, u64> for BoardRule {
 
     ghost holds = { λ n s. Ruled n s };
 
-    ghost first = { λ n. founder 0 n };
+    ghost first = { λ n. founder 0 n 0 };
 }
 
 /// The words of a board under that rule.

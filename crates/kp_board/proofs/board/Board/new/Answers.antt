@@ -10,8 +10,8 @@ pub split_seat-seat-requires : goal.split_seat-seat-requires
 split_seat-seat-requires g c =
     let i = c.opened.invariant in
     let l = c.loop-number.invariant in
-    let at : c.loop-number.first.me.0 ≡ founder c.loop-number.number c.opened.inside.table.shared.key = ap (λ (m : Me ℕ View). m.0) l.1 ∙ ap (λ (x : ℕ). founder c.loop-number.number x) (sym i.2) in
-    (l.0, (let w = i.3 in omega arith), founds_as c.opened.inside.table.shared.key c.loop-number.first.id c.loop-number.number c.loop-number.first.me.0 at (let k = i.2 in omega arith))
+    let at : c.loop-number.first.me.0 ≡ founder c.loop-number.number c.opened.inside.table.shared.key 0 = ap (λ (m : Me ℕ View). m.0) l.1 ∙ ap (λ (x : ℕ). founder c.loop-number.number x 0) (sym i.2) in
+    (l.0, (let w = i.3 in omega arith), founds_as c.opened.inside.table.shared.key c.loop-number.first.id c.loop-number.number 0 c.loop-number.first.me.0 at (let k = i.2 in omega arith))
 
 pub invariant_of-push : goal.invariant_of-push
 invariant_of-push g c =
