@@ -42,10 +42,9 @@ IsMadeOf A B K r m = MatchResult r (λ x. IsOkAnd m (λ y. y ≡ K x)) (λ f. m 
 pub answering : (c : LeaderAndIsr) (old new : NumberedNode) (act : Act) (answer : Answer) → DoesUnder c old new act (answer_reply answer) → Comes c old new act (Ok (Answers answer))
 answering c old new act answer does =
     record {
-      effect = becomes c new.state (answer_reply answer);
+      effect = becomes new.state (answer_reply answer);
       local = does.0;
       node_is = refl;
-      record_is = refl;
       letters_are = refl;
       reply_is = refl;
       same = does.1;
@@ -54,10 +53,9 @@ answering c old new act answer does =
 pub refusing : (c : LeaderAndIsr) (old new : NumberedNode) (act : Act) (refusal : Refusal) → DoesUnder c old new act (Refused refusal) → Comes c old new act (Err refusal)
 refusing c old new act refusal does =
     record {
-      effect = becomes c new.state (Refused refusal);
+      effect = becomes new.state (Refused refusal);
       local = does.0;
       node_is = refl;
-      record_is = refl;
       letters_are = refl;
       reply_is = refl;
       same = does.1;
@@ -75,10 +73,9 @@ sending c old new act body does =
     let sent = does.0 in
     let l = letter body in
     record {
-      effect = sends c new.state sent.message (sent_reply l);
+      effect = sends new.state sent.message (sent_reply l);
       local = sent.local c;
       node_is = refl;
-      record_is = refl;
       letters_are = ap (λ (k : Letter). k ∷ []) sent.letter_is;
       reply_is = refl;
       same = does.1;

@@ -80,7 +80,7 @@ abbrev pub with_pending : NumberedNode → Leading → List ℕ → NumberedNode
 with_pending m l isr = record m { state = record m.state { mode = Leads (record l { pending = Some isr }) } }
 
 abbrev proposing : LeaderAndIsr → ℕ → Node → Leading → List ℕ → Effect
-proposing c n x l isr = sends c (record x { mode = Leads (record l { pending = Some isr }) }) (Proposes (proposal n l isr)) (SentProposal isr l.version)
+proposing c n x l isr = sends (record x { mode = Leads (record l { pending = Some isr }) }) (Proposes (proposal n l isr)) (SentProposal isr l.version)
 
 proposed : (c : LeaderAndIsr) (n : ℕ) (x : Node) (l : Leading) (change : IsrChange) → x.mode ≡ Leads l → isr_cause n x.watermark l change ≡ None
     → Local c n x (change_act change) (proposing c n x l (changed_isr change l.isr))
@@ -88,12 +88,12 @@ proposed c n x l (Join m) leads free =
     let isr = with_member m l.isr in
     let e = proposing c n x l isr in
     happened c n x (change_act (Join m)) e (cause_is c n x l (Join m) leads ∙ free)
-    (subst (λ (k : Mode). WhereLeads k (λ l. Proposes-set c n x (with_member m l.isr) l e)) (sym leads) refl)
+    (subst (λ (k : Mode). WhereLeads k (λ l. Proposes-set n x (with_member m l.isr) l e)) (sym leads) refl)
 proposed c n x l (Leave m) leads free =
     let isr = without_member m l.isr in
     let e = proposing c n x l isr in
     happened c n x (change_act (Leave m)) e (cause_is c n x l (Leave m) leads ∙ free)
-    (subst (λ (k : Mode). WhereLeads k (λ l. Proposes-set c n x (without_member m l.isr) l e)) (sym leads) refl)
+    (subst (λ (k : Mode). WhereLeads k (λ l. Proposes-set n x (without_member m l.isr) l e)) (sym leads) refl)
 
 pub proposes : (m : NumberedNode) (l : Leading) (change : IsrChange) (isr : List ℕ) → m.state.mode ≡ Leads l → isr_cause m.number m.state.watermark l change ≡ None → isr ≡ changed_isr change l.isr
     → DoesSending m (with_pending m l isr) (change_act change) (Proposing (proposal m.number l isr))
@@ -110,7 +110,7 @@ proposes m l change isr leads free is =
 -- ---- that a decision is learned
 
 pub learn_refused : (c : LeaderAndIsr) (m : NumberedNode) (d : Decision) (r : Refusal) → unless_leads m.state.mode (learn_cause d) ≡ Some r
-    → Local c m.number m.state (Receive (Decides d)) (becomes c m.state (Refused r))
+    → Local c m.number m.state (Receive (Decides d)) (becomes m.state (Refused r))
 learn_refused c m d r is = was_refused c m.number m.state (Receive (Decides d)) r is
 
 -- the leader that knows the decided set and version
@@ -121,10 +121,10 @@ pub learns : (m : NumberedNode) (l : Leading) (d : Decision) → m.state.mode �
     → Does m (with_decided m l d.decided.isr d.decided.version) (Receive (Decides d)) (Learned d.decided.isr d.decided.version)
 learns m l d leads free = λ c.
     let y = with_decided m l d.decided.isr d.decided.version in
-    let e : Effect = becomes c y.state (Learned d.decided.isr d.decided.version) in
+    let e : Effect = becomes y.state (Learned d.decided.isr d.decided.version) in
     let x = m.state in (
       happened c m.number x (Receive (Decides d)) e (ap (λ (k : Mode). unless_leads k (learn_cause d)) leads ∙ free)
-          (subst (λ (k : Mode). WhereLeads k (λ l. Learns c x d l e)) (sym leads) refl),
+          (subst (λ (k : Mode). WhereLeads k (λ l. Learns x d l e)) (sym leads) refl),
       (refl, refl),
     )
 

@@ -118,10 +118,10 @@ same_refusal cause other refusal result is refused same =
 
 -- what is cut is what the letter comes to
 pub cuts : (c : LeaderAndIsr) (n : ℕ) (x : Node) (r : FetchRequest) (end : Option EpochEnd) (log : List Batch) (to : ℕ) → cause_for c n x r ≡ None → to ≡ place_for x.log end
-    → log ≡ below to x.log → becomes c (record x { log = log }) (Cut to) ≡ cut c n x (diverging r end)
+    → log ≡ below to x.log → becomes (record x { log = log }) (Cut to) ≡ cut c n x (diverging r end)
 cuts c n x r end log to free at left =
-    (λ i. becomes c (record x { log = (left ∙ ap (λ (o : ℕ). below o x.log) at) i }) (Cut (at i)))
-    ∙ sym (ap (λ (o : Option Refusal). cut_by o c x (place_for x.log end)) free)
+    (λ i. becomes (record x { log = (left ∙ ap (λ (o : ℕ). below o x.log) at) i }) (Cut (at i)))
+    ∙ sym (ap (λ (o : Option Refusal). cut_by o x (place_for x.log end)) free)
 
 -- ---- what is left
 

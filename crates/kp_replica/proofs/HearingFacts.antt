@@ -32,7 +32,7 @@ use Rattle.kp_model.proofs.Cuts.Deliveries.{boundary_test}
 use Rattle.kp_model.proofs.OneStep.Letters.{Hands, hands, Tells, tells}
 use Rattle.kp_model.proofs.OneStep.Steps.{was_refused}
 use Rattle.kp_replica.specs.Cutting.{told_end, diverging, diverging_cause, place_for}
-use Rattle.kp_replica.specs.Hearing.{IsDiverging, letter_cause, answer_cause, answer_effect, IsShown, DoesShown, CutsAbove, IsFollowed, IsLeftShort}
+use Rattle.kp_replica.specs.Hearing.{letter_cause, answer_cause, answer_effect, IsShown, DoesShown, CutsAbove, IsFollowed, IsLeftShort}
 use Rattle.kp_replica.specs.NumberedNode.{NumberedNode, DoesUnder, IsSameNode}
 use Rattle.kp_replica.specs.Replies.{cut_reply, followed_reply, taken_reply}
 use Rattle.kp_replica.specs.Taking.{handed, fetch_cause, taking}
@@ -59,8 +59,8 @@ module _ (a : Answer) (r : FetchRequest) (f : Fetched) (same : answered_letter a
   given = hands a (handed f) f.watermark (some_is (ap (λ (l : FetchLetter). l.answering) same))
 
   -- what is taken, by the letter
-  taken_is : (c : LeaderAndIsr) (x : Node) → taken c x a.request.epoch (end_of a.request.log) (last_epoch a.request.log) (piece a.log a.request) a.watermark ≡ taking c x r f
-  taken_is c x = λ i. taken c x (same i).epoch (same i).offset (same i).last (given.batches_are i) (given.mark_is i)
+  taken_is : (x : Node) → taken x a.request.epoch (end_of a.request.log) (last_epoch a.request.log) (piece a.log a.request) a.watermark ≡ taking x r f
+  taken_is x = λ i. taken x (same i).epoch (same i).offset (same i).last (given.batches_are i) (given.mark_is i)
 
   pub take_refused : (x : Node) → take_cause x a ≡ fetch_cause x r f
   take_refused x = λ i. take_cause_for x (same i).epoch (same i).offset (same i).last (given.batches_are i) (given.mark_is i)
@@ -104,11 +104,11 @@ refuses shown m a refusal is = by_message
 -- and what is done where the letter's effect is left
 does : (shown c : LeaderAndIsr) (old : NumberedNode) (y : Node) (r : FetchRequest) (given : Answered) (reply : Reply) (b : Answer)
     → answered_letter b ≡ record (fetch_request r) { answering = Some (answering given) } → IsLog old.state.log → IsLog b.log → IsLog b.request.log
-    → IsKin b.request.log old.state.log → IsKin b.request.log b.log → becomes c y reply ≡ answer_effect c old r given
-    → Local c old.number old.state (Receive (Answers b)) (becomes c y reply)
+    → IsKin b.request.log old.state.log → IsKin b.request.log b.log → becomes y reply ≡ answer_effect c old r given
+    → Local c old.number old.state (Receive (Answers b)) (becomes y reply)
 does shown c old y r (answers.Batches f) reply b same h g q k l is =
     let step = (take_is_the_step c old.number old.state b (given b r f same).covered h g q k l).0 in
-    subst (λ (e : Effect). Local c old.number old.state (Receive (Answers b)) e) (taken_is b r f same c old.state ∙ sym is) step
+    subst (λ (e : Effect). Local c old.number old.state (Receive (Answers b)) e) (taken_is b r f same old.state ∙ sym is) step
 does shown c old y r (answers.Diverging end) reply b same h g q k l is =
     let step = (cut_is_the_step c old.number old.state b (told b r end same).covered h g q k l).0 in
     subst (λ (e : Effect). Local c old.number old.state (Receive (Answers b)) e) (ap (cut c old.number old.state) same ∙ sym is) step
@@ -137,7 +137,7 @@ event_by : (shown c : LeaderAndIsr) (old new : NumberedNode) (r : FetchRequest) 
     → answered_letter b ≡ record (fetch_request r) { answering = Some (answering given) } → IsLog old.state.log → IsLog b.log → IsLog b.request.log
     → IsKin b.request.log old.state.log → IsKin b.request.log b.log → CutsAbove shown old (Answers b) → IsShown shown given c → is_down old.state.mode ≡ false
     → IsRefusedOnlyBy (answer_cause shown old r given) result → OnErr result (new ≡ old)
-    → OnOk result ((k : LeaderAndIsr) → IsShown shown given k → becomes k new.state (followed_reply result) ≡ answer_effect k old r given) → IsSameNode old new
+    → OnOk result ((k : LeaderAndIsr) → IsShown shown given k → becomes new.state (followed_reply result) ≡ answer_effect k old r given) → IsSameNode old new
     → DoesUnder c old new (Receive (Answers b)) (followed_reply result)
 event_by shown c old new r given (Ok followed) b same h g q k l above under up refused stays done node =
     (does shown c old new.state r given (followed_reply (Ok followed)) b same h g q k l (done c under), node)
@@ -192,7 +192,7 @@ module _ (A : Type 0) (K : A → Followed) (reply : Result A Refusal → Reply) 
     (shown : LeaderAndIsr) (old new : NumberedNode) (request : FetchRequest) (given : Answered) (up : is_down old.state.mode ≡ false) (node : IsSameNode old new) where
   by_result : (r : Result A Refusal) (s : Result Followed Refusal) → MatchResult r (λ x. IsOkAnd s (λ y. y ≡ K x)) (λ f. s ≡ Err f)
       → IsRefusedOnlyBy (answer_cause shown old request given) r → OnErr r (new ≡ old)
-      → OnOk r ((c : LeaderAndIsr) → IsShown shown given c → becomes c new.state (reply r) ≡ answer_effect c old request given)
+      → OnOk r ((c : LeaderAndIsr) → IsShown shown given c → becomes new.state (reply r) ≡ answer_effect c old request given)
       → IsFollowed shown old new (record { request = request; answered = given }) s
   by_result (Ok x) (Ok y) is refused stays done =
       record {
@@ -200,7 +200,7 @@ module _ (A : Type 0) (K : A → Followed) (reply : Result A Refusal → Reply) 
         refused =
             subst (λ (o : Option Refusal). IsRefusedOnlyBy {A = Followed} o (Ok y)) (sym (only_none A (answer_cause shown old request given) x refused)) tt;
         same = tt;
-        done = λ c under. ap (λ (f : Followed). becomes c new.state (followed_reply (Ok f))) is ∙ ap (becomes c new.state) (replied x) ∙ done c under;
+        done = λ c under. ap (λ (f : Followed). becomes new.state (followed_reply (Ok f))) is ∙ ap (becomes new.state) (replied x) ∙ done c under;
         node = node;
       }
   by_result (Ok x) (Err f) is refused stays done = absurd is
@@ -217,21 +217,21 @@ module _ (A : Type 0) (K : A → Followed) (reply : Result A Refusal → Reply) 
 
 pub took : (shown : LeaderAndIsr) (old new : NumberedNode) (a : FetchAnswer) (f : Fetched) (r : Result Taken Refusal) (s : Result Followed Refusal) → a.answered ≡ answers.Batches f
     → is_down old.state.mode ≡ false → MatchResult r (λ x. IsOkAnd s (λ y. y ≡ follows.Took x)) (λ g. s ≡ Err g) → IsRefusedOnlyBy (fetch_cause old.state a.request f) r → OnErr r (new ≡ old)
-    → ((c : LeaderAndIsr) → becomes c new.state (taken_reply r) ≡ taking c old.state a.request f) → IsSameNode old new → IsFollowed shown old new a s
+    → becomes new.state (taken_reply r) ≡ taking old.state a.request f → IsSameNode old new → IsFollowed shown old new a s
 took shown old new a f r s is up made refused stays done node =
     subst (λ (g : Answered). IsFollowed shown old new (record { request = a.request; answered = g }) s) (sym is)
-    (by_result Taken follows.Took taken_reply (λ x. refl) shown old new a.request (answers.Batches f) up node r s made refused stays (always_ok r (λ c under. done c)))
+    (by_result Taken follows.Took taken_reply (λ x. refl) shown old new a.request (answers.Batches f) up node r s made refused stays (always_ok r (λ c under. done)))
 
 pub cut_by_answer : (shown : LeaderAndIsr) (old new : NumberedNode) (a : FetchAnswer) (end : Option EpochEnd) (r : Result CutBack Refusal) (s : Result Followed Refusal) → a.answered ≡ answers.Diverging end
     → is_down old.state.mode ≡ false → MatchResult r (λ x. IsOkAnd s (λ y. y ≡ follows.Cut x)) (λ g. s ≡ Err g) → IsRefusedOnlyBy (diverging_cause shown old a.request end) r → OnErr r (new ≡ old)
-    → OnOk r (becomes shown new.state (cut_reply r) ≡ cut shown old.number old.state (diverging a.request end)) → IsSameNode old new → IsFollowed shown old new a s
+    → OnOk r (becomes new.state (cut_reply r) ≡ cut shown old.number old.state (diverging a.request end)) → IsSameNode old new → IsFollowed shown old new a s
 cut_by_answer shown old new a end r s is up made refused stays done node =
     subst (λ (g : Answered). IsFollowed shown old new (record { request = a.request; answered = g }) s) (sym is)
     (by_result CutBack follows.Cut cut_reply (λ x. refl) shown old new a.request (answers.Diverging end) up node r s made refused stays (under_any r done))
   where
-    under_any : (r : Result CutBack Refusal) → OnOk r (becomes shown new.state (cut_reply r) ≡ cut shown old.number old.state (diverging a.request end))
-        → OnOk r ((c : LeaderAndIsr) → c ≡ shown → becomes c new.state (cut_reply r) ≡ cut c old.number old.state (diverging a.request end))
-    under_any (Ok x) done = λ c under. subst (λ (k : LeaderAndIsr). becomes k new.state (cut_reply (Ok x)) ≡ cut k old.number old.state (diverging a.request end)) (sym under) done
+    under_any : (r : Result CutBack Refusal) → OnOk r (becomes new.state (cut_reply r) ≡ cut shown old.number old.state (diverging a.request end))
+        → OnOk r ((c : LeaderAndIsr) → c ≡ shown → becomes new.state (cut_reply r) ≡ cut c old.number old.state (diverging a.request end))
+    under_any (Ok x) done = λ c under. subst (λ (k : LeaderAndIsr). becomes new.state (cut_reply (Ok x)) ≡ cut k old.number old.state (diverging a.request end)) (sym under) done
     under_any (Err f) done = tt
 
 -- ---- want of memory
@@ -243,15 +243,6 @@ left_short old new r (answers.Batches f) h s = λ b same g q k l c.
     (subst (Begins s.some) (sym (given b r f same).batches_are) s.begins) in
     subst (λ (y : NumberedNode). DoesUnder c old y (Receive (Answers b)) (Refused refusals.Memory)) (sym s.is) (step, (refl, refl))
 left_short old new r (answers.Diverging end) h s = absurd s
-
--- it is of batches alone
-pub no_cause_short : (shown : LeaderAndIsr) (old new : NumberedNode) (r : FetchRequest) (given : Answered) → IsLeftShort old new r given → letter_cause shown old r given ≡ None
-no_cause_short shown old new r (answers.Batches f) s = s.free
-no_cause_short shown old new r (answers.Diverging end) s = absurd s
-
-pub not_diverging : (old new : NumberedNode) (r : FetchRequest) (given : Answered) → IsLeftShort old new r given → IsDiverging given → ⊥
-not_diverging old new r (answers.Batches f) s d = d
-not_diverging old new r (answers.Diverging end) s d = s
 
 -- else no answer is refused so
 tests_spare : (has own low odd : Bool) → tests has own low odd ≡ Some refusals.Memory → ⊥

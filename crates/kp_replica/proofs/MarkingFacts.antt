@@ -65,31 +65,31 @@ mark_in_mode : (c : LeaderAndIsr) (n : ℕ) (x : Node) (l : Leading) (m : Marker
 mark_in_mode c n x l m leads = rw leads refl
 
 pub marker_refused : (c : LeaderAndIsr) (n : ℕ) (x : Node) (l : Leading) (m : Marker) (r : Refusal) → x.mode ≡ Leads l → admission_of x.log m ≡ NotAdmitted r
-    → Local c n x (mark_of m) (becomes c x (Refused r))
+    → Local c n x (mark_of m) (becomes x (Refused r))
 marker_refused c n x l m r leads is = was_refused c n x (mark_of m) r (mark_in_mode c n x l m leads ∙ ap (admission_cause x.log (body_of m)) is)
 
 pub marker_exhausts : (c : LeaderAndIsr) (n : ℕ) (x : Node) (l : Leading) (m : Marker) → x.mode ≡ Leads l → admission_of x.log m ≡ Append → exhausts x.log (body_of m) ≡ true
-    → Local c n x (mark_of m) (becomes c x (Refused OffsetsExhausted))
+    → Local c n x (mark_of m) (becomes x (Refused OffsetsExhausted))
 marker_exhausts c n x l m leads admitted past =
     was_refused c n x (mark_of m) OffsetsExhausted (mark_in_mode c n x l m leads ∙ ap (admission_cause x.log (body_of m)) admitted ∙ rw past refl)
 
 pub marker_lacked : (c : LeaderAndIsr) (n : ℕ) (x : Node) (l : Leading) (m : Marker) → x.mode ≡ Leads l → admission_of x.log m ≡ Append → exhausts x.log (body_of m) ≡ false
-    → Local c n x (mark_of m) (becomes c x (Refused Memory))
+    → Local c n x (mark_of m) (becomes x (Refused Memory))
 marker_lacked c n x l m leads admitted fits =
-    lacked_memory c n x (mark_of m) (becomes c x (Refused Memory)) (mark_in_mode c n x l m leads ∙ ap (admission_cause x.log (body_of m)) admitted ∙ rw fits refl) refl
+    lacked_memory c n x (mark_of m) (becomes x (Refused Memory)) (mark_in_mode c n x l m leads ∙ ap (admission_cause x.log (body_of m)) admitted ∙ rw fits refl) refl
 
 pub marked_event : (c : LeaderAndIsr) (n : ℕ) (x : Node) (l : Leading) (m : Marker) (result : Result Receipt Refusal) (log : List Batch) → x.mode ≡ Leads l
     → admission_of x.log m ≡ Append → unwrap_or (last_epoch x.log) 0 ≤ l.epoch → IsBody (body_of m)
     → IsRefusedBy (append_cause x.log (written (stamped x.log l.epoch (body_of m)))) result → OnOk result (log ≡ x.log ++ stamped x.log l.epoch (body_of m) ∷ []) → OnErr result (log ≡ x.log)
     → IfOk result (λ receipt. IsNamedBy receipt (stamped x.log l.epoch (body_of m)) × (receipt.duplicate ≡ false))
-    → Local c n x (mark_of m) (becomes c (record x { log = log }) (receipt_reply result))
+    → Local c n x (mark_of m) (becomes (record x { log = log }) (receipt_reply result))
 marked_event c n x l m result log leads admitted above lawful refused grown kept named =
     let body : Body = body_of m in
-    let e : Effect = becomes c (record x { log = x.log ++ stamped x.log l.epoch body ∷ [] }) (At (end_of x.log)) in
+    let e : Effect = becomes (record x { log = x.log ++ stamped x.log l.epoch body ∷ [] }) (At (end_of x.log)) in
     let same = same_cause x.log l.epoch body above ∙ sym (ap (admission_cause x.log body) admitted) ∙ sym (mark_in_mode c n x l m leads) in
-    let does : Marks c x l body (admission_of x.log m) e = (lawful, subst (λ (a : Admission). Appends c x l body a e) (sym admitted) refl) in
+    let does : Marks x l body (admission_of x.log m) e = (lawful, subst (λ (a : Admission). Appends x l body a e) (sym admitted) refl) in
     answered_by_log c n x (mark_of m) l.epoch body result log same
-    (subst (λ (k : Mode). WhereLeads k (λ l. Marks c x l body (admission_of x.log m) e)) (sym leads) does) refl refused grown kept named
+    (subst (λ (k : Mode). WhereLeads k (λ l. Marks x l body (admission_of x.log m) e)) (sym leads) does) refl refused grown kept named
 
 -- the marker stands in the log
 pub marked_receipt : (body : Body) (log new : List Batch) (epoch : ℕ) (result : Result Receipt Refusal)

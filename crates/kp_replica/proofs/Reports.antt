@@ -1,30 +1,14 @@
 -- What nodes reported are boundaries of the leader's log, and so is the watermark that is raised to the least of them.
-use Rattle.std.proofs.Common.{◌≡◌, ◌⊎◌, ℕ, zero, suc, ◌≤◌, List, [], ◌∷◌, ◌++◌, Option, Some, None, Result, Ok, Err, refl, sym, subst, ap, ◌∙◌, inl, inr, arith}
-use Rattle.std.specs.Prelude.{slice_index_or, max, unwrap_or, IfSome, OnOk, OnErr}
+use Rattle.std.proofs.Common.{◌≡◌, ◌⊎◌, ℕ, ◌≤◌, List, [], ◌∷◌, ◌++◌, Option, Some, None, Result, Ok, Err, sym, subst, ◌∙◌, inl, inr, arith}
+use Rattle.std.specs.Prelude.{max, unwrap_or, IfSome, OnOk, OnErr}
 use Rattle.std.proofs.lemmas.Bool.{cases_lt}
 use Rattle.kp_types.specs.declared.refusal.Refusal.{Refusal}
 use Rattle.kp_model.specs.Log.{Batch, end_of, IsBoundary}
-use Rattle.kp_model.specs.World.{Leading, Mode, Down, Idle, Leads, Follows, no_reports}
+use Rattle.kp_model.specs.World.{Leading, Mode, Down, Idle, Leads, Follows}
 use Rattle.kp_insync.specs.Reports.{IsReported}
 use Rattle.kp_replica.specs.declared.producing.Receipt.{Receipt}
 use Rattle.kp_replica.specs.NumberedNode.{HasReports}
 use Rattle.kp_replica.proofs.Boundaries.{boundary_push, boundary_end}
-
-none_reported : (m : ℕ) → slice_index_or no_reports m None ≡ None
-none_reported zero = refl
-none_reported (suc zero) = refl
-none_reported (suc (suc zero)) = refl
-none_reported (suc (suc (suc zero))) = refl
-none_reported (suc (suc (suc (suc zero)))) = refl
-none_reported (suc (suc (suc (suc (suc zero))))) = refl
-none_reported (suc (suc (suc (suc (suc (suc zero)))))) = refl
-none_reported (suc (suc (suc (suc (suc (suc (suc n))))))) = refl
-
--- a leader that has just begun has no reports
-pub none_has : (log : List Batch) (l : Leading) → l.reported ≡ no_reports → HasReports log (Leads l)
-none_has log l quiet = λ m end e.
-    let none : None ≡ Some end = sym (none_reported m) ∙ ap (λ (rs : List (Option ℕ)). slice_index_or rs m None) (sym quiet) ∙ e in
-    absurd cc
 
 reports_push : (log : List Batch) (b : Batch) (mode : Mode) → HasReports log mode → HasReports (log ++ b ∷ []) mode
 reports_push log b Down h = tt

@@ -4,7 +4,6 @@ use Rattle.std.specs.Prelude.{◌&&◌, not, is_some, IsFalse, if◌then◌else�
 use Rattle.std.specs.List.{AllByRecursion}
 use Rattle.std.proofs.lemmas.Bool.{cases_lt, le-ltb}
 use Rattle.std.proofs.lemmas.Option.{none-some}
-use Rattle.std.specs.Result.{IsErrAnd}
 use Rattle.kp_types.specs.Causes.{first_of, IsRefusedOnlyBy}
 use Rattle.kp_types.specs.declared.refusal.Refusal.{Refusal}
 use Rattle.kp_types.specs.declared.refusal.Refusal.TheVariants as refusals
@@ -29,11 +28,6 @@ use Rattle.kp_replica.specs.NumberedNode.{NumberedNode, Does, HasReports}
 use Rattle.kp_replica.specs.Sending.{DoesSending, IsServed}
 
 -- ---- refusals
-
--- what the exit of a `?` returns
-pub memory_exit : {T : Type 0} (result : Result T Refusal) (refusal : Refusal) → IsErrAnd result (λ f. f ≡ refusal) → refusal ≡ refusals.Memory
-    → IsErrAnd result (λ f. f ≡ refusals.Memory)
-memory_exit {T} result refusal h is = subst (λ (r : Refusal). IsErrAnd result (λ f. f ≡ r)) is h
 
 -- a log is read from each of its boundaries
 pub reads_from : {A : Type 0} (log : List Batch) (offset : ℕ) (result : Result A Refusal) (refusal : Refusal) → IsBoundary log offset
@@ -61,7 +55,7 @@ refuses m letter refusal _ unanswered cause e = absurd cc
 pub lacks : (m : NumberedNode) (letter : FetchLetter) (message : Message) → letter.answering ≡ None → cause_for m.state letter ≡ None
     → letter_of message ≡ Fetching letter → Does m m (Receive message) (Refused refusals.Memory)
 lacks m letter (Asks q) unanswered cause e =
-    λ c. (lacked_memory c m.number m.state (Receive (Asks q)) (becomes c m.state (Refused refusals.Memory)) (by_letter m.state q letter (fetched e) ∙ cause) refl, (refl, refl))
+    λ c. (lacked_memory c m.number m.state (Receive (Asks q)) (becomes m.state (Refused refusals.Memory)) (by_letter m.state q letter (fetched e) ∙ cause) refl, (refl, refl))
 lacks m letter (Answers a) unanswered cause e = absurd (no_request letter a unanswered e)
 lacks m letter _ unanswered cause e = absurd cc
 

@@ -107,12 +107,11 @@ letters_in (Ok (Answers answer)) = []
 letters_in (Err refusal) = []
 
 -- Under this record the node did so, and is now the new one: what came of it, or why it was refused, is an effect of the
--- definitions, and the record stays.
+-- definitions.
 pub record Comes (c : LeaderAndIsr) (old new : NumberedNode) (act : ModelAct) (outcome : Result Effect Refusal) : Type 0 where
   pub effect : ModelEffect
   pub local : Local c old.number old.state act effect
   pub node_is : effect.node ≡ new.state
-  pub record_is : effect.controller ≡ c
   pub letters_are : map letter_of effect.sent ≡ letters_in outcome
   pub reply_is : effect.reply ≡ reply_of outcome
   pub same : IsSameNode old new

@@ -1,5 +1,6 @@
 -- What a leader asks for when it asks for a change of the in-sync replicas (own rule; Kafka's AlterPartition).
 use Rattle.std.specs.Prelude.{◌≡◌, ℕ, ◌==◌, ◌||◌, not, List, [], ◌∷◌, Option}
+use Rattle.std.specs.Option.{option_map}
 use Rattle.kp_types.specs.Causes.{first_of}
 use Rattle.kp_types.specs.declared.refusal.Refusal.{Refusal}
 use Rattle.kp_types.specs.declared.refusal.Refusal.TheVariants as refusals
@@ -9,7 +10,9 @@ use Rattle.kp_model.specs.Event.{Act}
 use Rattle.kp_model.specs.Letter.{Letter, Proposing}
 use Rattle.kp_model.specs.Controller.{is_member, with_member, without_member}
 use Rattle.kp_model.specs.Effect.{WhereLeads}
-use Rattle.kp_model.specs.InSync.{change_cause, is_caught_up, proposal}
+use Rattle.kp_model.specs.InSync.{change_cause, is_caught_up, known_by, proposal}
+use Rattle.kp_model.specs.Set.{members_of, record_of}
+use Rattle.kp_replica.specs.declared.altering.Known.{Known}
 use Rattle.kp_replica.specs.declared.altering.IsrChange.{IsrChange}
 use Rattle.kp_replica.specs.declared.altering.IsrChange.TheVariants.{Join, Leave}
 use Rattle.kp_replica.specs.NumberedNode.{NumberedNode}
@@ -37,3 +40,8 @@ isr_cause n watermark l change = change_cause l.pending (changed_isr change l.is
 abbrev pub IsProposal : NumberedNode → IsrChange → Letter → Type 0
 IsProposal m change letter =
     WhereLeads m.state.mode (λ l. letter ≡ Proposing (proposal m.number l (changed_isr change l.isr)))
+
+-- The leader tells the record that it knows, and the in-sync replicas that it has proposed.
+abbrev pub IsKnownBy : NumberedNode → Known → Type 0
+IsKnownBy m known =
+    WhereLeads m.state.mode (λ l. (record_of known.record ≡ known_by m.number l) × (option_map members_of known.pending ≡ l.pending))

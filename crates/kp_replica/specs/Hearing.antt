@@ -35,7 +35,7 @@ answer_cause c m r (Diverging end) = diverging_cause c m r end
 
 -- what its letter comes to
 abbrev pub answer_effect : LeaderAndIsr → NumberedNode → FetchRequest → Answered → Effect
-answer_effect c m r (Batches f) = taking c m.state r f
+answer_effect c m r (Batches f) = taking m.state r f
 answer_effect c m r (Diverging end) = cut c m.number m.state (diverging r end)
 
 -- The record is the one that was shown; it may be any where the answer has batches, which looks at none.
@@ -57,7 +57,7 @@ CutsAbove c m _ = Unit {0}
 abbrev pub DoneAs : (shown : LeaderAndIsr) → NumberedNode → NumberedNode → FetchAnswer → Result Followed Refusal → Type 0
 DoneAs shown old new a result =
     (c : LeaderAndIsr) → IsShown shown a.answered c
-    → becomes c new.state (followed_reply result) ≡ answer_effect c old a.request a.answered
+    → becomes new.state (followed_reply result) ≡ answer_effect c old a.request a.answered
 
 -- What the node did with the answer, where it was shown this record: it refused it, and is as it was, or did what its letter
 -- comes to.

@@ -54,8 +54,7 @@ impl Replica {
     pub fn adopt(&mut self, controller: &LeaderAndIsr) -> Result<Role, Refusal>
         ensures refused { IsRefusedOnlyBy
             (adopt_cause (record_of controller.now) self.old.number self.old.state) result }
-        ensures adopted { OnOk result (becomes (record_of controller.now) self.new.state
-            (role_reply result)
+        ensures adopted { OnOk result (becomes self.new.state (role_reply result)
             ≡ adopted (record_of controller.now) self.old.number self.old.state) }
         ensures same { OnErr result (self.new ≡ self.old) }
         ensures event { IsWithin (record_of controller.now) self.old.state.log

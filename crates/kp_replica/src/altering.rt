@@ -28,6 +28,15 @@ pub struct Learned {
     pub version: u32,
 }
 
+/// What a leader knows of the controller's record, and what it has proposed.
+#[derive(Clone, Copy)]
+pub struct Known {
+    /// The record: this node leads, in its leader epoch, with these in-sync replicas, and the record has this version.
+    pub record: LeaderAndIsr,
+    /// The in-sync replicas that it has proposed, until it learns what the controller decided; none where it has proposed none.
+    pub pending: Option<NodeSet>,
+}
+
 /// Whether the sets have the same nodes. O(1).
 fn are_same(one: &NodeSet, other: &NodeSet) -> bool
     ensures { result ≡ bytes_eq (members_of one.now) (members_of other.now) }
@@ -69,7 +78,7 @@ impl Leading {
 }
 
 impl Replica {
-    ghost use Rattle.std.specs.Prelude.{◌≡◌, ◌≢◌, Err, IfOk, IfErr, OnErr};
+    ghost use Rattle.std.specs.Prelude.{◌≡◌, ◌≢◌, Err, IfOk, IfErr, None, OnErr};
     ghost use Rattle.kp_types.specs.Causes.{IsRefusedOnlyBy};
     ghost use Rattle.kp_types.specs.declared.refusal.Refusal.TheVariants.{Memory};
     ghost use Rattle.kp_model.specs.Event.{Receive, Refused};
@@ -81,7 +90,7 @@ impl Replica {
     ghost use Rattle.kp_model.specs.World.{LeaderAndIsr as ModelRecord, Decides};
     ghost use Rattle.kp_replica.specs.NumberedNode.{Does, IsSameNode};
     ghost use Rattle.kp_replica.specs.Modes.{leading_of};
-    ghost use Rattle.kp_replica.specs.Altering.{change_act, changed_isr, isr_cause, first_cause, IsProposal};
+    ghost use Rattle.kp_replica.specs.Altering.{change_act, changed_isr, isr_cause, first_cause, IsKnownBy, IsProposal};
     ghost use Rattle.kp_replica.specs.Replies.{learned_reply};
     ghost use Rattle.kp_replica.specs.Sending.{DoesSending};
 
@@ -122,6 +131,21 @@ impl Replica {
             Some(_) => Err(Refusal::ChangePending),
             None => self.first_change(leading, change),
         }
+    }
+
+    /// What the leader knows of the controller's record: its in-sync replicas, and the pending ones, count for the high watermark. F15
+    /// where the node doesn't lead. O(1), and no memory (Kafka protocol guide, 'DescribeTopicPartitions'; KIP-497).
+    pub fn known(&self) -> Result<Known, Refusal>
+        ensures known { IfOk result (IsKnownBy self.now) }
+        ensures refused { IsRefusedOnlyBy (unless_leads self.now.state.mode (λ _. None)) result }
+    {
+        let Mode::Leads(leading) = self.mode else {
+            return Err(Refusal::NotLeader);
+        };
+        Ok(Known {
+            record: leading.known(self.number),
+            pending: leading.pending,
+        })
     }
 
     /// Asks the controller for the change of the in-sync replicas: the changed set is pending from then on, beside the one that

@@ -24,7 +24,7 @@ mod up_or_down;
 
 pub use act::{Act, Answer, Effect, PlainAct};
 pub use adopting::Role;
-pub use altering::{IsrChange, Learned};
+pub use altering::{IsrChange, Known, Learned};
 pub use broker::Broker;
 pub use cutting::CutBack;
 pub use kept::KeptNode;
