@@ -17,7 +17,7 @@ use Rattle.kp_board.specs.Views.{NodeView}
 use Rattle.kp_board.specs.Premises.{MayStepUnder, leaves}
 use Rattle.kp_node.proofs.Ties.{Tied}
 
-leaves_by : (o : Option Refusal) (leader : Option Leader) (c : LeaderAndIsr) (n : ℕ) (x : Node) → adopted_by o leader c n x ≡ leaves c (adopted_by o leader c n x).node [] (adopted_by o leader c n x).reply
+leaves_by : (o : Option Refusal) (leader : Option Leader) (c : LeaderAndIsr) (n : ℕ) (x : Node) → adopted_by o leader c n x ≡ leaves (adopted_by o leader c n x).node [] (adopted_by o leader c n x).reply
 leaves_by (Some r) leader c n x = refl
 leaves_by None None c n x = refl
 leaves_by None (Some l) c n x = refl
@@ -37,9 +37,9 @@ pub adopt_tied : (words : ℕ) (c : LeaderAndIsr) (p p' : NodeView) (m m' : Numb
     → p' ≡ record p { state = (adopted c p.number p.state).node; shown = c } → Tied words p' m'
 adopt_tied words c p p' m m' reply t known does e =
     let did = does (subst (λ (x : Node). IsWithin c x.log) t.0 known) in
-    let one = (adopting_is_one c m.number m.state).1 (becomes c m'.state reply) did.0 in
+    let one = (adopting_is_one c m.number m.state).1 (becomes m'.state reply) did.0 in
     let state : (adopted c p.number p.state).node ≡ m'.state = (λ i. (adopted c (t.1 i) (t.0 i)).node) ∙ sym (ap (λ (f : Effect). f.node) one) in
-    let mark = marks_stay c m.number m.state Adopt (becomes c m'.state reply) tt did.0 in
+    let mark = marks_stay c m.number m.state Adopt (becomes m'.state reply) tt did.0 in
     let low = t.2 in
     subst (λ (q : NodeView). Tied words q m') (sym e) (state, t.1 ∙ sym did.1.0, omega arith, t.3)
 

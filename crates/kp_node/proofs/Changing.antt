@@ -48,33 +48,33 @@ same_refusal e = cc
 
 sends_one : (c : LeaderAndIsr) (n : ℕ) (x : Node) (change : IsrChange) (e : Effect) → Happens c n x (change_act change) e → e.sent ≡ [] → ⊥
 sends_one c n x (Join m) e h none =
-    let l = where_leads x.mode (λ (l : Leading). Proposes-set c n x (changed_isr (Join m) l.isr) l e) h in none_sent _ [] (sym (ap (λ (f : Effect). f.sent) l.2) ∙ none)
+    let l = where_leads x.mode (λ (l : Leading). Proposes-set n x (changed_isr (Join m) l.isr) l e) h in none_sent _ [] (sym (ap (λ (f : Effect). f.sent) l.2) ∙ none)
 sends_one c n x (Leave m) e h none =
-    let l = where_leads x.mode (λ (l : Leading). Proposes-set c n x (changed_isr (Leave m) l.isr) l e) h in none_sent _ [] (sym (ap (λ (f : Effect). f.sent) l.2) ∙ none)
+    let l = where_leads x.mode (λ (l : Leading). Proposes-set n x (changed_isr (Leave m) l.isr) l e) h in none_sent _ [] (sym (ap (λ (f : Effect). f.sent) l.2) ∙ none)
 
-lacks : (c : LeaderAndIsr) (x : Node) (change : IsrChange) (e : Effect) → LacksMemory c x (change_act change) e → e ≡ becomes c x (Refused Memory)
-lacks c x (Join m) e h = h
-lacks c x (Leave m) e h = h
+lacks : (x : Node) (change : IsrChange) (e : Effect) → LacksMemory x (change_act change) e → e ≡ becomes x (Refused Memory)
+lacks x (Join m) e h = h
+lacks x (Leave m) e h = h
 
 -- it was refused by this cause, and the node is as it was
 record Stays (o : Option Refusal) (x y : Node) (f : Refusal) : Type 0 where
   node : y ≡ x
   by : o ≡ Some f
 
-stays_by : (o : Option Refusal) (c : LeaderAndIsr) (n : ℕ) (x y : Node) (change : IsrChange) (f : Refusal) → (f ≡ Memory → ⊥) → LocalBy o c n x (change_act change) (becomes c y (Refused f)) → Stays o x y f
+stays_by : (o : Option Refusal) (c : LeaderAndIsr) (n : ℕ) (x y : Node) (change : IsrChange) (f : Refusal) → (f ≡ Memory → ⊥) → LocalBy o c n x (change_act change) (becomes y (Refused f)) → Stays o x y f
 stays_by (Some g) c n x y change f spared h = record { node = ap (λ (e : Effect). e.node) h; by = sym (ap Some (same_refusal (ap (λ (e : Effect). e.reply) h))) }
 stays_by None c n x y change f spared (inl h) = absurd (sends_one c n x change _ h refl)
-stays_by None c n x y change f spared (inr h) = absurd (spared (same_refusal (ap (λ (e : Effect). e.reply) (lacks c x change _ h))))
+stays_by None c n x y change f spared (inr h) = absurd (spared (same_refusal (ap (λ (e : Effect). e.reply) (lacks x change _ h))))
 
-stays : (c : LeaderAndIsr) (n : ℕ) (x y : Node) (change : IsrChange) (f : Refusal) → (f ≡ Memory → ⊥) → Local c n x (change_act change) (becomes c y (Refused f)) → Stays (cause c n x (change_act change)) x y f
+stays : (c : LeaderAndIsr) (n : ℕ) (x y : Node) (change : IsrChange) (f : Refusal) → (f ≡ Memory → ⊥) → Local c n x (change_act change) (becomes y (Refused f)) → Stays (cause c n x (change_act change)) x y f
 unfolding Local
 stays c n x y change f spared h = stays_by (cause c n x (change_act change)) c n x y change f spared h
 
-free_by : (o : Option Refusal) (c : LeaderAndIsr) (n : ℕ) (x y : Node) (act : Act) (message : Message) (reply : Reply) → LocalBy o c n x act (sends c y message reply) → o ≡ None
+free_by : (o : Option Refusal) (c : LeaderAndIsr) (n : ℕ) (x y : Node) (act : Act) (message : Message) (reply : Reply) → LocalBy o c n x act (sends y message reply) → o ≡ None
 free_by (Some g) c n x y act message reply h = absurd (none_sent message [] (ap (λ (e : Effect). e.sent) h))
 free_by None c n x y act message reply h = refl
 
-free : (c : LeaderAndIsr) (n : ℕ) (x y : Node) (act : Act) (message : Message) (reply : Reply) → Local c n x act (sends c y message reply) → cause c n x act ≡ None
+free : (c : LeaderAndIsr) (n : ℕ) (x y : Node) (act : Act) (message : Message) (reply : Reply) → Local c n x act (sends y message reply) → cause c n x act ≡ None
 unfolding Local
 free c n x y act message reply h = free_by (cause c n x act) c n x y act message reply h
 

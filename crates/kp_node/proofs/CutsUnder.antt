@@ -42,11 +42,11 @@ FitsCut c n x m = (a : Answer) → m ≡ Answers a → CutsWell c n x a
 
 -- ---- what a cut comes to
 
-leaves_by : (o : Option Refusal) (c : LeaderAndIsr) (x : Node) (place : ℕ) → cut_by o c x place ≡ leaves c (cut_by o c x place).node [] (cut_by o c x place).reply
+leaves_by : (o : Option Refusal) (c : LeaderAndIsr) (x : Node) (place : ℕ) → cut_by o x place ≡ leaves (cut_by o x place).node [] (cut_by o x place).reply
 leaves_by (Some r) c x place = refl
 leaves_by None c x place = refl
 
-cut_leaves : (c : LeaderAndIsr) (n : ℕ) (x : Node) (l : FetchLetter) → cut c n x l ≡ leaves c (cut c n x l).node [] (cut c n x l).reply
+cut_leaves : (c : LeaderAndIsr) (n : ℕ) (x : Node) (l : FetchLetter) → cut c n x l ≡ leaves (cut c n x l).node [] (cut c n x l).reply
 cut_leaves c n x l = leaves_by (cut_cause_for c n x l.from l.life l.epoch l.offset l.last) c x (cut_place x.log (answered_end l.answering))
 
 -- ---- at the end of a run
@@ -58,7 +58,7 @@ module _ (n : ℕ) (r : Run n) (k : ℕ) (x : Node) (at : (last r).nodes k ≡ x
     above = subst (λ (y : Node). IsFalse (is_covered a.log a.request) → cut_cause (last r).controller k y a ≡ None → y.watermark ≤ place_of y a) at (no_cut_below n r (last r) (last_is_of n r) k a sent);
   }
 
-  cut_goes : is_covered a.log a.request ≡ false → Local (last r).controller k x (Receive (Answers a)) (leaves (last r).controller (cut (last r).controller k x (answered_letter a)).node [] (cut (last r).controller k x (answered_letter a)).reply)
+  cut_goes : is_covered a.log a.request ≡ false → Local (last r).controller k x (Receive (Answers a)) (leaves (cut (last r).controller k x (answered_letter a)).node [] (cut (last r).controller k x (answered_letter a)).reply)
   cut_goes diverges =
       let c = (last r).controller in
       let well = cuts_well.heard in
@@ -77,11 +77,11 @@ cut_may words p m message ans end t told letter diverges =
           let c = (last r).controller in
           let known : IsSent (last r).messages (Answers b.answer) = subst (IsSent (last r).messages) b.is (subst (AreSent (last r).messages) told shows.told).0 in
           let goes = cut_goes n r p.number p.state shows.state b.answer known parted in
-          let by_letter : Local c p.number p.state (Receive (Answers b.answer)) (leaves c (cut c p.number p.state (fetch_answer ans)).node [] (cut c p.number p.state (fetch_answer ans)).reply) =
-          subst (λ (l : FetchLetter). Local c p.number p.state (Receive (Answers b.answer)) (leaves c (cut c p.number p.state l).node [] (cut c p.number p.state l).reply)) same goes in
+          let by_letter : Local c p.number p.state (Receive (Answers b.answer)) (leaves (cut c p.number p.state (fetch_answer ans)).node [] (cut c p.number p.state (fetch_answer ans)).reply) =
+          subst (λ (l : FetchLetter). Local c p.number p.state (Receive (Answers b.answer)) (leaves (cut c p.number p.state l).node [] (cut c p.number p.state l).reply)) same goes in
           inr (
             (cut c p.number p.state (fetch_answer ans)).reply,
-            subst (λ (z : Message). Local c p.number p.state (Receive z) (leaves c (cut c p.number p.state (fetch_answer ans)).node [] (cut c p.number p.state (fetch_answer ans)).reply)) (sym b.is) by_letter,
+            subst (λ (z : Message). Local c p.number p.state (Receive z) (leaves (cut c p.number p.state (fetch_answer ans)).node [] (cut c p.number p.state (fetch_answer ans)).reply)) (sym b.is) by_letter,
           );
       mark = λ c. let low = t.2 in let same = ap (λ (x : Node). x.watermark) t.0 in omega arith;
       known = λ n r shows.
@@ -99,18 +99,18 @@ no_cut : (f : Refusal) (end : ℕ) → Refused f ≡ Cut end → ⊥
 unfolding HasCut
 no_cut f end e = subst HasCut (sym e) tt
 
-refused_by : (o : Option Refusal) (c : LeaderAndIsr) (n : ℕ) (x y : Node) (a : Answer) (f : Refusal) (place : ℕ) → is_covered a.log a.request ≡ false → LocalBy o c n x (Receive (Answers a)) (becomes c y (Refused f)) → (cut_by o c x place).node ≡ y
+refused_by : (o : Option Refusal) (c : LeaderAndIsr) (n : ℕ) (x y : Node) (a : Answer) (f : Refusal) (place : ℕ) → is_covered a.log a.request ≡ false → LocalBy o c n x (Receive (Answers a)) (becomes y (Refused f)) → (cut_by o x place).node ≡ y
 refused_by (Some r) c n x y a f place parted h = sym (ap (λ (e : Effect). e.node) h)
 refused_by None c n x y a f place parted (inl h) =
-    let cuts : Cuts c x a (becomes c y (Refused f)) = subst (λ b. Accepts c x a b (becomes c y (Refused f))) parted h in
+    let cuts : Cuts x a (becomes y (Refused f)) = subst (λ b. Accepts x a b (becomes y (Refused f))) parted h in
     absurd (no_cut f _ (ap (λ (e : Effect). e.reply) cuts.effect_is))
 refused_by None c n x y a f place parted (inr h) = absurd (false≢true (sym parted ∙ h.0))
 
-refused_cut : (c : LeaderAndIsr) (n : ℕ) (x y : Node) (a : Answer) (f : Refusal) → is_covered a.log a.request ≡ false → Local c n x (Receive (Answers a)) (becomes c y (Refused f)) → (cut c n x (answered_letter a)).node ≡ y
+refused_cut : (c : LeaderAndIsr) (n : ℕ) (x y : Node) (a : Answer) (f : Refusal) → is_covered a.log a.request ≡ false → Local c n x (Receive (Answers a)) (becomes y (Refused f)) → (cut c n x (answered_letter a)).node ≡ y
 unfolding Local
 refused_cut c n x y a f parted h =
     ap (λ (e : Effect). e.node) (by_answer c n x a parted)
-    ∙ refused_by (cut_cause c n x a) c n x y a f (place_of x a) parted (subst (λ (o : Option Refusal). LocalBy o c n x (Receive (Answers a)) (becomes c y (Refused f))) (cause_is c n x a parted) h)
+    ∙ refused_by (cut_cause c n x a) c n x y a f (place_of x a) parted (subst (λ (o : Option Refusal). LocalBy o c n x (Receive (Answers a)) (becomes y (Refused f))) (cause_is c n x a parted) h)
 
 pub record HasCutBack (words : ℕ) (c : LeaderAndIsr) (p p' : NodeView) (m m' : NumberedNode) (message : Message) (l : FetchLetter) (reply : Reply) : Type 0 where
   pub tied : Tied words p' m'
@@ -133,7 +133,7 @@ cut_back words c p p' m m' message ans end result t told letter diverges fits ev
     let under : IsShown c ans.answered c = subst (λ (z : Answered). IsShown c z c) (sym diverges) refl in
     let did = event a same well.heard.log well.heard.asked well.heard.own well.heard.kin well.above c under in
     let state : (cut c m.number m.state l).node ≡ m'.state = by_result result is under did.0 parted same in
-    let mark = marks_stay c m.number m.state (Receive (Answers a)) (becomes c m'.state (followed_reply result)) parted did.0 in
+    let mark = marks_stay c m.number m.state (Receive (Answers a)) (becomes m'.state (followed_reply result)) parted did.0 in
     let low = t.2 in
     let shown : (cut c p.number p.state l).node ≡ m'.state = (λ i. (cut c (t.1 i) (t.0 i) l).node) ∙ state in record {
       tied = subst (λ (q : NodeView). Tied words q m') (sym e) (shown, t.1 ∙ sym did.1.0, omega arith, t.3);
@@ -146,7 +146,7 @@ cut_back words c p p' m m' message ans end result t told letter diverges fits ev
         (λ i. answer_effect c m ans.request (diverges i))
         ∙ (λ i. cut c m.number m.state (record (fetch_request ans.request) { answering = Some (answering (sym diverges i)) }))
 
-    by_result : (res : Result Followed Refusal) → Done m m' ans.request c ans.answered res → IsShown c ans.answered c → Local c m.number m.state (Receive (Answers (answer_in message ans letter).answer)) (becomes c m'.state (followed_reply res))
+    by_result : (res : Result Followed Refusal) → Done m m' ans.request c ans.answered res → IsShown c ans.answered c → Local c m.number m.state (Receive (Answers (answer_in message ans letter).answer)) (becomes m'.state (followed_reply res))
         → is_covered (answer_in message ans letter).answer.log (answer_in message ans letter).answer.request ≡ false → answered_letter (answer_in message ans letter).answer ≡ fetch_answer ans → (cut c m.number m.state (fetch_answer ans)).node ≡ m'.state
     by_result (Ok followed) done under local parted same = sym (ap (λ (f : Effect). f.node) (done c under ∙ effect_is))
     by_result (Err f) done under local parted same =

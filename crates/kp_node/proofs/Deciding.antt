@@ -37,7 +37,7 @@ pub may_go_under : (p : NodeView) (m m' : NumberedNode) (act : Act) (reply : Rep
 may_go_under p m m' act reply state number low given does = record {
   given = given;
   local = λ n r shows.
-      inr (reply, subst (λ (z : ℕ × Node). Local (last r).controller z.0 z.1 act (becomes (last r).controller m'.state reply)) (λ j. (sym number j, sym state j)) (does (last r).controller).0);
+      inr (reply, subst (λ (z : ℕ × Node). Local (last r).controller z.0 z.1 act (becomes m'.state reply)) (λ j. (sym number j, sym state j)) (does (last r).controller).0);
   mark = λ c. let same = ap (λ (x : Node). x.watermark) state in omega arith;
   known = λ n r shows. tt;
 }

@@ -36,17 +36,17 @@ unfolding HasOne
 none_sent m ms e = subst HasOne e tt
 
 module _ (c : LeaderAndIsr) (n : ℕ) (x y : Node) (r : Request) (m : Message) (reply : Reply) where
-  sent_so : (o : Option Refusal) → LocalBy o c n x (Receive (Asks r)) (sends c y m reply) → m ≡ Answers (answer x r)
+  sent_so : (o : Option Refusal) → LocalBy o c n x (Receive (Asks r)) (sends y m reply) → m ≡ Answers (answer x r)
   sent_so (Some refusal) h = absurd (none_sent m [] (ap (λ (e : Effect). e.sent) h))
   sent_so None (inl h) =
-      let at = where_leads x.mode (λ (l : Leading). Serves c x r l (sends c y m reply)) h in
+      let at = where_leads x.mode (λ (l : Leading). Serves x r l (sends y m reply)) h in
       elim at.2 [
         | inl lifts ↦ ap (λ (e : Effect). first_told e.sent) lifts.1
         | inr diverges ↦ ap (λ (e : Effect). first_told e.sent) diverges.1
       ]
   sent_so None (inr h) = absurd (none_sent m [] (ap (λ (e : Effect). e.sent) h))
 
-  sends_it : Local c n x (Receive (Asks r)) (sends c y m reply) → m ≡ Answers (answer x r)
+  sends_it : Local c n x (Receive (Asks r)) (sends y m reply) → m ≡ Answers (answer x r)
   unfolding Local
   sends_it h = sent_so (cause c n x (Receive (Asks r))) h
 

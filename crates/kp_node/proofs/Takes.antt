@@ -52,7 +52,7 @@ module _ (p : NodeView) (m m' : NumberedNode) (sent : Message) (a : FetchAnswer)
     given = λ messages known. (subst (AreSent messages) told known).0;
     local = λ n r shows.
         let c = (last r).controller in
-        subst (λ (z : ℕ × Node). Local c z.0 z.1 (Receive sent) (becomes c m'.state reply)) (λ i. (sym number i, sym state i)) (takes n r shows c).0;
+        subst (λ (z : ℕ × Node). Local c z.0 z.1 (Receive sent) (becomes m'.state reply)) (λ i. (sym number i, sym state i)) (takes n r shows c).0;
   }
 
   -- after the step, by the run in which it happened
@@ -69,30 +69,30 @@ IsCut : Reply → Type 0
 IsCut (Cut end) = Unit {0}
 IsCut _ = ⊥
 
-taken_no_cut : (o : Option Refusal) (c : LeaderAndIsr) (x : Node) (batches : List Batch) (watermark : ℕ) → IsCut (taken_by o c x batches watermark).reply → ⊥
+taken_no_cut : (o : Option Refusal) (x : Node) (batches : List Batch) (watermark : ℕ) → IsCut (taken_by o x batches watermark).reply → ⊥
 unfolding IsCut
-taken_no_cut (Some r) c x batches watermark h = h
-taken_no_cut None c x batches watermark h = h
+taken_no_cut (Some r) x batches watermark h = h
+taken_no_cut None x batches watermark h = h
 
-cut_no_take : (o : Option Refusal) (c : LeaderAndIsr) (x : Node) (place : ℕ) → IsTook (cut_by o c x place).reply → ⊥
+cut_no_take : (o : Option Refusal) (x : Node) (place : ℕ) → IsTook (cut_by o x place).reply → ⊥
 unfolding IsTook
-cut_no_take (Some r) c x place h = h
-cut_no_take None c x place h = h
+cut_no_take (Some r) x place h = h
+cut_no_take None x place h = h
 
 of_sort : (c : LeaderAndIsr) (m m' : NumberedNode) (act : Act) (r : FetchRequest) (answered : Answered) (followed : Followed)
-    → becomes c m'.state (followed_reply (Ok followed)) ≡ answer_effect c m r answered → DoesUnder c m m' act (followed_reply (Ok followed)) → WasFollowed answered c m m' act
+    → becomes m'.state (followed_reply (Ok followed)) ≡ answer_effect c m r answered → DoesUnder c m m' act (followed_reply (Ok followed)) → WasFollowed answered c m m' act
 unfolding IsTook IsCut
 of_sort c m m' act r (Batches f) (follows.Took taken) is does = (taken, does)
 of_sort c m m' act r (Batches f) (follows.Cut back) is does =
-    absurd (taken_no_cut (take_cause_for m.state r.epoch r.offset r.last_epoch (handed f) f.watermark) c m.state (handed f) f.watermark (subst IsCut (ap (λ (e : Effect). e.reply) is) tt))
+    absurd (taken_no_cut (take_cause_for m.state r.epoch r.offset r.last_epoch (handed f) f.watermark) m.state (handed f) f.watermark (subst IsCut (ap (λ (e : Effect). e.reply) is) tt))
 of_sort c m m' act r (Diverging end) (follows.Took taken) is does =
-    absurd (cut_no_take (cut_cause_for c m.number m.state r.from r.life r.epoch r.offset r.last_epoch) c m.state (cut_place m.state.log (told_end end)) (subst IsTook (ap (λ (e : Effect). e.reply) is) tt))
+    absurd (cut_no_take (cut_cause_for c m.number m.state r.from r.life r.epoch r.offset r.last_epoch) m.state (cut_place m.state.log (told_end end)) (subst IsTook (ap (λ (e : Effect). e.reply) is) tt))
 of_sort c m m' act r (Diverging end) (follows.Cut back) is does = (back, does)
 
 -- where it wasn't refused the node is what the answer comes to
 abbrev pub Done : (m m' : NumberedNode) → FetchRequest → (shown : LeaderAndIsr) → Answered → Result Followed Refusal → Type 0
 Done m m' r shown answered result =
-    OnOk result ((d : LeaderAndIsr) → IsShown shown answered d → becomes d m'.state (followed_reply result) ≡ answer_effect d m r answered)
+    OnOk result ((d : LeaderAndIsr) → IsShown shown answered d → becomes m'.state (followed_reply result) ≡ answer_effect d m r answered)
 
 module _ (m m' : NumberedNode) (act : Act) (r : FetchRequest) (shown : LeaderAndIsr) (answered : Answered) where
   pub followed_under : (c : LeaderAndIsr) (result : Result Followed Refusal) → IsShown shown answered c → Done m m' r shown answered result → DoesUnder c m m' act (followed_reply result) → IfOk result (λ followed. WasFollowed answered c m m' act)

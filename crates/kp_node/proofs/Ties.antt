@@ -35,11 +35,11 @@ tied_at words mark p p' m m' t number is e =
 -- what an act that keeps the watermark leaves of it
 pub kept_low : (m m' : NumberedNode) (act : Act) (reply : Reply) (published : ℕ) → KeepsMark act → Does m m' act reply → m.state.watermark ≤ published → m'.state.watermark ≤ published
 kept_low m m' act reply published keeps does low =
-    let same = marks_stay (initial 0) m.number m.state act (becomes (initial 0) m'.state reply) keeps (does (initial 0)).0 in omega arith
+    let same = marks_stay (initial 0) m.number m.state act (becomes m'.state reply) keeps (does (initial 0)).0 in omega arith
 
 pub sent_low : (m m' : NumberedNode) (act : Act) (message : Message) (letter : Letter) (published : ℕ) → KeepsMark act → Sent m m' act message letter → m.state.watermark ≤ published → m'.state.watermark ≤ published
 sent_low m m' act message letter published keeps sent low =
-    let same = marks_stay (initial 0) m.number m.state act (sends (initial 0) m'.state message (sent_reply letter)) keeps (sent.0.1 (initial 0)) in omega arith
+    let same = marks_stay (initial 0) m.number m.state act (sends m'.state message (sent_reply letter)) keeps (sent.0.1 (initial 0)) in omega arith
 
 -- a restart takes the watermark back to the checkpoint
 restart_by : (o : Option Refusal) (c : LeaderAndIsr) (n : ℕ) (x : Node) (e : Effect) → LocalBy o c n x Restart e → x.checkpoint ≤ x.watermark → e.node.watermark ≤ x.watermark
@@ -52,7 +52,7 @@ unfolding Local
 restart_local c n x e h low = restart_by (cause c n x Restart) c n x e h low
 
 pub restart_low : (m m' : NumberedNode) (reply : Reply) → Does m m' Restart reply → m.state.checkpoint ≤ m.state.watermark → m'.state.watermark ≤ m.state.watermark
-restart_low m m' reply does low = restart_local (initial 0) m.number m.state (becomes (initial 0) m'.state reply) (does (initial 0)).0 low
+restart_low m m' reply does low = restart_local (initial 0) m.number m.state (becomes m'.state reply) (does (initial 0)).0 low
 
 -- what a node's call does, its pass may go along with
 pub may_go : (p : NodeView) (m m' : NumberedNode) (act : Act) (reply : Reply) → p.state ≡ m.state → p.number ≡ m.number → ((messages : List Message) → AreSent messages p.told → IsGiven messages act)
@@ -61,7 +61,7 @@ may_go p m m' act reply state number given does = record {
   reply = reply;
   given = given;
   local = λ n r shows.
-      subst (λ (z : ℕ × Node). Local (last r).controller z.0 z.1 act (becomes (last r).controller m'.state reply)) (λ j. (sym number j, sym state j)) (does (last r).controller).0;
+      subst (λ (z : ℕ × Node). Local (last r).controller z.0 z.1 act (becomes m'.state reply)) (λ j. (sym number j, sym state j)) (does (last r).controller).0;
 }
 
 pub may_send : (p : NodeView) (m m' : NumberedNode) (act : Act) (letter : Letter) → p.state ≡ m.state → p.number ≡ m.number → ((messages : List Message) → AreSent messages p.told → IsGiven messages act)
@@ -70,7 +70,7 @@ may_send p m m' act letter state number given does = record {
   reply = sent_reply letter;
   given = given;
   local = λ n r shows.
-      subst (λ (z : ℕ × Node). Local (last r).controller z.0 z.1 act (sends (last r).controller m'.state does.0.message (sent_reply letter))) (λ j. (sym number j, sym state j)) (does.0.local (last r).controller);
+      subst (λ (z : ℕ × Node). Local (last r).controller z.0 z.1 act (sends m'.state does.0.message (sent_reply letter))) (λ j. (sym number j, sym state j)) (does.0.local (last r).controller);
 }
 
 -- a node got a message
@@ -96,8 +96,8 @@ tied_marked words mark p p' p'' m m' told t number is e f =
     subst (λ (q : NodeView). Tied words q m') (sym whole) (refl, t.1 ∙ sym number, omega arith, t.3)
 
 -- what a pass shows, by its fields
-pub shows_as : (p' old : NodeView) (y : Node) → p'.number ≡ old.number → p'.published ≡ old.published → p'.state ≡ y → p' ≡ record old { state = y; shown = p'.shown; told = p'.told }
-shows_as p' old y number published state = λ i. record { number = number i; state = state i; shown = p'.shown; published = published i; told = p'.told }
+pub shows_as : (p' old : NodeView) (y : Node) → p'.count ≡ old.count → p'.number ≡ old.number → p'.published ≡ old.published → p'.state ≡ y → p' ≡ record old { state = y; shown = p'.shown; told = p'.told }
+shows_as p' old y count number published state = λ i. record { count = count i; number = number i; state = state i; shown = p'.shown; published = published i; told = p'.told }
 
 -- ---- the very message that was sent
 

@@ -1,4 +1,4 @@
-//! A broker node that threads share as std's `Mutex<Node>`, whose `lock` alone waits: each call under the lock is one event of the run.
+//! A broker node that threads share as std's `Mutex<Node>`, whose `lock` alone waits: each call under it is an event of the run or none.
 //! It stands on kp_replica's node, up or down, and on kp_board, on whose words each call makes its one step.
 //! Its contract says of each call which event it is, and what the caller's pass then shows: receipts kept, one committed list seen.
 #![tactic(auto)]

@@ -66,7 +66,8 @@ impl<B: BoardName> Node<B> {
         }
     }
 
-    /// The node's log, settled up to its high watermark, which is a boundary of it; of one that is down, what it keeps. O(1).
+    /// The node's log, settled up to its high watermark, which is a boundary of it; of one that is down, what it keeps. Its pass shows
+    /// the same state. O(1).
     pub fn log(&self) -> &PartitionLog
         ensures value { result.now ≡ record {
           limits = self.now.node.limits;
@@ -74,6 +75,7 @@ impl<B: BoardName> Node<B> {
           settled = self.now.node.state.watermark;
         } }
         ensures boundary { IsBoundary self.now.node.state.log self.now.node.state.watermark }
+        ensures shown { self.now.pass.state ≡ self.now.node.state }
     {
         self.broker.log()
     }

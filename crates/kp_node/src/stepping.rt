@@ -1,7 +1,8 @@
 //! What a node does with a message that comes.
 
-ghost use Rattle.std.specs.Prelude.{◌≡◌, ◌≤◌, max, if◌then◌else◌, Option, IfOk, IfErr, IfSome, IfNone};
-ghost use Rattle.kp_types.specs.declared.refusal.Refusal.TheVariants.{Down, StaleAnswer};
+ghost use Rattle.std.specs.Prelude.{◌≡◌, ◌≢◌, ◌≤◌, max, if◌then◌else◌, Option, Err, IfOk, IfErr, IfSome, IfNone, IsTrue};
+ghost use Rattle.kp_types.specs.declared.refusal.Refusal.TheVariants.{Down, Memory, StaleAnswer};
+ghost use Rattle.kp_model.specs.Epochs.{covers};
 ghost use Rattle.kp_model.specs.World.{LeaderAndIsr as ModelRecord};
 ghost use Rattle.kp_model.specs.Event.{Receive, Refused};
 ghost use Rattle.kp_model.specs.Letter.{Fetching, Deciding, letter, letter_of, fetch_request, fetch_answer, decision_of};
@@ -12,7 +13,7 @@ ghost use Rattle.kp_model.specs.declared.message.Fetched.{Fetched};
 ghost use Rattle.kp_replica.specs.Broker.{node_at};
 ghost use Rattle.kp_replica.specs.NumberedNode.{Does, DoesUnder};
 ghost use Rattle.kp_replica.specs.Replies.{learned_reply};
-ghost use Rattle.kp_node.specs.Calls.{CutsBack, CutsTo, IsMisplaced, Sent, WasFollowed, WasTaken};
+ghost use Rattle.kp_node.specs.Calls.{CutsBack, CutsTo, HasBatches, IsMisplaced, Sent, WantsMemory, WasFollowed, WasTaken};
 ghost use Rattle.kp_node.specs.Seated.{SeatedNode};
 
 use crate::node::Node;
@@ -42,6 +43,8 @@ impl<B: BoardName> Node<B> {
         requires { letter_of asked ≡ Fetching (fetch_request request) }
         ensures served { IfOk result (λ m. Sent self.old.node self.new.node (Receive asked) m.pass (letter m.body)) }
         ensures refused { IfErr result (λ refusal. Does self.old.node self.new.node (Receive asked) (Refused refusal)) }
+        ensures spared { IfErr result (λ refusal. refusal ≡ Memory
+            → IsTrue (covers self.old.node.state.log request.offset request.last_epoch)) }
         ensures pass { self.new.pass ≡ record self.old.pass { state = self.new.node.state; told = self.new.pass.told } }
         ensures mark { self.new.node.state.watermark ≤ self.new.pass.published }
     {
@@ -99,6 +102,7 @@ impl<B: BoardName> Node<B> {
         ensures refused { IfErr result (λ refusal.
             DoesUnder self.new.pass.shown self.old.node self.new.node (Receive sent) (Refused refusal)) }
         ensures place { CutsBack answer.now.answered (fetch_answer answer.now) self.new.pass.shown self.old.node self.new.node }
+        ensures spared { result ≢ Err Memory }
         ensures later { self.old.pass.shown.version ≤ self.new.pass.shown.version }
         ensures pass { self.new.pass ≡ record self.old.pass {
           state = self.new.node.state;
@@ -125,6 +129,7 @@ impl<B: BoardName> Node<B> {
         ensures refused { IfErr result (λ refusal.
             DoesUnder self.new.pass.shown self.old.node self.new.node (Receive sent) (Refused refusal)) }
         ensures place { CutsBack answer.now.answered (fetch_answer answer.now) self.new.pass.shown self.old.node self.new.node }
+        ensures spared { result ≡ Err Memory → HasBatches answer.now.answered }
         ensures later { self.old.pass.shown.version ≤ self.new.pass.shown.version }
         ensures pass { self.new.pass ≡ record self.old.pass {
           state = self.new.node.state;
@@ -143,6 +148,7 @@ impl<B: BoardName> Node<B> {
     fn turn_away(&mut self, sent: MessagePass<B>) -> Refusal
         requires { IsMisplaced sent }
         ensures refused { Does self.old.node self.new.node (Receive sent) (Refused result) }
+        ensures spared { result ≢ Memory }
         ensures pass { self.new.pass ≡ record self.old.pass { state = self.new.node.state; told = self.new.pass.told } }
         ensures mark { self.new.node.state.watermark ≤ self.new.pass.published }
     {
@@ -157,6 +163,7 @@ impl<B: BoardName> Node<B> {
     fn learn(&mut self, decision: &Decision, sent: MessagePass<B>) -> Result<Learned, Refusal>
         requires { letter_of sent ≡ Deciding (decision_of decision.now) }
         ensures event { Does self.old.node self.new.node (Receive sent) (learned_reply result) }
+        ensures spared { result ≢ Err Memory }
         ensures later { self.old.pass.shown.version ≤ self.new.pass.shown.version }
         ensures pass { self.new.pass ≡ record self.old.pass {
           state = self.new.node.state;
@@ -177,8 +184,9 @@ impl<B: BoardName> Node<B> {
     /// where they diverge: the answer's pass shows the very message that was sent. A follower takes in an answer: batches, whose
     /// watermark its mark word follows, or a cut of its log, under the controller's record that a load of word 0 finds. A leader
     /// learns from a decision, by a load of word 0. F28 where the node is down; F29 for a proposal, which is for the controller; for
-    /// what else is refused, and for the cost, see `serve_fetch`, `take_fetch` and `learn` of `Replica`. F33 at batches leaves the
-    /// node down; every other refusal leaves the replica as it was. (Kafka protocol guide, 'Fetch', 'AlterPartition'; KIP-101,
+    /// what else is refused, and for the cost, see `serve_fetch`, `take_fetch` and `learn` of `Replica`. F33 comes at batches alone,
+    /// and at a request that the leader's log covers. At batches it leaves the node down; every other refusal leaves the replica as it
+    /// was. (Kafka protocol guide, 'Fetch', 'AlterPartition'; KIP-101,
     /// KIP-279, KIP-320, KIP-497; KIP-595's truncation on fetch is the idea's source, the profile is our own.)
     pub fn step(&mut self, message: Message<B>) -> Result<Option<Message<B>>, Refusal>
         ensures served { IfOk result (λ o. IfSome o (λ m.
@@ -187,6 +195,7 @@ impl<B: BoardName> Node<B> {
             (WasTaken message.body self.new.pass.shown self.old.node self.new.node (Receive message.pass))) }
         ensures refused { IfErr result (λ refusal.
             DoesUnder self.new.pass.shown self.old.node self.new.node (Receive message.pass) (Refused refusal)) }
+        ensures spared { IfErr result (λ refusal. refusal ≡ Memory → WantsMemory message.body self.old.node) }
         ensures place { CutsTo message.body self.new.pass.shown self.old.node self.new.node }
         ensures later { self.old.pass.shown.version ≤ self.new.pass.shown.version }
         ensures pass { self.new.pass ≡ record self.old.pass {

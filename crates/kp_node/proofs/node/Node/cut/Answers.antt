@@ -132,10 +132,11 @@ returns-clause-pass g c =
     let whole = c.publish_end.ensures ∙ step.ensures.shown in
     let old = c.args.self.now.pass in
     let was : p ≡ old = ap (λ (s : SeatedNode). s.pass) c.self.view_is in
+    let count : c.publish_end.new.pass.count ≡ old.count = ap (λ (z : NodeView). z.count) whole ∙ ap (λ (z : NodeView). z.count) c.receive.ensures ∙ ap (λ (z : NodeView). z.count) was in
     let number : c.publish_end.new.pass.number ≡ old.number = ap (λ (z : NodeView). z.number) whole ∙ ap (λ (z : NodeView). z.number) c.receive.ensures ∙ ap (λ (z : NodeView). z.number) was in
     let published : c.publish_end.new.pass.published ≡ old.published = ap (λ (z : NodeView). z.published) whole ∙ ap (λ (z : NodeView). z.published) c.receive.ensures ∙ ap (λ (z : NodeView). z.published) was in
     let state : c.publish_end.new.pass.state ≡ new.state = ap (λ (z : NodeView). z.state) c.publish_end.ensures ∙ back.tied.0 in
-    shows_as c.publish_end.new.pass old new.state number published state
+    shows_as c.publish_end.new.pass old new.state count number published state
 
 pub returns-clause-mark : goal.returns-clause-mark
 returns-clause-mark g c =
