@@ -6,7 +6,7 @@ ghost use Rattle.kp_cluster.specs.Places.{places};
 
 use crate::gate::Gate;
 use crate::job::{Job, work};
-use kp_board::BoardName;
+use kp_board::{BoardName, Pass};
 use kp_node::Node;
 use kp_transport::{Carry, Parcel};
 use kp_types::{NodeId, Refusal};
@@ -72,7 +72,7 @@ fn start_one<
     let started = Builder::new()
         .stack_size(stack)
         .spawn_with(rt, Nothing, move || {
-            work(&own, place, &job, &*carrier, &*gate)
+            work(&own, place, job, &*carrier, &*gate)
         });
     match started {
         Ok(thread) => Ok(Worker {
@@ -84,8 +84,8 @@ fn start_one<
     }
 }
 
-/// Starts a worker for each node, node i at place i, and one for the controller at the place behind them, for which the first node lends
-/// its board, so that its lock is waited for once. Where there is no node there is none at all. The carrier is to have all of these
+/// Starts a worker for each node, node i at place i, and one for the controller at the place behind them, which decides with this pass.
+/// For it the first node lends its board, so that its lock is waited for once. Where there is no node there is none at all. The carrier is to have all of these
 /// places: what goes to one that it lacks is lost, also that its worker is to end. Where a growth or a thread is refused, the cluster of
 /// the workers that were started comes back, to be stopped. (Own rule.)
 pub fn start<
@@ -97,6 +97,7 @@ pub fn start<
     rt: &R,
     alloc: Global,
     nodes: Vec<Arc<Mutex<Node<B>>, Global>>,
+    controller: Pass<B>,
     carrier: Arc<C, Global>,
     gate: Arc<G, Global>,
 ) -> Result<Cluster<B, C>, (Cluster<B, C>, Refusal)>
@@ -104,7 +105,15 @@ pub fn start<
     ensures ok { IfOk result (λ cluster. cluster ≡ places (vec_len nodes)) }
     ensures err { IfErr result (λ e. (e.0 < places (vec_len nodes)) × (e.1 ≡ Memory)) }
 {
-    start_on(rt, alloc, nodes, carrier, gate, &|_place: NodeId| STACK)
+    start_on(
+        rt,
+        alloc,
+        nodes,
+        controller,
+        carrier,
+        gate,
+        &|_place: NodeId| { STACK },
+    )
 }
 
 /// As `start`, with the size of each worker's stack, by its place. The system refuses a thread whose stack is too large.
@@ -118,6 +127,7 @@ pub fn start_on<
     rt: &R,
     alloc: Global,
     nodes: Vec<Arc<Mutex<Node<B>>, Global>>,
+    controller: Pass<B>,
     carrier: Arc<C, Global>,
     gate: Arc<G, Global>,
     stack_of: &S,
@@ -132,7 +142,7 @@ pub fn start_on<
         workers: Vec::new(alloc),
         of: PhantomData,
     };
-    match cluster.add_all(rt, &nodes, &gate, stack_of) {
+    match cluster.add_all(rt, &nodes, controller, &gate, stack_of) {
         Ok(()) => Ok(cluster),
         Err(refusal) => Err((cluster, refusal)),
     }
@@ -170,6 +180,7 @@ impl<B: BoardName, C: Carry<Parcel<B>>> Cluster<B, C> {
         &mut self,
         rt: &R,
         nodes: &Vec<Arc<Mutex<Node<B>>, Global>>,
+        controller: Pass<B>,
         gate: &Arc<G, Global>,
         stack_of: &S,
     ) -> Result<(), Refusal>
@@ -183,13 +194,17 @@ impl<B: BoardName, C: Carry<Parcel<B>>> Cluster<B, C> {
         ensures err { OnErr result (self.new < places (vec_len nodes.now)) }
         ensures refusal { IfErr result (λ r. r ≡ Memory) }
     {
-        let controller = nodes.len() as u8;
+        let behind = nodes.len() as u8;
         for node in nodes {
             let node = Arc::try_clone(node)?;
             let place = self.workers.len() as u8;
-            self.add(rt, Job::Node { node, controller }, gate, stack_of(place))?;
+            let job = Job::Node {
+                node,
+                controller: behind,
+            };
+            self.add(rt, job, gate, stack_of(place))?;
         }
-        self.add_controller(rt, nodes, gate, stack_of)
+        self.add_controller(rt, nodes, controller, gate, stack_of)
     }
 
     // The controller's worker, behind those of the nodes; none where there are none.
@@ -201,6 +216,7 @@ impl<B: BoardName, C: Carry<Parcel<B>>> Cluster<B, C> {
         &mut self,
         rt: &R,
         nodes: &Vec<Arc<Mutex<Node<B>>, Global>>,
+        controller: Pass<B>,
         gate: &Arc<G, Global>,
         stack_of: &S,
     ) -> Result<(), Refusal>
@@ -219,7 +235,11 @@ impl<B: BoardName, C: Carry<Parcel<B>>> Cluster<B, C> {
         };
         let board = Arc::try_clone(first.lock(rt).board())?;
         let stack = stack_of(nodes.len() as u8);
-        self.add(rt, Job::Controller { board }, gate, stack)
+        let job = Job::Controller {
+            board,
+            pass: controller,
+        };
+        self.add(rt, job, gate, stack)
     }
 
     /// It is this place's turn. At the controller's it does nothing.

@@ -3,7 +3,7 @@
 use crate::controller::controller_step;
 use crate::gate::Gate;
 use crate::worker::{Done, worker_step};
-use kp_board::{Board, BoardName};
+use kp_board::{Board, BoardName, Pass};
 use kp_node::Node;
 use kp_transport::{Carry, Parcel};
 use kp_types::{NodeId, Refusal};
@@ -18,9 +18,10 @@ pub(crate) enum Job<B: BoardName> {
         node: Arc<Mutex<Node<B>>, Global>,
         controller: NodeId,
     },
-    /// The controller's, which decides at this board.
+    /// The controller's, which decides at this board with this pass.
     Controller {
         board: Arc<Board<B>, Global>,
+        pass: Pass<B>,
     },
 }
 
@@ -32,14 +33,14 @@ impl<B: BoardName> Drop for Job<B> {
                 node: _,
                 controller: _,
             } => {}
-            Job::Controller { board: _ } => {}
+            Job::Controller { board: _, pass: _ } => {}
         }
     }
 }
 
 impl<B: BoardName> Job<B> {
     fn step<R: Wait, C: Carry<Parcel<B>>, G: Gate>(
-        &self,
+        &mut self,
         rt: &R,
         place: NodeId,
         carrier: &C,
@@ -49,7 +50,9 @@ impl<B: BoardName> Job<B> {
             Job::Node { node, controller } => {
                 worker_step(rt, place, *controller, &**node, carrier, gate)
             }
-            Job::Controller { board } => controller_step(place, &**board, carrier, gate),
+            Job::Controller { board, pass } => {
+                controller_step(place, &**board, pass, carrier, gate)
+            }
         }
     }
 }
@@ -58,7 +61,7 @@ impl<B: BoardName> Job<B> {
 pub(crate) fn work<B: BoardName, R: Wait, C: Carry<Parcel<B>>, G: Gate>(
     rt: &R,
     place: NodeId,
-    job: &Job<B>,
+    mut job: Job<B>,
     carrier: &C,
     gate: &G,
 ) {

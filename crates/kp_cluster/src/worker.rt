@@ -1,11 +1,13 @@
 //! A worker's steps.
 
-ghost use Rattle.std.specs.Prelude.{◌≡◌};
+ghost use Rattle.std.specs.Prelude.{◌≡◌, unwrap_or};
+ghost use Rattle.kp_model.specs.Letter.{goes_to, letter};
 ghost use Rattle.kp_cluster.specs.Turn.{Handles};
 
 use crate::gate::Gate;
 use crate::turn::take_turn;
 use kp_board::{BoardName, Message};
+use kp_model::MessageBody;
 use kp_node::Node;
 use kp_transport::{Carry, Parcel};
 use kp_types::{NodeId, Refusal};
@@ -22,14 +24,21 @@ pub enum Done {
     Ended,
 }
 
-// A message goes to the place of the node that it names, or, where it names none, to the controller's.
+// Where a message goes: to the place of the node that it names, or, where it names none, to the controller's.
+fn place_of(body: &MessageBody, controller: NodeId) -> NodeId
+    ensures { result ≡ unwrap_or (goes_to (letter body.now)) controller }
+{
+    body.addressee().unwrap_or(controller)
+}
+
+// Sends the message, where there is one.
 pub(crate) fn send_on<B: BoardName, C: Carry<Parcel<B>>>(
     carrier: &C,
     controller: NodeId,
     message: Option<Message<B>>,
 ) -> Result<Done, Refusal> {
     if let Some(message) = message {
-        let place = message.body.addressee().unwrap_or(controller);
+        let place = place_of(&message.body, controller);
         carrier.send(place, Parcel::Message(message))?;
     }
     Ok(Done::Stepped)

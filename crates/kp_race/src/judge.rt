@@ -1,37 +1,58 @@
 //! What the nodes say once their workers have ended.
 
-ghost use Rattle.std.specs.Prelude.{◌≡◌, ◌≤◌, IfOk, length, vec_len};
+ghost use Rattle.std.specs.Prelude.{◌≡◌, ◌≢◌, ◌⊎◌, ◌<◌, ◌≤◌, ℕ, All, Any, IfErr, IfOk, OnOk, IsTrue, Ok, Err, count_by, length, map, slice_index, sum_by, true, vec_len};
+ghost use Rattle.std.specs.List.{list_any};
+ghost use Rattle.kp_model.specs.Beginning.{Begins};
+ghost use Rattle.kp_node.specs.declared.ack.Ack.TheVariants.{Yes};
+ghost use Rattle.kp_node.specs.Acks.{is_receipts};
+ghost use Rattle.kp_race.specs.Agreement.{committed_as};
+ghost use Rattle.kp_race.specs.Counting.{at_most_64};
 
+use crate::agreement::{Committed, do_agree};
+use crate::held::held_by;
 use crate::outcome::Outcome;
 use crate::racer::{Reached, Shared};
 use kp_board::{Board, BoardName, Pass};
 use kp_cluster::bring_up;
 use kp_node::{Ack, Node};
 use kp_replica::Receipt;
-use kp_types::{Epoch, NodeId, Offset, Refusal};
+use kp_types::{NodeId, Offset, Refusal};
 use std::alloc::Global;
-use std::sync::{Mutex, Wait};
+use std::sync::Wait;
 
-// So many pieces are read of a node at most.
-const MOST_PIECES: u32 = 1_000_000;
-
-// A batch below a node's watermark, by its place and what fixes its bytes.
-#[derive(Clone, Copy, PartialEq, Eq)]
-struct Committed {
-    base: Offset,
-    epoch: Epoch,
-    crc: u32,
+fn is_yes(ack: Ack) -> bool
+    ensures { IsTrue result → ack ≡ Yes }
+{
+    match ack {
+        Ack::Yes => true,
+        Ack::Lost | Ack::NotYet => false,
+    }
 }
 
-// Whether some node says that the batch stands.
+// Whether the node says that the batch stands. Then the list that the pass has seen has one of its offset and leader epoch.
+fn is_acked_by<B: BoardName>(node: &mut Node<B>, pass: &mut Pass<B>, receipt: &Receipt) -> bool
+    ensures stands { IsTrue result → list_any (is_receipts receipt.now) pass.new.seen ≡ true }
+    ensures seen { Begins pass.old.seen pass.new.seen }
+{
+    let _log = node.log(); // its pass shows it
+    match node.acked(pass, receipt) {
+        Ok(ack) => is_yes(ack),
+        Err(_) => false,
+    }
+}
+
+// Whether some node says so.
 fn is_acked<B: BoardName, R: Wait>(
     rt: &R,
     nodes: &Vec<Shared<B>>,
     pass: &mut Pass<B>,
     receipt: &Receipt,
-) -> bool {
+) -> bool
+    ensures stands { IsTrue result → list_any (is_receipts receipt.now) pass.new.seen ≡ true }
+    ensures seen { Begins pass.old.seen pass.new.seen }
+{
     for node in nodes {
-        if node.lock(rt).acked(pass, receipt) == Ok(Ack::Yes) {
+        if is_acked_by(&mut node.lock(rt), pass, receipt) {
             return true;
         }
     }
@@ -45,7 +66,8 @@ fn count_acked<B: BoardName, R: Wait>(
     pass: &mut Pass<B>,
     receipts: &[Receipt],
 ) -> u64
-    ensures { result ≤ length receipts.now }
+    ensures stand { result ≤ count_by (λ r. list_any (is_receipts r) pass.new.seen) receipts.now }
+    ensures few { result ≤ length receipts.now }
 {
     let mut acknowledged = 0u64;
     for receipt in receipts {
@@ -56,55 +78,29 @@ fn count_acked<B: BoardName, R: Wait>(
     acknowledged
 }
 
-// The batches below a node's watermark. F28, F33.
-fn committed_of<B: BoardName, R: Wait>(
-    rt: &R,
-    alloc: Global,
-    node: &Mutex<Node<B>>,
-    pass: &mut Pass<B>,
-) -> Result<Vec<Committed>, Refusal> {
-    let mut committed = Vec::new(alloc);
-    let mut from = 0u64;
-    for _ in 0..MOST_PIECES {
-        let piece = node.lock(rt).read(pass, from)?;
-        let Some(last) = piece.last() else {
-            return Ok(committed);
-        };
-        from = last.base_offset().saturating_add(u64::from(last.count()));
-        for batch in &piece {
-            committed.push(Committed {
-                base: batch.base_offset(),
-                epoch: batch.leader_epoch().unwrap_or(0),
-                crc: batch.crc(),
-            })?;
-        }
-    }
-    Ok(committed)
-}
-
-// Whether of any two nodes' lists one begins the other: so does each with the longest.
-fn do_agree<B: BoardName, R: Wait>(
+// The batches that each node holds as committed. The pass has then seen a list that begins with each.
+fn lists_of<B: BoardName, R: Wait>(
     rt: &R,
     alloc: Global,
     nodes: &Vec<Shared<B>>,
     pass: &mut Pass<B>,
-) -> Result<bool, Refusal> {
-    let mut longest: Vec<Committed> = Vec::new(alloc);
+) -> Result<Vec<Vec<Committed>>, Refusal>
+    ensures each { IfOk result (λ lists. vec_len lists ≡ vec_len nodes.now) }
+    ensures seen { IfOk result (λ lists. All (λ list. Begins list.items (map committed_as pass.new.seen)) lists.items) }
+{
+    let mut lists = Vec::new(alloc);
     for node in nodes {
-        let found = committed_of(rt, alloc, &**node, pass)?;
-        if found.len() > longest.len() {
-            if !found.starts_with(&longest) {
-                return Ok(false);
-            }
-            longest = found;
-        } else if !longest.starts_with(&found) {
-            return Ok(false);
-        }
+        let list = held_by(alloc, &mut node.lock(rt), pass)?;
+        lists.push(list)?;
     }
-    Ok(true)
+    Ok(lists)
 }
 
-fn greatest_watermark<B: BoardName>(board: &Board<B>, pass: &mut Pass<B>) -> Offset {
+// The greatest high watermark that the pass is shown of the board's nodes.
+fn greatest_watermark<B: BoardName>(board: &Board<B>, pass: &mut Pass<B>) -> Offset
+    ensures greatest { (node : ℕ) → node < board.now → slice_index pass.new.marks node ≤ result }
+    ensures some { (result ≡ 0) ⊎ ((node : ℕ) × (node < board.now) × (slice_index pass.new.marks node ≡ result)) }
+{
     let mut greatest = 0;
     for node in 0..board.nodes() {
         greatest = greatest.max(board.watermark(pass, node));
@@ -112,13 +108,28 @@ fn greatest_watermark<B: BoardName>(board: &Board<B>, pass: &mut Pass<B>) -> Off
     greatest
 }
 
+// Refused by whatever ended a thread.
+fn all_ended<B: BoardName>(reached: &Vec<Reached<B>>) -> Result<(), Refusal>
+    ensures ok { OnOk result (All (λ one. one.ended ≡ Ok tt) reached.now.items) }
+    ensures err { IfErr result (λ refusal. Any (λ one. one.ended ≡ Err refusal) reached.now.items) }
+{
+    for one in reached {
+        match one.ended {
+            Ok(()) => {}
+            Err(refusal) => return Err(refusal),
+        }
+    }
+    Ok(())
+}
+
 // How many receipts there are, and for how many a node says that the batch is committed.
 fn counted<B: BoardName, R: Wait>(
     rt: &R,
     nodes: &Vec<Shared<B>>,
     reached: Vec<Reached<B>>,
-) -> Result<(u64, u64), Refusal>
-    ensures { IfOk result (λ counts. counts.1 ≤ counts.0) }
+) -> (u64, u64)
+    ensures acknowledged { result.1 ≤ result.0 }
+    ensures receipts { result.0 ≡ at_most_64 (sum_by (λ one. vec_len one.receipts) reached.items) }
 {
     let mut receipts = 0u64;
     let mut acknowledged = 0u64;
@@ -126,14 +137,13 @@ fn counted<B: BoardName, R: Wait>(
         let Reached {
             mut pass,
             receipts: own,
-            ended,
+            ended: _,
         } = one;
-        ended?;
         let count = count_acked(rt, nodes, &mut pass, &own);
         receipts = receipts.saturating_add(own.len() as u64);
         acknowledged = acknowledged.saturating_add(count);
     }
-    Ok((receipts, acknowledged))
+    (receipts, acknowledged)
 }
 
 // A node that a refused growth brought down is started again, so that it can be asked. F33.
@@ -144,22 +154,27 @@ fn bring_all_up<B: BoardName, R: Wait>(rt: &R, nodes: &Vec<Shared<B>>) -> Result
     Ok(())
 }
 
-/// Asks the nodes, whose workers have ended.
+/// Asks the nodes, whose workers have ended. All that they hold as committed begins one list, so they agree.
 pub(crate) fn judge<B: BoardName, R: Wait>(
     rt: &R,
     alloc: Global,
     board: &Board<B>,
+    pass: &mut Pass<B>,
     nodes: &Vec<Shared<B>>,
     reached: Vec<Reached<B>>,
 ) -> Result<Outcome, Refusal>
     ensures nodes { IfOk result (λ o. o.nodes ≡ board.now) }
+    ensures receipts { IfOk result (λ o. o.receipts ≡ at_most_64 (sum_by (λ one. vec_len one.receipts) reached.items)) }
     ensures acknowledged { IfOk result (λ o. o.acknowledged ≤ o.receipts) }
+    ensures agree { IfOk result (λ o. o.agree ≡ true) }
+    ensures ended { OnOk result (All (λ one. one.ended ≡ Ok tt) reached.items) }
 {
+    all_ended(&reached)?;
     bring_all_up(rt, nodes)?;
-    let (receipts, acknowledged) = counted(rt, nodes, reached)?;
-    let mut pass = board.pass();
-    let committed = greatest_watermark(board, &mut pass);
-    let agree = do_agree(rt, alloc, nodes, &mut pass)?;
+    let (receipts, acknowledged) = counted(rt, nodes, reached);
+    let committed = greatest_watermark(board, pass);
+    let lists = lists_of(rt, alloc, nodes, pass)?;
+    let agree = do_agree(&lists);
     let nodes: NodeId = board.nodes();
     Ok(Outcome {
         nodes,

@@ -23,6 +23,6 @@ pub struct Outcome {
     pub acknowledged: u64,
     /// The greatest high watermark that a node published.
     pub committed: Offset,
-    /// Whether of any two nodes' batches below their watermarks one list begins the other.
+    /// Whether of any two nodes' batches below their watermarks one list begins the other, by base offset, leader epoch and checksum.
     pub agree: bool,
 }

@@ -1,5 +1,11 @@
 //! The threads that race: producers, and the one that moves the leadership.
 
+ghost use Rattle.std.specs.Prelude.{◌≡◌, ◌<◌, ◌≤◌, IfErr, vec_len};
+ghost use Rattle.kp_types.specs.declared.refusal.Refusal.TheVariants.{Memory};
+ghost use Rattle.kp_race.specs.Tasks.{most_receipts};
+
+use crate::handed_in::{HandedIn, Tried};
+use crate::task::{Task, elected_at};
 use kp_batch::{Fields, Handed, Parts, Speller};
 use kp_board::{Board, BoardName, Pass};
 use kp_node::Node;
@@ -20,18 +26,11 @@ const PATIENCE: u32 = 10_000;
 
 pub(crate) type Shared<B> = Arc<Mutex<Node<B>>, Global>;
 
-/// What one thread is to do.
+/// What one thread is to do, and its pass.
 #[derive(Drop)]
-pub(crate) enum Job<B: BoardName> {
-    Produce {
-        number: u8,
-        batches: u16,
-        pass: Pass<B>,
-    },
-    Move {
-        moves: u16,
-        pass: Pass<B>,
-    },
+pub(crate) struct Job<B: BoardName> {
+    pub(crate) task: Task,
+    pub(crate) pass: Pass<B>,
 }
 
 /// What came of it.
@@ -65,11 +64,13 @@ impl<B: BoardName, C, R> Drop for Field<'_, B, C, R> {
     }
 }
 
-/// It is each node's turn. F33.
+/// It is each node's turn. F33 is the only refusal.
 pub(crate) fn turn_all<B: BoardName, C: Carry<Parcel<B>>>(
     carrier: &C,
     nodes: NodeId,
-) -> Result<(), Refusal> {
+) -> Result<(), Refusal>
+    ensures { IfErr result (λ refusal. refusal ≡ Memory) }
+{
     for place in 0..nodes {
         carrier.send(place, Parcel::Turn)?;
     }
@@ -93,51 +94,6 @@ fn batch_of(speller: &mut Speller, number: u8, sequence: u16) -> Result<Handed, 
         headers: &[],
     };
     speller.spell(&fields, &[record])
-}
-
-// What a try to hand in a batch came to.
-#[derive(Clone, Copy)]
-enum Tried {
-    // A node took it.
-    Took(Receipt),
-    // The leader lacks the batch before it, or has so many later ones that it doesn't know it any more.
-    OutOfOrder,
-    // None of so many tries found a leader.
-    NoLeader,
-}
-
-// A producer's batches: the receipt of each that was handed in, and which batch is next. That is the first without a receipt, or one
-// before it that a new leader lacks.
-#[derive(Drop)]
-struct HandedIn {
-    batches: u16,
-    receipts: Vec<Receipt>,
-    next: u16,
-    seeks: bool,
-}
-
-impl HandedIn {
-    // A node took the next batch. F33.
-    fn took(&mut self, receipt: Receipt) -> Result<(), Refusal> {
-        match self.receipts.get_mut(usize::from(self.next)) {
-            Some(former) => *former = receipt,
-            None => self.receipts.push(receipt)?,
-        }
-        self.next = self.next.saturating_add(1);
-        self.seeks = false;
-        Ok(())
-    }
-
-    // Seeks the batch behind the leader's last one: from the first without a receipt down, one a try.
-    fn seek(&mut self) {
-        let last = self.batches.saturating_sub(1);
-        let front = last.min(u16::try_from(self.receipts.len()).unwrap_or(last));
-        self.next = match self.next.checked_sub(1) {
-            Some(before) if self.seeks || self.next == front => before,
-            _ => front,
-        };
-        self.seeks = true;
-    }
 }
 
 impl<B: BoardName, C: Carry<Parcel<B>>, R: Wait> Field<'_, B, C, R> {
@@ -174,20 +130,19 @@ impl<B: BoardName, C: Carry<Parcel<B>>, R: Wait> Field<'_, B, C, R> {
         Ok(Tried::NoLeader)
     }
 
-    // Hands the bytes of the next batch in. Says whether a node answered.
+    // Hands the bytes of the next batch in. Says whether the producer goes on.
     fn hand_next(
         &self,
         pass: &mut Pass<B>,
         handed: &mut HandedIn,
         at: &mut usize,
         bytes: &Handed,
-    ) -> Result<bool, Refusal> {
-        match self.produce_one(pass, at, bytes)? {
-            Tried::Took(receipt) => handed.took(receipt)?,
-            Tried::OutOfOrder => handed.seek(),
-            Tried::NoLeader => return Ok(false),
-        }
-        Ok(true)
+    ) -> Result<bool, Refusal>
+        requires { handed.old.next < handed.old.batches }
+        ensures { handed.new.batches ≡ handed.old.batches }
+    {
+        let tried = self.produce_one(pass, at, bytes)?;
+        handed.note(tried)
     }
 
     // Hands all batches in, in their order, and again those that a new leader lacks.
@@ -196,7 +151,9 @@ impl<B: BoardName, C: Carry<Parcel<B>>, R: Wait> Field<'_, B, C, R> {
         pass: &mut Pass<B>,
         handed: &mut HandedIn,
         number: u8,
-    ) -> Result<(), Refusal> {
+    ) -> Result<(), Refusal>
+        ensures { handed.new.batches ≡ handed.old.batches }
+    {
         let mut speller = Speller::new(self.alloc);
         let mut at = 0;
         for _ in 0..TRIES * u32::from(handed.batches) {
@@ -211,55 +168,49 @@ impl<B: BoardName, C: Carry<Parcel<B>>, R: Wait> Field<'_, B, C, R> {
         Ok(())
     }
 
+    // A producer's thread.
+    fn produce(&self, mut pass: Pass<B>, number: u8, batches: u16) -> Reached<B>
+        ensures { vec_len result.receipts ≤ batches }
+    {
+        let mut handed = HandedIn::none(self.alloc, batches);
+        let ended = self.produce_all(&mut pass, &mut handed, number);
+        Reached {
+            pass,
+            receipts: handed.into_receipts(),
+            ended,
+        }
+    }
+
     // Moves the leadership from node to node, by one try each, which counts as a move whatever it answers.
     fn move_all(&self, pass: &mut Pass<B>, moves: u16) -> Result<(), Refusal> {
-        let mut next: NodeId = 0;
-        for _ in 0..moves {
-            next = next.saturating_add(1);
-            if next >= self.board.nodes() {
-                next = 0;
+        for number in 1..=moves {
+            if let Some(node) = elected_at(number, self.board.nodes()) {
+                let _record = self.board.elect(pass, node);
             }
-            let _record = self.board.elect(pass, next);
             self.turn()?;
         }
         Ok(())
     }
 
-    pub(crate) fn run(&self, job: Job<B>) -> Reached<B> {
-        let receipts = Vec::new(self.alloc);
-        match job {
-            Job::Produce {
-                number,
-                batches,
-                mut pass,
-            } => {
-                let mut handed = HandedIn {
-                    batches,
-                    receipts,
-                    next: 0,
-                    seeks: false,
-                };
-                let ended = self.produce_all(&mut pass, &mut handed, number);
-                let HandedIn {
-                    batches: _,
-                    receipts,
-                    next: _,
-                    seeks: _,
-                } = handed;
-                Reached {
-                    pass,
-                    receipts,
-                    ended,
-                }
-            }
-            Job::Move { moves, mut pass } => {
-                let ended = self.move_all(&mut pass, moves);
-                Reached {
-                    pass,
-                    receipts,
-                    ended,
-                }
-            }
+    // The mover's thread.
+    fn lead_on(&self, mut pass: Pass<B>, moves: u16) -> Reached<B>
+        ensures { vec_len result.receipts ≡ 0 }
+    {
+        let ended = self.move_all(&mut pass, moves);
+        Reached {
+            pass,
+            receipts: Vec::new(self.alloc),
+            ended,
+        }
+    }
+
+    pub(crate) fn run(&self, job: Job<B>) -> Reached<B>
+        ensures { vec_len result.receipts ≤ most_receipts job.task }
+    {
+        let Job { task, pass } = job;
+        match task {
+            Task::Produce { number, batches } => self.produce(pass, number, batches),
+            Task::Move { moves } => self.lead_on(pass, moves),
         }
     }
 }

@@ -65,7 +65,7 @@ impl Waiting {
             }
             thread::yield_now();
         }
-        false
+        self.most() <= most
     }
 }
 

@@ -1,0 +1,4 @@
+mod Pieces
+mod Longest
+mod Counts
+mod Acked
