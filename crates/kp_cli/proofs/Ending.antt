@@ -1,5 +1,5 @@
 -- What a run and an inspection have written.
-use Rattle.std.proofs.Common.{◌≡◌, ◌⊎◌, ◌≤◌, IsSomeAnd, ℕ, List, Option, None, Some, IfSome, Result, Err, inl, inr, sym, refl, subst}
+use Rattle.std.proofs.Common.{◌≡◌, ◌⊎◌, ℕ, List, Option, None, Some, IfSome, Result, Err, inl, inr, sym, refl, subst}
 use Rattle.std.proofs.KnownBytes.{Keeps-refl}
 use Rattle.std.specs.Io.KnownBytes.{Keeps}
 use Rattle.kp_types.specs.declared.counted.Counted.{Counted}
@@ -12,16 +12,13 @@ use Rattle.kp_types.specs.declared.refusal.Refusal.TheVariants as refusals
 use Rattle.kp_types.specs.declared.limits.Limits.{Limits}
 use Rattle.kp_types.specs.Devices.{CountsFault, IsDeviceFault, device_of}
 use Rattle.kp_inspect.specs.Inspected.{WritesFront}
-use Rattle.clap.specs.Words.{IsUnsignedIn, Row, Text}
-use Rattle.std.specs.Str.Parse.{digits_value, without_leading_plus}
 use Rattle.kp_race.specs.declared.outcome.Outcome.{Outcome}
 use Rattle.kp_race.specs.declared.outcome.Plan.{Plan}
 use Rattle.kp_types.specs.Folders.{Entry}
 use Rattle.kp_cli.specs.declared.fault.Fault.{Fault}
-use Rattle.kp_cli.specs.Line.{IsCallOf, file_of, keep_of}
+use Rattle.kp_cli.specs.Line.{file_of, keep_of}
 use Rattle.kp_cli.specs.Program.{Around, Asks, Ends, EndsAsked, EndsOpened, EndsUnopened, Known}
 use Rattle.kp_cli.specs.declared.call.Call.{Call}
-use Rattle.kp_cli.specs.declared.call.Call.TheVariants.{Race}
 use Rattle.kp_cli.specs.Perform.{CountsOneOfThree, Inspects, RunsScript}
 
 pub inspects_front : (limits : Limits) (input old new : Option (List ℕ)) (refusal : Refusal) → IsDeviceFault refusal → WritesFront limits input old new
@@ -55,22 +52,6 @@ pub kept_counted : (refusal : Refusal) → IsDeviceFault refusal → (read read_
 kept_counted refusals.Device only read read_new written written_new put put_new same counted = inr (refl, same.0, same.1, counted)
 kept_counted refusals.Memory only read read_new written written_new put put_new same counted = inl (same, counted)
 kept_counted _ only read read_new written written_new put put_new same counted = absurd only
-
--- a number that a word gives is within its bounds
-number_most : (found : Option Text) (least greatest number : ℕ)
-    → IsSomeAnd found (λ text. IsUnsignedIn least greatest text × (digits_value 10 (without_leading_plus text) ≡ number)) → number ≤ greatest
-number_most None least greatest number has = absurd has
-number_most (Some text) least greatest number has = subst (λ (n : ℕ). n ≤ greatest) has.1 has.0.3
-
--- a race that the words ask for has no more nodes than there may be
-pub may_race : (asked : Option (Text × List Row)) (call : Call) (may : ℕ → Plan → Type 0) → IsCallOf asked call
-    → ((nodes : ℕ) (plan : Plan) → nodes ≤ 7 → may nodes plan) → (nodes : ℕ) (plan : Plan) → call ≡ Race nodes plan → may nodes plan
-may_race asked call may asks each nodes plan is =
-    go asked (subst (λ (x : Call). IsCallOf asked x) is asks)
-  where
-    go : (entered : Option (Text × List Row)) → IsCallOf entered (Race nodes plan) → may nodes plan
-    go None asks = absurd asks
-    go (Some entered) asks = each nodes plan (number_most _ 1 7 nodes asks.1.0)
 
 abbrev pub known_of : {F K W E : Type 0} → (F → List ℕ → Result (Unit {0}) Fault → F → Type 0) → (K → List ℕ → Result (Unit {0}) Fault → K → Type 0)
     → (ℕ → Plan → Result Outcome Refusal → Type 0) → (F → Option (List ℕ)) → (F → Fault) → (K → Option (List Entry)) → (K → Fault) → (W → Option (List ℕ))

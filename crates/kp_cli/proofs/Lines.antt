@@ -1,5 +1,5 @@
 -- How a path is shown, and which second line a refusal has.
-use Rattle.std.proofs.Common.{◌≡◌, ◌⊎◌, ◌∙◌, ◌++◌, ◌≤◌, ◌<◌, ℕ, suc, Bool, true, false, cond, List, [], ◌∷◌, length, get_or, drop, ap, sym, subst, refl, arith, append_assoc, append-nil, drop-cons, Option, Result, Ok, Err, OnOk, OnErr, inl, inr}
+use Rattle.std.proofs.Common.{◌≡◌, ◌⊎◌, ◌∙◌, ◌++◌, ℕ, Bool, cond, List, [], ap, sym, subst, refl, append-nil, Option, Result, Ok, Err, OnOk, OnErr, inl, inr}
 use Rattle.std.proofs.lemmas.Bool.{eq-eqb}
 use Rattle.clap.specs.declared.error.kind.ErrorKind.{ErrorKind}
 use Rattle.clap.specs.declared.error.kind.ErrorKind.TheVariants as kinds
@@ -9,24 +9,9 @@ use Rattle.kp_types.specs.declared.refusal.Refusal.{Refusal}
 use Rattle.kp_types.specs.declared.refusal.Refusal.TheVariants as refusals
 use Rattle.kp_cli.specs.Faults.{refusal_of}
 use Rattle.kp_cli.specs.Program.{Explains, words_complaint, words_status}
-use Rattle.kp_cli.specs.Told.{Prints, complaint, escaped, is_plain, reason_of, reason, shown_byte, shown_bytes, status_of_refusal}
+use Rattle.kp_cli.specs.Told.{Prints, complaint, reason_of, reason, status_of_refusal}
 use Rattle.kp_cli.specs.declared.fault.Fault.{Fault}
 use Rattle.kp_cli.specs.declared.fault.Fault.TheVariants as faults
-
--- a byte is shown by one or by four
-pub shown_byte_short : (before byte : ℕ) → length (shown_byte before byte) ≤ 4
-shown_byte_short before byte = go (is_plain before byte)
-  where
-    go : (b : Bool) → length (cond b (byte ∷ []) (escaped byte)) ≤ 4
-    go true = omega arith
-    go false = omega arith
-
--- one more byte is shown
-pub shown_step : (path : List ℕ) (before i d : ℕ) (items whole : List ℕ) → i < length path → items ++ shown_bytes before (drop i path) ≡ whole
-    → (items ++ shown_byte before (get_or path i d)) ++ shown_bytes (get_or path i d) (drop (suc i) path) ≡ whole
-shown_step path before i d items whole below is =
-    append_assoc items (shown_byte before (get_or path i d)) (shown_bytes (get_or path i d) (drop (suc i) path))
-    ∙ ap (λ (rest : List ℕ). items ++ shown_bytes before rest) (sym (drop-cons path i d below)) ∙ is
 
 -- where no call failed there is no second line
 pub no_reason : {T : Type 0} (fault : T → Fault) (path : List ℕ) (faults : ℕ) (left : Counted T) → faults_of left ≡ faults

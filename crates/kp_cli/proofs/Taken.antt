@@ -10,7 +10,7 @@ use Rattle.std.proofs.lemmas.Slice.Eq.{bytes_eq-Decides}
 use Rattle.clap.specs.Facts.{explicit_source}
 use Rattle.clap.specs.Takes.{is_given}
 use Rattle.clap.specs.Kinds.{check_kinds, or_else, range_kinds}
-use Rattle.clap.specs.Simple.{Shape, argument_words, built, entered, is_simple, names_of, rows_at, subcommand_of}
+use Rattle.clap.specs.Simple.{Shape, argument_words, built, entered, names_of, rows_at, subcommand_of}
 use Rattle.clap.specs.Faults.{check_fault, defaults_fault, entered_fault, fault_of, is_simple_and_free, level_fault, repeat_fault, set_fault, settle_fault, values_fault, walk_fault}
 use Rattle.clap.specs.ValueTests.{accepts}
 use Rattle.clap.specs.Values.{IsUnsignedIn}
@@ -22,9 +22,6 @@ use Rattle.kp_cli.specs.Line.{HasFile, HasNumber, NamesCall, NamesRace, file_rul
 use Rattle.kp_cli.proofs.Aside.{StopsAside, walk_aside}
 use Rattle.kp_cli.proofs.Filled.{EachRule, Filled, FillsByDefault, FillsItself, first_empty, found_filled, level_checked, level_filled, next_empty, refuses}
 use Rattle.kp_cli.proofs.Suits.{HasOne, Suits, given_suits, row_by_default, row_stays, text_there, used_suits, values_passed}
-
-pub kpart_is_simple : is_simple kpart ≡ true
-kpart_is_simple = refl
 
 pub kpart_is_free : is_simple_and_free kpart ≡ true
 kpart_is_free = refl

@@ -79,25 +79,25 @@ pub fn main_with<
     I: Read + Drop,
     W: Write,
     E: Write,
-    X: Fn(NodeId, Plan) -> Result<Outcome, Refusal>,
+    X: FnOnce(NodeId, Plan) -> Result<Outcome, Refusal> + Drop,
 >(
     alloc: Global,
     words: Result<Vec<String>, Fault>,
     file: F,
     folder: K,
     input: I,
-    races: &X,
+    races: X,
     out: &mut Counted<W>,
     err: &mut Counted<E>,
 ) -> Left<F, K>
-    requires races { (nodes : ℕ) (plan : SomePlan) → nodes ≤ 7 → X.pre races.now nodes plan }
+    requires races { (nodes : ℕ) (plan : SomePlan) → nodes ≤ 7 → X.pre races nodes plan }
     requires writes { faults_of out.old + 1 < 2 ^ 64 }
     requires complaints { faults_of err.old + 1 < 2 ^ 64 }
     ensures { (asked : Asked) × IsAsked (λ all. map string_bytes all.items) words asked
         × Ends (record {
           opens = F.opens;
           takes = K.takes;
-          races = X.post races.now;
+          races = X.post races;
           streams = record { remaining = F.remaining; file_fault = F.fault_is; held = W.contents; told = E.contents };
           shelf = record { entries = K.entries; folder_fault = K.fault_is };
         }) asked (record {
@@ -132,24 +132,24 @@ fn called<
     I: Read + Drop,
     W: Write,
     E: Write,
-    X: Fn(NodeId, Plan) -> Result<Outcome, Refusal>,
+    X: FnOnce(NodeId, Plan) -> Result<Outcome, Refusal> + Drop,
 >(
     alloc: Global,
     call: &Call,
     file: F,
     folder: K,
     input: I,
-    races: &X,
+    races: X,
     out: &mut Counted<W>,
     err: &mut Counted<E>,
 ) -> Left<F, K>
-    requires races { (nodes : ℕ) (plan : SomePlan) → (call.now ≡ Race nodes plan) → X.pre races.now nodes plan }
+    requires races { (nodes : ℕ) (plan : SomePlan) → (call.now ≡ Race nodes plan) → X.pre races nodes plan }
     requires writes { faults_of out.old + 1 < 2 ^ 64 }
     requires complaints { faults_of err.old + 1 < 2 ^ 64 }
     ensures { EndsAsked (record {
       opens = F.opens;
       takes = K.takes;
-      races = X.post races.now;
+      races = X.post races;
       streams = record { remaining = F.remaining; file_fault = F.fault_is; held = W.contents; told = E.contents };
       shelf = record { entries = K.entries; folder_fault = K.fault_is };
     }) call.now (file_of call.now) (record {
@@ -235,24 +235,24 @@ fn performed<
     K: KeptFolder + Drop,
     W: Write,
     E: Write,
-    X: Fn(NodeId, Plan) -> Result<Outcome, Refusal>,
+    X: FnOnce(NodeId, Plan) -> Result<Outcome, Refusal> + Drop,
 >(
     alloc: Global,
     call: &Call,
-    races: &X,
+    races: X,
     file: F,
     folder: K,
     out: &mut Counted<W>,
     err: &mut Counted<E>,
 ) -> Left<F, K>
-    requires races { (nodes : ℕ) (plan : SomePlan) → (call.now ≡ Race nodes plan) → X.pre races.now nodes plan }
+    requires races { (nodes : ℕ) (plan : SomePlan) → (call.now ≡ Race nodes plan) → X.pre races nodes plan }
     requires no_pipe { is_pipe call.now ≡ false }
     requires writes { faults_of out.old + 1 < 2 ^ 64 }
     requires complaints { faults_of err.old + 1 < 2 ^ 64 }
     ensures folder { IsLeft folder result.folder }
     ensures performed { (opened : SomeCounted F) × IsLeft file opened
         × PerformsCall (record { remaining = F.remaining; file_fault = F.fault_is; held = W.contents; told = E.contents })
-        (X.post races.now) call.now opened result.file out.old out.new err.old err.new result.status }
+        (X.post races) call.now opened result.file out.old out.new err.old err.new result.status }
 {
     let mut file = Counted::new(file);
     let status = perform(alloc, call, races, &mut file, out, err);

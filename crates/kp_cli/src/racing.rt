@@ -48,19 +48,17 @@ fn status_of(agree: bool) -> u8
     if agree { 0 } else { 1 }
 }
 
-/// Has a race run and prints its five lines. Answers the exit status: 0 where all nodes agree, 1 where they don't, where standard output
-/// failed, and where the race was refused.
-pub(crate) fn race_and_tell<X: Fn(NodeId, Plan) -> Result<Outcome, Refusal>, W: Write, E: Write>(
-    nodes: NodeId,
-    plan: Plan,
-    races: &X,
-    out: &mut Counted<W>,
-    err: &mut Counted<E>,
-) -> u8
-    requires races { X.pre races.now nodes plan }
+/// Has a race run, once, as `races` is given away by its call, and prints its five lines. Answers the exit status: 0 where all nodes
+/// agree, 1 where they don't, where standard output failed, and where the race was refused.
+pub(crate) fn race_and_tell<
+    X: FnOnce(NodeId, Plan) -> Result<Outcome, Refusal> + Drop,
+    W: Write,
+    E: Write,
+>(nodes: NodeId, plan: Plan, races: X, out: &mut Counted<W>, err: &mut Counted<E>) -> u8
+    requires races { X.pre races nodes plan }
     requires writes { faults_of out.old + 1 < 2 ^ 64 }
     requires complaints { faults_of err.old + 1 < 2 ^ 64 }
-    ensures { EndsRace W.contents E.contents (X.post races.now nodes plan) out.old out.new err.old err.new result }
+    ensures { EndsRace W.contents E.contents (X.post races nodes plan) out.old out.new err.old err.new result }
 {
     match races(nodes, plan) {
         Ok(outcome) => match write_outcome(out, &outcome) {

@@ -83,23 +83,23 @@ pub fn perform<
     R: Read + Explained,
     W: Write,
     E: Write,
-    X: Fn(NodeId, Plan) -> Result<Outcome, Refusal>,
+    X: FnOnce(NodeId, Plan) -> Result<Outcome, Refusal> + Drop,
 >(
     alloc: Global,
     call: &Call,
-    races: &X,
+    races: X,
     reader: &mut Counted<R>,
     out: &mut Counted<W>,
     err: &mut Counted<E>,
 ) -> u8
-    requires races { (nodes : ℕ) (plan : SomePlan) → (call.now ≡ Race nodes plan) → X.pre races.now nodes plan }
+    requires races { (nodes : ℕ) (plan : SomePlan) → (call.now ≡ Race nodes plan) → X.pre races nodes plan }
     requires no_pipe { is_pipe call.now ≡ false }
     requires reads { faults_of reader.old + 1 < 2 ^ 64 }
     requires writes { faults_of out.old + 1 < 2 ^ 64 }
     requires complaints { faults_of err.old + 1 < 2 ^ 64 }
     ensures { PerformsCall
         (record { remaining = R.remaining; file_fault = R.fault_is; held = W.contents; told = E.contents })
-        (X.post races.now) call.now reader.old reader.new out.old out.new err.old err.new result }
+        (X.post races) call.now reader.old reader.new out.old out.new err.old err.new result }
 {
     match call {
         Call::Run { file, .. } => play(alloc, file.as_str(), reader, out, err),

@@ -216,13 +216,16 @@ fn perform_words<X: Fn(NodeId, Plan) -> Result<Outcome, Refusal>>(
     let handed = handed(rt, words)?;
     let mut out = Counted::new(Faulty::new(Vec::new(rt.alloc()), failing.write));
     let mut err = Counted::new(Vec::new(rt.alloc()));
+    let once = |nodes: NodeId, plan: Plan| -> Result<Outcome, Refusal>
+        requires { X.pre races.now nodes plan }
+    { races(nodes, plan) };
     let left = main_with(
         rt.alloc(),
         Ok(handed),
         GivenFile::of(rt, Vec::new(rt.alloc()), failing.read),
         GivenFolder::new(rt.alloc(), failing.put),
         Faulty::new(input, failing.read),
-        races,
+        once,
         &mut out,
         &mut err,
     );
@@ -276,7 +279,7 @@ fn run_bytes(rt: &HostRuntime, call: &Call, bytes: Vec<u8>) -> io::Result<()>
     let mut reader = Counted::new(GivenFile::of(rt, bytes, NEVER.read));
     let mut out = Counted::new(Vec::new(rt.alloc()));
     let mut err = Counted::new(Vec::new(rt.alloc()));
-    let status = perform(rt.alloc(), call, &no_race, &mut reader, &mut out, &mut err);
+    let status = perform(rt.alloc(), call, no_race, &mut reader, &mut out, &mut err);
     show(rt, out.device().as_slice(), err.device().as_slice(), status)
 }
 
@@ -370,7 +373,7 @@ fn sum_repeated(rt: &HostRuntime, front: &str, piece: &str, count: &str) -> io::
     let mut out = Counted::new(Vec::new(rt.alloc()));
     let mut err = Counted::new(Vec::new(rt.alloc()));
     let call = run_call(rt)?;
-    let status = perform(rt.alloc(), &call, &no_race, &mut reader, &mut out, &mut err);
+    let status = perform(rt.alloc(), &call, no_race, &mut reader, &mut out, &mut err);
     let told = out.device().as_slice();
     let lines = told.iter().filter(|byte| **byte == b'\n').count();
     let sum = format!(in rt.alloc();

@@ -45,7 +45,7 @@ fn main(rt: HostRuntime) -> ExitCode {
         file,
         folder,
         rt.stdin(),
-        &races,
+        races,
         &mut out,
         &mut err,
     );

@@ -1,6 +1,6 @@
 //! What the threads share.
 
-use kp_board::{Board, BoardName, FreshPass, Message, Pass};
+use kp_board::{Board, BoardName, Callers, FreshPass, Message, Pass};
 use kp_node::Node;
 use kp_types::{Limits, NodeId, Refusal};
 use std::alloc::Global;
@@ -23,10 +23,11 @@ struct Place<B: BoardName> {
     mail: Mutex<VecDeque<Message<B>>>,
 }
 
-/// All nodes, each at the place of its number, and the board that they share.
+/// All nodes, each at the place of its number, the board that they share, and what makes the passes of callers.
 #[derive(Drop)]
 pub(crate) struct Cluster<B: BoardName> {
     board: Arc<Board<B>, Global>,
+    callers: Mutex<Callers<B>>,
     places: Vec<Place<B>>,
 }
 
@@ -36,6 +37,7 @@ impl<B: BoardName> Cluster<B> {
         alloc: Global,
         board: Arc<Board<B>, Global>,
         passes: Vec<FreshPass<B>>,
+        callers: Callers<B>,
     ) -> Result<Cluster<B>, Refusal> {
         let mut places = Vec::with_capacity(alloc, passes.len())?;
         for pass in passes {
@@ -45,17 +47,26 @@ impl<B: BoardName> Cluster<B> {
                 mail: Mutex::new(VecDeque::new(alloc)),
             })?;
         }
-        Ok(Cluster { board, places })
+        Ok(Cluster {
+            board,
+            callers: Mutex::new(callers),
+            places,
+        })
     }
 
     /// Elects the node, and has each node take the record up.
     pub(crate) fn elect<R: Wait>(&self, rt: &R, node: NodeId) -> Result<(), Refusal> {
-        let mut pass = self.board.pass();
+        let mut pass = self.pass(rt);
         self.board.elect(&mut pass, node)?;
         for place in &self.places {
             place.node.lock(rt).adopt()?;
         }
         Ok(())
+    }
+
+    /// A new caller's pass.
+    pub(crate) fn pass<R: Wait>(&self, rt: &R) -> Pass<B> {
+        self.board.pass(&mut self.callers.lock(rt))
     }
 
     /// The board, at which nobody waits.
@@ -98,7 +109,7 @@ impl<B: BoardName> Cluster<B> {
 
     /// How many batches each node holds below its high watermark.
     pub(crate) fn held<R: Wait>(&self, rt: &R, alloc: Global) -> Result<Vec<u64>, Refusal> {
-        let mut pass = self.board.pass();
+        let mut pass = self.pass(rt);
         let mut held = Vec::with_capacity(alloc, self.places.len())?;
         for place in &self.places {
             let batches = place.node.lock(rt).read(&mut pass, 0)?;

@@ -40,9 +40,9 @@ fn run_named<B: BoardName + Send + Sync, R: Threads + Wait + Sync>(
 ) -> Result<Left, Refusal>
     requires { opened ≡ B.table }
 {
-    let (board, passes) = Board::<B>::new(alloc, opened)?;
+    let (board, passes, callers) = Board::<B>::new(alloc, opened)?;
     let board = Arc::new(alloc, board)?;
-    let cluster = Cluster::of(alloc, board, passes)?;
+    let cluster = Cluster::of(alloc, board, passes, callers)?;
     cluster.elect(rt, 0)?;
     let acknowledged = run(rt, alloc, &cluster, PRODUCERS, BATCHES)?;
     let held = cluster.held(rt, alloc)?;

@@ -31,7 +31,7 @@ fn turn<B: BoardName, R: Wait>(rt: &R, cluster: &Cluster<B>, node: &Mutex<Node<B
 
 /// Serves a node until each node has committed so many batches.
 fn serve<B: BoardName, R: Wait>(rt: &R, cluster: &Cluster<B>, number: usize, batches: u64) {
-    let mut pass = cluster.board().pass();
+    let mut pass = cluster.pass(rt);
     if let Some(node) = cluster.node(number) {
         for _ in 0..MOST_TURNS {
             if cluster.has_committed(&mut pass, batches) {
@@ -90,7 +90,7 @@ fn produce<B: BoardName, R: Wait>(
     cluster: &Cluster<B>,
     batches: u64,
 ) -> Result<u64, Refusal> {
-    let mut pass = cluster.board().pass();
+    let mut pass = cluster.pass(rt);
     let mut speller = Speller::new(alloc);
     let mut acknowledged = 0u64;
     let Some(leader) = cluster.node(0) else {

@@ -11,7 +11,7 @@ pub returns-then-is_pipe : goal.returns-then-is_pipe
 returns-then-is_pipe g c =
     let call = c.args.call.now in
     let known =
-    known_of g.F.Source.opens g.K.KeptFolder.takes (λ (nodes : ℕ) (plan : Plan). g.X.Fn.post c.args.races.now (nodes, (plan, tt))) g.F.Read.remaining
+    known_of g.F.Source.opens g.K.KeptFolder.takes (λ (nodes : ℕ) (plan : Plan). g.X.FnOnce.post c.args.races (nodes, (plan, tt))) g.F.Read.remaining
     g.F.Explained.fault_is g.K.Folder.entries g.K.Explained.fault_is g.W.Write.contents g.E.Write.contents in
     let input = g.I.Read.remaining c.args.input in
     let around =
@@ -29,7 +29,7 @@ pub returns-in_default : goal.returns-in_default
 returns-in_default g c =
     let call = c.args.call.now in
     let known =
-    known_of g.F.Source.opens g.K.KeptFolder.takes (λ (nodes : ℕ) (plan : Plan). g.X.Fn.post c.args.races.now (nodes, (plan, tt))) g.F.Read.remaining
+    known_of g.F.Source.opens g.K.KeptFolder.takes (λ (nodes : ℕ) (plan : Plan). g.X.FnOnce.post c.args.races (nodes, (plan, tt))) g.F.Read.remaining
     g.F.Explained.fault_is g.K.Folder.entries g.K.Explained.fault_is g.W.Write.contents g.E.Write.contents in
     let around =
     around_of (g.I.Read.remaining c.args.input) c.args.file c.performed.result.file c.args.folder c.performed.result.folder c.args.out.now c.performed.new.out c.args.err.now c.performed.new.err in
@@ -42,7 +42,7 @@ returns-in_default g c =
 pub returns-in-Err : goal.returns-in-Err
 returns-in-Err g c =
     let known =
-    known_of g.F.Source.opens g.K.KeptFolder.takes (λ (nodes : ℕ) (plan : Plan). g.X.Fn.post c.args.races.now (nodes, (plan, tt))) g.F.Read.remaining
+    known_of g.F.Source.opens g.K.KeptFolder.takes (λ (nodes : ℕ) (plan : Plan). g.X.FnOnce.post c.args.races (nodes, (plan, tt))) g.F.Read.remaining
     g.F.Explained.fault_is g.K.Folder.entries g.K.Explained.fault_is g.W.Write.contents g.E.Write.contents in
     let around =
     around_of (g.I.Read.remaining c.args.input) c.args.file c.leave.result.file c.args.folder c.leave.result.folder c.args.out.now c.args.out.now c.args.err.now c.refuse_path.new.err in
@@ -61,7 +61,7 @@ pub returns-in_default-keep : goal.returns-in_default-keep
 returns-in_default-keep g c =
     let call = c.args.call.now in
     let known =
-    known_of g.F.Source.opens g.K.KeptFolder.takes (λ (nodes : ℕ) (plan : Plan). g.X.Fn.post c.args.races.now (nodes, (plan, tt))) g.F.Read.remaining
+    known_of g.F.Source.opens g.K.KeptFolder.takes (λ (nodes : ℕ) (plan : Plan). g.X.FnOnce.post c.args.races (nodes, (plan, tt))) g.F.Read.remaining
     g.F.Explained.fault_is g.K.Folder.entries g.K.Explained.fault_is g.W.Write.contents g.E.Write.contents in
     let around =
     around_of (g.I.Read.remaining c.args.input) c.args.file c.performed-in_default-keep.result.file c.args.folder c.performed-in_default-keep.result.folder c.args.out.now c.performed-in_default-keep.new.out c.args.err.now c.performed-in_default-keep.new.err in
@@ -82,7 +82,7 @@ pub returns-in-Err-take : goal.returns-in-Err-take
 returns-in-Err-take g c =
     let call = c.args.call.now in
     let known =
-    known_of g.F.Source.opens g.K.KeptFolder.takes (λ (nodes : ℕ) (plan : Plan). g.X.Fn.post c.args.races.now (nodes, (plan, tt))) g.F.Read.remaining
+    known_of g.F.Source.opens g.K.KeptFolder.takes (λ (nodes : ℕ) (plan : Plan). g.X.FnOnce.post c.args.races (nodes, (plan, tt))) g.F.Read.remaining
     g.F.Explained.fault_is g.K.Folder.entries g.K.Explained.fault_is g.W.Write.contents g.E.Write.contents in
     let around =
     around_of (g.I.Read.remaining c.args.input) c.args.file c.leave-in-Err-take.result.file c.args.folder c.leave-in-Err-take.result.folder c.args.out.now c.args.out.now c.args.err.now c.refuse_path-in-Err-take.new.err in
@@ -112,7 +112,7 @@ pub returns : goal.returns
 returns g c =
     let call = c.args.call.now in
     let known =
-    known_of g.F.Source.opens g.K.KeptFolder.takes (λ (nodes : ℕ) (plan : Plan). g.X.Fn.post c.args.races.now (nodes, (plan, tt))) g.F.Read.remaining
+    known_of g.F.Source.opens g.K.KeptFolder.takes (λ (nodes : ℕ) (plan : Plan). g.X.FnOnce.post c.args.races (nodes, (plan, tt))) g.F.Read.remaining
     g.F.Explained.fault_is g.K.Folder.entries g.K.Explained.fault_is g.W.Write.contents g.E.Write.contents in
     let around =
     around_of (g.I.Read.remaining c.args.input) c.args.file c.run_and_keep-status.new.reader c.args.folder c.run_and_keep-status.new.folder c.args.out.now c.run_and_keep-status.new.out c.args.err.now c.run_and_keep-status.new.err in
