@@ -3,7 +3,7 @@
 ghost use Rattle.std.specs.Prelude.{◌≡◌, ◌≤◌};
 
 use crate::shown::unrefused;
-use kp_board::{Board, BoardName, Opened};
+use kp_board::{Board, BoardName, Opened, Pass};
 use kp_control::pack;
 use kp_types::{NodeId, Refusal};
 use std::alloc::Global;
@@ -24,11 +24,10 @@ pub(crate) fn board_of(rt: &impl Abort, alloc: Global, nodes: NodeId) -> Opened
 }
 
 // How many of its tries to elect the node are answered by a record.
-fn elections<B: BoardName>(board: &Board<B>, node: NodeId) -> u32 {
-    let mut pass = board.pass();
+fn elections<B: BoardName>(board: &Board<B>, pass: &mut Pass<B>, node: NodeId) -> u32 {
     let mut elected = 0u32;
     for _ in 0..TRIES {
-        if board.elect(&mut pass, node).is_ok() {
+        if board.elect(pass, node).is_ok() {
             elected = elected.wrapping_add(1);
         }
     }
@@ -36,11 +35,10 @@ fn elections<B: BoardName>(board: &Board<B>, node: NodeId) -> u32 {
 }
 
 // The version that was shown last, of many looks.
-fn last_version<B: BoardName>(board: &Board<B>) -> u32 {
-    let mut pass = board.pass();
+fn last_version<B: BoardName>(board: &Board<B>, pass: &mut Pass<B>) -> u32 {
     let mut version = 0;
     for _ in 0..TRIES {
-        version = board.record(&mut pass).version;
+        version = board.record(pass).version;
     }
     version
 }
@@ -53,10 +51,16 @@ fn elect_by_two<B: BoardName + Send + Sync>(
 ) -> Result<(u32, u32), Refusal>
     requires { opened ≡ B.table }
 {
-    let (board, _passes) = Board::<B>::new(alloc, opened)?;
-    let (zero, one) = join(rt, || elections(&board, 0), || elections(&board, 1));
-    let version = board.record(&mut board.pass()).version;
-    Ok((zero.wrapping_add(one), version))
+    let (board, _passes, mut callers) = Board::<B>::new(alloc, opened)?;
+    let mut zero = board.pass(&mut callers);
+    let mut one = board.pass(&mut callers);
+    let (elected, too) = join(
+        rt,
+        || elections(&board, &mut zero, 0),
+        || elections(&board, &mut one, 1),
+    );
+    let version = board.record(&mut zero).version;
+    Ok((elected.wrapping_add(too), version))
 }
 
 #[test]
@@ -76,9 +80,15 @@ fn look_and_elect<B: BoardName + Send + Sync>(
 ) -> Result<(u32, u32, u32), Refusal>
     requires { opened ≡ B.table }
 {
-    let (board, _passes) = Board::<B>::new(alloc, opened)?;
-    let (elected, seen) = join(rt, || elections(&board, 1), || last_version(&board));
-    let version = board.record(&mut board.pass()).version;
+    let (board, _passes, mut callers) = Board::<B>::new(alloc, opened)?;
+    let mut voter = board.pass(&mut callers);
+    let mut looker = board.pass(&mut callers);
+    let (elected, seen) = join(
+        rt,
+        || elections(&board, &mut voter, 1),
+        || last_version(&board, &mut looker),
+    );
+    let version = board.record(&mut looker).version;
     Ok((elected, seen, version))
 }
 
@@ -95,8 +105,8 @@ fn one_looks_while_another_elects(rt: HostRuntime) {
 fn word_after_an_election<B: BoardName>(alloc: Global, opened: Opened) -> Result<u64, Refusal>
     requires { opened ≡ B.table }
 {
-    let (board, _passes) = Board::<B>::new(alloc, opened)?;
-    let mut pass = board.pass();
+    let (board, _passes, mut callers) = Board::<B>::new(alloc, opened)?;
+    let mut pass = board.pass(&mut callers);
     board.elect(&mut pass, 0)?;
     Ok(pack(&board.record(&mut pass)))
 }

@@ -6,8 +6,9 @@ ghost use Rattle.kp_model.specs.World.{most_nodes};
 use crate::board_tests::board_of;
 use crate::node_tests::bytes_of;
 use crate::shown::unrefused;
-use kp_board::{Board, BoardName, Opened, Pass};
+use kp_board::{Board, BoardName, Callers, Opened, Pass};
 use kp_cluster::{Cluster, Gate, Open, start};
+use kp_model::LeaderAndIsr;
 use kp_node::Node;
 use kp_race::{Outcome, Plan, nodes_of, run_race, stop_all};
 use kp_replica::IsrChange;
@@ -44,9 +45,10 @@ fn adopt<B: BoardName, R: Wait>(rt: &R, node: &Mutex<Node<B>>) -> Result<(), Ref
 fn lead<B: BoardName, R: Wait>(
     rt: &R,
     board: &Board<B>,
+    pass: &mut Pass<B>,
     nodes: &Vec<Shared<B>>,
 ) -> Result<(), Refusal> {
-    board.elect(&mut board.pass(), 0)?;
+    board.elect(pass, 0)?;
     match nodes.first() {
         Some(first) => adopt(rt, first),
         None => Ok(()),
@@ -58,12 +60,12 @@ fn led<B: BoardName, R: Wait>(
     rt: &R,
     alloc: Global,
     opened: Opened,
-) -> Result<(Arc<Board<B>, Global>, Vec<Shared<B>>), Refusal>
+) -> Result<(Arc<Board<B>, Global>, Vec<Shared<B>>, Callers<B>), Refusal>
     requires { opened ≡ B.table }
 {
-    let (board, nodes) = nodes_of::<B>(alloc, opened, &LIMITS)?;
-    lead(rt, &board, &nodes)?;
-    Ok((board, nodes))
+    let (board, nodes, mut callers) = nodes_of::<B>(alloc, opened, &LIMITS)?;
+    lead(rt, &board, &mut board.pass(&mut callers), &nodes)?;
+    Ok((board, nodes, callers))
 }
 
 // The nodes, shared with their callers.
@@ -106,7 +108,7 @@ fn whole_or_none<B: BoardName, C: Carry<Parcel<B>> + Drop, R: Threads + Wait>(
     }
 }
 
-// Starts a worker for each of at most seven nodes; none are left where that is refused.
+// Starts a worker for each of at most seven nodes, and the controller's with its pass; none are left where that is refused.
 fn started<
     B: BoardName + Send + Sync + 'static,
     R: Threads + Wait + Copy + Send + 'static,
@@ -116,11 +118,12 @@ fn started<
     rt: &R,
     alloc: Global,
     nodes: &Vec<Shared<B>>,
+    controller: Pass<B>,
     carrier: Arc<C, Global>,
     gate: Arc<G, Global>,
 ) -> Result<Cluster<B, C>, Refusal> {
     let shares = few_shares_of(alloc, nodes)?;
-    whole_or_none(rt, start(rt, alloc, shares, carrier, gate))
+    whole_or_none(rt, start(rt, alloc, shares, controller, carrier, gate))
 }
 
 // Workers of three nodes and the controller over plain channels.
@@ -132,10 +135,11 @@ fn over_channels<
     rt: &R,
     alloc: Global,
     nodes: &Vec<Shared<B>>,
+    controller: Pass<B>,
     gate: Arc<G, Global>,
 ) -> Result<Cluster<B, Channels<Parcel<B>, R>>, Refusal> {
     let carrier = Arc::new(alloc, Channels::new(*rt, alloc, 4)?)?;
-    started(rt, alloc, nodes, carrier, gate)
+    started(rt, alloc, nodes, controller, carrier, gate)
 }
 
 // Holds each step of node 1 until node 2 has had its answer. Counts those that it then let through.
@@ -193,10 +197,11 @@ fn lets_through<
     rt: &R,
     alloc: Global,
     nodes: &Vec<Shared<B>>,
+    controller: Pass<B>,
     gate: &Arc<OneAfterTwo, Global>,
 ) -> Result<bool, Refusal> {
     let own = Arc::try_clone(gate)?;
-    let cluster = over_channels(rt, alloc, nodes, own)?;
+    let cluster = over_channels(rt, alloc, nodes, controller, own)?;
     let turned = turn_both(&cluster);
     let passed = reaches(&gate.let_through, 1);
     stop_all(rt, cluster);
@@ -212,8 +217,8 @@ fn one_after_two<
     requires { opened ≡ B.table }
 {
     let gate = new_gate(alloc)?;
-    let (_board, nodes) = led::<B, R>(rt, alloc, opened)?;
-    lets_through(rt, alloc, &nodes, &gate)
+    let (board, nodes, mut callers) = led::<B, R>(rt, alloc, opened)?;
+    lets_through(rt, alloc, &nodes, board.pass(&mut callers), &gate)
 }
 
 #[test]
@@ -325,14 +330,14 @@ fn comes_to_all<
     alloc: Global,
     board: &Arc<Board<B>, Global>,
     nodes: &Vec<Shared<B>>,
-    pass: &mut Pass<B>,
+    callers: &mut Callers<B>,
     choices: &[Choice],
 ) -> Result<bool, Refusal> {
     let gate = Arc::new(alloc, Open)?;
     let waiting = Arc::new(alloc, Waiting::new())?;
     let carrier = carrier_of(rt, alloc, board, &waiting, choices)?;
-    let cluster = started(rt, alloc, nodes, carrier, gate)?;
-    let came = turn_until(rt, &cluster, &*waiting, nodes, pass);
+    let cluster = started(rt, alloc, nodes, board.pass(callers), carrier, gate)?;
+    let came = turn_until(rt, &cluster, &*waiting, nodes, &mut board.pass(callers));
     stop_all(rt, cluster);
     came
 }
@@ -344,10 +349,9 @@ fn read_back<
 >(rt: &R, alloc: Global, opened: Opened, choices: &[Choice]) -> Result<bool, Refusal>
     requires { opened ≡ B.table }
 {
-    let (board, nodes) = led::<B, R>(rt, alloc, opened)?;
-    let mut pass = board.pass();
-    hand_in(rt, alloc, &nodes, &mut pass)?;
-    comes_to_all(rt, alloc, &board, &nodes, &mut pass, choices)
+    let (board, nodes, mut callers) = led::<B, R>(rt, alloc, opened)?;
+    hand_in(rt, alloc, &nodes, &mut board.pass(&mut callers))?;
+    comes_to_all(rt, alloc, &board, &nodes, &mut callers, choices)
 }
 
 // Each choice that lets messages come, alone, and all together.
@@ -397,11 +401,12 @@ fn ask_until_gone<B: BoardName, R: Wait, C: Carry<Parcel<B>>>(
 fn leaves<
     B: BoardName + Send + Sync + 'static,
     R: Threads + Wait + Copy + Drop + Send + Sync + 'static,
->(rt: &R, alloc: Global, nodes: &Vec<Shared<B>>) -> Result<bool, Refusal> {
+>(rt: &R, alloc: Global, nodes: &Vec<Shared<B>>, controller: Pass<B>) -> Result<bool, Refusal> {
     let leader = nodes.first().ok_or(Refusal::BadCount)?;
     let (waiting, carrier) = counted_channels::<B, R>(rt, alloc)?;
     let gate = Arc::new(alloc, Open)?;
-    let cluster = started(rt, alloc, nodes, Arc::try_clone(&carrier)?, gate)?;
+    let own = Arc::try_clone(&carrier)?;
+    let cluster = started(rt, alloc, nodes, controller, own, gate)?;
     let is_gone = ask_until_gone(rt, &**leader, &*carrier, &*waiting);
     stop_all(rt, cluster);
     is_gone
@@ -414,9 +419,9 @@ fn is_recorded<
 >(rt: &R, alloc: Global, opened: Opened) -> Result<bool, Refusal>
     requires { opened ≡ B.table }
 {
-    let (board, nodes) = led::<B, R>(rt, alloc, opened)?;
-    let is_gone = leaves(rt, alloc, &nodes)?;
-    let record = board.record(&mut board.pass());
+    let (board, nodes, mut callers) = led::<B, R>(rt, alloc, opened)?;
+    let is_gone = leaves(rt, alloc, &nodes, board.pass(&mut callers))?;
+    let record = board.record(&mut board.pass(&mut callers));
     Ok(is_gone && record.version == 2 && !record.isr.contains(2))
 }
 
@@ -444,12 +449,18 @@ pub(crate) fn raced_on<
     alloc: Global,
     board: &Arc<Board<B>, Global>,
     nodes: &Vec<Shared<B>>,
+    callers: &mut Callers<B>,
     choices: &[Choice],
     gate: Arc<G, Global>,
 ) -> Result<Outcome, Refusal> {
+    if nodes.len() > 7 {
+        return Err(Refusal::BadCount);
+    }
     let waiting = Arc::new(alloc, Waiting::new())?;
     let carrier = carrier_of(rt, alloc, board, &waiting, choices)?;
-    run_race(rt, alloc, &**board, nodes, &carrier, &*waiting, gate, &PLAN)
+    run_race(
+        rt, alloc, &**board, nodes, callers, &carrier, &*waiting, gate, &PLAN,
+    )
 }
 
 // What comes of a race of three new nodes, where messages fare so.
@@ -460,8 +471,8 @@ pub(crate) fn raced<
     requires { opened ≡ B.table }
 {
     let gate = Arc::new(alloc, Open)?;
-    let (board, nodes) = nodes_of::<B>(alloc, opened, &LIMITS)?;
-    raced_on(rt, alloc, &board, &nodes, choices, gate)
+    let (board, nodes, mut callers) = nodes_of::<B>(alloc, opened, &LIMITS)?;
+    raced_on(rt, alloc, &board, &nodes, &mut callers, choices, gate)
 }
 
 // They agree, and no more is acknowledged than was handed in, or stands.
@@ -498,4 +509,28 @@ fn all_nodes_agree(rt: HostRuntime) {
         let found = raced::<Brand, HostRuntime>(&rt, alloc, board_of(&rt, alloc, 3), &[choice]);
         assert!(rt; holds_alone(choice, &unrefused(&rt, found)));
     }
+}
+
+// The record after a race whose messages all come, and how many receipts there are.
+fn record_after<
+    B: BoardName + Send + Sync + 'static,
+    R: Threads + Wait + Copy + Drop + Send + Sync + 'static,
+>(rt: &R, alloc: Global, opened: Opened) -> Result<(LeaderAndIsr, u64), Refusal>
+    requires { opened ≡ B.table }
+{
+    let gate = Arc::new(alloc, Open)?;
+    let (board, nodes, mut callers) = nodes_of::<B>(alloc, opened, &LIMITS)?;
+    let outcome = raced_on(rt, alloc, &board, &nodes, &mut callers, &[], gate)?;
+    let record = board.record(&mut board.pass(&mut callers));
+    Ok((record, outcome.receipts))
+}
+
+// Node 0 is elected at first, and then nodes 1, 2, 0, 1 and 2.
+#[test]
+fn a_race_moves_the_leadership(rt: HostRuntime) {
+    let alloc = rt.alloc();
+    let found = record_after::<Brand, HostRuntime>(&rt, alloc, board_of(&rt, alloc, 3));
+    let (record, receipts) = unrefused(&rt, found);
+    let led = record.leader.map(|leader| (leader.node, leader.epoch));
+    assert_eq!(rt; (led, record.version, receipts), (Some((2, 5)), 6, 20));
 }

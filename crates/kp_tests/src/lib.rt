@@ -8,6 +8,8 @@ mod batch_tests;
 #[cfg(test)]
 mod board_tests;
 #[cfg(test)]
+mod carrier_tests;
+#[cfg(test)]
 mod cli_tests;
 #[cfg(test)]
 mod cluster_tests;
@@ -23,6 +25,8 @@ mod index_tests;
 mod log_tests;
 #[cfg(test)]
 mod logs;
+#[cfg(test)]
+mod meet_tests;
 #[cfg(test)]
 mod node_tests;
 #[cfg(test)]

@@ -86,7 +86,7 @@ pub(crate) fn push_role(text: &mut String, role: Role) -> Result<(), AllocError>
 }
 
 /// Appends the in-sync replicas of this version.
-fn push_isr(text: &mut String, isr: &NodeSet, version: u32) -> Result<(), AllocError> {
+pub(crate) fn push_isr(text: &mut String, isr: &NodeSet, version: u32) -> Result<(), AllocError> {
     text.push_str("isr")?;
     for node in 0..7 {
         if isr.contains(node) {

@@ -5,30 +5,32 @@ use crate::shown::is;
 use kp_replica::IsrChange;
 
 static READ: [Turn; 12] = [
-    Turn::Append(0, "p10"),
+    Turn::Append(0, "v1000"),
     Turn::Elect(0),
     Turn::Adopt(0),
-    Turn::Append(0, "p10"),
+    Turn::Append(0, "v1000"),
+    Turn::Receipt,
     Turn::Acked(0),
     Turn::Read(0, 0),
     Turn::Raise(0),
     Turn::Acked(0),
     Turn::Watermark(0),
-    Turn::Read(0, 0),
+    Turn::ReadBytes(0, 0),
     Turn::Read(0, 2),
-    Turn::Meet(0),
 ];
 
+// The bytes are those of the batch at offset 0 in leader epoch 0.
 static READ_TOLD: &str =
-    "F15 NotLeader\nrecord leader 0 epoch 0 version 1\nleads epoch 0 from 0\nat 0\nnot yet\nbatches 0\nmark 1\nyes\n\
-     mark 1\nbatches 1, 0 time 10\nF16 OffsetOutOfRange\nmet\n";
+    "F15 NotLeader\nrecord leader 0 epoch 0 version 1\nleads epoch 0 from 0\nat 0\nreceipt 0 to 0 epoch 0\nnot yet\n\
+     batches 0\nmark 1\nyes\nmark 1\nbytes 0000000000000000000000390000000002ebf1884b00000000000000000000000003e800000000000003e8ffffffffffffffffffffffffffff000000010e00000001026100\n\
+     F16 OffsetOutOfRange\n";
 
 #[test]
-fn a_batch_is_read_back(rt: HostRuntime) {
+fn read_back(rt: HostRuntime) {
     is(&rt, seated(rt.alloc(), 1, &[], &READ), READ_TOLD);
 }
 
-static CHANGED: [Turn; 23] = [
+static CHANGED: [Turn; 25] = [
     Turn::Alter(0, IsrChange::Leave(1)),
     Turn::Elect(0),
     Turn::Adopt(0),
@@ -36,6 +38,7 @@ static CHANGED: [Turn; 23] = [
     Turn::Alter(0, IsrChange::Leave(1)),
     Turn::Record,
     Turn::Deliver(0),
+    Turn::InSync,
     Turn::Record,
     Turn::Alter(0, IsrChange::Join(1)),
     Turn::Hand(1, 0),
@@ -51,17 +54,20 @@ static CHANGED: [Turn; 23] = [
     Turn::Acked(0),
     Turn::Restart(0),
     Turn::Restart(0),
+    Turn::Checkpoint(0),
     Turn::Watermark(0),
 ];
 
 static CHANGED_TOLD: &str =
     "F15 NotLeader\nrecord leader 0 epoch 0 version 1\nleads epoch 0 from 0\nF23 NotCaughtUp\nsent 0 proposes isr 0 version 1\n\
-     record leader 0 epoch 0 version 1\nsent 1 record leader 0 epoch 0 version 2\nrecord leader 0 epoch 0 version 2\n\
+     record leader 0 epoch 0 version 1\nsent 1 record leader 0 epoch 0 version 2\nisr 0 version 2\n\
+     record leader 0 epoch 0 version 2\n\
      F34 ChangePending\nF29 StaleAnswer\ntaken\nrecord leader 0 epoch 1 version 3\nF21 NotInSync\nF21 NotInSync\nat 0\nmark 1\n\
-     checkpoint 1\nstopped\nF28 Down\nF28 Down\nlife 1 end 1 mark 1\nF28 Down\nmark 1\n";
+     checkpoint 1\nstopped\nF28 Down\nF28 Down\nlife 1 end 1 mark 1\nF28 Down\n\
+     checkpoint 1\nmark 1\n";
 
 #[test]
-fn a_change_is_shown(rt: HostRuntime) {
+fn alter_shows(rt: HostRuntime) {
     is(&rt, seated(rt.alloc(), 2, &[], &CHANGED), CHANGED_TOLD);
 }
 
@@ -122,7 +128,7 @@ static CUT_TOLD: &str =
      record leader 1 epoch 1 version 4\nbatches 1, 1 time 30\nyes\n";
 
 #[test]
-fn a_cut_is_shown(rt: HostRuntime) {
+fn cut_shows(rt: HostRuntime) {
     is(&rt, seated(rt.alloc(), 2, &[], &DIVERGED), DIVERGED_TOLD);
     is(&rt, seated(rt.alloc(), 2, &DIVERGED, &CUT), CUT_TOLD);
 }

@@ -4,7 +4,8 @@ ghost use Rattle.std.specs.Prelude.{◌≡◌};
 
 use crate::logs::LIMITS;
 use crate::node_tests::{MARKER, bytes_of};
-use crate::played::{push_record, push_role, push_sent};
+use crate::played::{push_isr, push_record, push_role, push_sent};
+use crate::shown::push_bytes;
 use kp_batch::Batch;
 use kp_board::{Board, BoardName, FreshPass, Message, Opened, Pass};
 use kp_marker::HandedMarker;
@@ -22,6 +23,8 @@ pub(crate) enum Turn {
     Elect(NodeId),
     /// The record that the board shows.
     Record,
+    /// Its in-sync replicas.
+    InSync,
     /// The watermark that the board shows of the node.
     Watermark(NodeId),
     Adopt(NodeId),
@@ -29,11 +32,13 @@ pub(crate) enum Turn {
     Append(NodeId, &'static str),
     /// A transaction coordinator hands the node a marker.
     Mark(NodeId),
+    /// The newest receipt.
+    Receipt,
     /// Whether the batch of the newest receipt is committed.
     Acked(NodeId),
     Read(NodeId, Offset),
-    /// The caller meets another one at the node.
-    Meet(NodeId),
+    /// The bytes of what is read.
+    ReadBytes(NodeId, Offset),
     Ask(NodeId),
     /// The message of this number gets to where it goes. It stays, and may come again.
     Deliver(usize),
@@ -48,11 +53,12 @@ pub(crate) enum Turn {
     Restart(NodeId),
 }
 
-/// A board, its nodes, each in its place, one caller with its newest receipt, and all messages that were sent.
+/// A board, the pass of its controller, its nodes, each in its place, one caller with its newest receipt, and all messages that were sent.
 #[derive(Drop)]
 struct Seats<B: BoardName> {
     alloc: Global,
     board: Arc<Board<B>, Global>,
+    controller: Pass<B>,
     nodes: Vec<Node<B>>,
     mail: Vec<Message<B>>,
     receipt: Option<Receipt>,
@@ -63,6 +69,18 @@ fn push_batches(text: &mut String, batches: &[Batch]) -> Result<(), AllocError> 
     for batch in batches {
         let (base, time) = (batch.base_offset(), batch.base_timestamp());
         write!(text, ", {base} time {time}")?;
+    }
+    Ok(())
+}
+
+// The batches as they are written, a word each.
+fn push_written(alloc: Global, text: &mut String, batches: &[Batch]) -> Result<(), Refusal> {
+    text.push_str("bytes")?;
+    for batch in batches {
+        let mut out = Vec::new(alloc);
+        batch.write(&mut out)?;
+        text.push(' ')?;
+        push_bytes(text, Some(out.as_slice()))?;
     }
     Ok(())
 }
@@ -114,6 +132,17 @@ fn tell_receipt(text: &mut String, receipt: &Receipt) -> Result<(), AllocError> 
     write!(text, "{how} {}", receipt.base)
 }
 
+// Which offsets it names, and in which leader epoch.
+fn tell_newest(text: &mut String, receipt: Option<Receipt>) -> Result<(), Refusal> {
+    let receipt = receipt.ok_or(Refusal::BadCount)?;
+    let (base, last, epoch) = (receipt.base, receipt.last, receipt.epoch);
+    Ok(write!(text, "receipt {base} to {last} epoch {epoch}")?)
+}
+
+fn tell_in_sync(text: &mut String, record: &LeaderAndIsr) -> Result<(), Refusal> {
+    Ok(push_isr(text, &record.isr, record.version)?)
+}
+
 fn name_of(ack: Ack) -> &'static str {
     match ack {
         Ack::Yes => "yes",
@@ -159,12 +188,18 @@ fn tell_call<B: BoardName>(
 }
 
 impl<B: BoardName> Seats<B> {
-    fn new(alloc: Global, board: Board<B>, passes: Vec<FreshPass<B>>) -> Result<Seats<B>, Refusal> {
+    fn new(
+        alloc: Global,
+        board: Board<B>,
+        passes: Vec<FreshPass<B>>,
+        controller: Pass<B>,
+    ) -> Result<Seats<B>, Refusal> {
         let board = Arc::new(alloc, board)?;
         let nodes = nodes_of(alloc, &board, passes)?;
         Ok(Seats {
             alloc,
             board,
+            controller,
             nodes,
             mail: Vec::new(alloc),
             receipt: None,
@@ -218,7 +253,7 @@ impl<B: BoardName> Seats<B> {
     }
 
     fn send_decision(&mut self, text: &mut String, message: Message<B>) -> Result<(), Refusal> {
-        let decision = self.board.decide(message)?;
+        let decision = self.board.decide(&mut self.controller, message)?;
         self.send(text, decision)
     }
 
@@ -270,17 +305,11 @@ impl<B: BoardName> Seats<B> {
         Ok(text.push_str(name_of(ack))?)
     }
 
-    fn meet(&mut self, text: &mut String, pass: &mut Pass<B>, node: NodeId) -> Result<(), Refusal> {
-        let node = self.node(node)?;
-        let mut other = node.board().pass();
-        node.meet(pass, &mut other);
-        Ok(text.push_str("met")?)
-    }
-
     // What the board answers, without a node.
     fn look(&self, text: &mut String, pass: &mut Pass<B>, turn: &Turn) -> Result<(), Refusal> {
         match turn {
             Turn::Elect(node) => tell_record(text, self.board.elect(pass, *node)),
+            Turn::InSync => tell_in_sync(text, &self.board.record(pass)),
             Turn::Watermark(node) if *node < self.board.nodes() => {
                 tell_mark(text, Ok(self.board.watermark(pass, *node)))
             }
@@ -299,6 +328,17 @@ impl<B: BoardName> Seats<B> {
         Ok(push_batches(text, batches.as_slice())?)
     }
 
+    fn read_bytes(
+        &mut self,
+        text: &mut String,
+        pass: &mut Pass<B>,
+        node: NodeId,
+        from: Offset,
+    ) -> Result<(), Refusal> {
+        let batches = self.node(node)?.read(pass, from)?;
+        push_written(self.alloc, text, batches.as_slice())
+    }
+
     // What a node answers to a call that needs nothing but itself.
     fn call(&mut self, text: &mut String, node: NodeId, turn: &Turn) -> Result<(), Refusal> {
         tell_call(text, self.node(node)?, turn)
@@ -312,12 +352,15 @@ impl<B: BoardName> Seats<B> {
         turn: &Turn,
     ) -> Result<(), Refusal> {
         match turn {
-            Turn::Elect(_) | Turn::Record | Turn::Watermark(_) => self.look(text, pass, turn),
+            Turn::Elect(_) | Turn::Record | Turn::InSync | Turn::Watermark(_) => {
+                self.look(text, pass, turn)
+            }
+            Turn::Receipt => tell_newest(text, self.receipt),
             Turn::Append(node, word) => self.append(text, pass, *node, word),
             Turn::Mark(node) => self.mark(text, pass, *node),
             Turn::Acked(node) => self.tell_ack(text, pass, *node),
             Turn::Read(node, from) => self.read(text, pass, *node, *from),
-            Turn::Meet(node) => self.meet(text, pass, *node),
+            Turn::ReadBytes(node, from) => self.read_bytes(text, pass, *node, *from),
             Turn::Ask(node) => self.ask(text, *node),
             Turn::Deliver(number) => self.deliver(text, *number),
             Turn::Hand(node, number) => self.hand(text, *node, *number),
@@ -383,9 +426,10 @@ fn answers<B: BoardName>(
 ) -> Result<String, Refusal>
     requires { opened ≡ B.table }
 {
-    let (board, passes) = Board::<B>::new(alloc, opened)?;
-    let mut pass = board.pass();
-    let mut seats = Seats::new(alloc, board, passes)?;
+    let (board, passes, mut callers) = Board::<B>::new(alloc, opened)?;
+    let mut pass = board.pass(&mut callers);
+    let controller = board.pass(&mut callers);
+    let mut seats = Seats::new(alloc, board, passes, controller)?;
     told(alloc, &mut seats, &mut pass, first, then)
 }
 

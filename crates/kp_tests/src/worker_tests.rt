@@ -8,7 +8,7 @@ use crate::cluster_tests::{
     CHOICES, LIMITS, PLAN, Shared, few_shares_of, holds, raced, raced_on, shares_of,
 };
 use crate::shown::unrefused;
-use kp_board::{Board, BoardName, Opened};
+use kp_board::{Board, BoardName, Callers, Opened, Pass};
 use kp_cluster::{Cluster, Gate, Open, start_on};
 use kp_node::Node;
 use kp_race::{Outcome, Plan, nodes_of, race_over_channels};
@@ -96,10 +96,11 @@ fn raced_through<
     alloc: Global,
     board: &Arc<Board<B>, Global>,
     nodes: &Vec<Shared<B>>,
+    callers: &mut Callers<B>,
     gate: &Arc<Restarting<B, R>, Global>,
 ) -> Result<(Outcome, u64), Refusal> {
     let own = Arc::try_clone(gate)?;
-    let outcome = raced_on(rt, alloc, board, nodes, &[], own)?;
+    let outcome = raced_on(rt, alloc, board, nodes, callers, &[], own)?;
     Ok((outcome, gate.restarts.load(Ordering::SeqCst)))
 }
 
@@ -116,9 +117,9 @@ fn raced_restarting<
 ) -> Result<(Outcome, u64), Refusal>
     requires { opened ≡ B.table }
 {
-    let (board, nodes) = nodes_of::<B>(alloc, opened, &LIMITS)?;
+    let (board, nodes, mut callers) = nodes_of::<B>(alloc, opened, &LIMITS)?;
     let gate = new_gate(rt, alloc, &nodes, every, is_before)?;
-    raced_through(rt, alloc, &board, &nodes, &gate)
+    raced_through(rt, alloc, &board, &nodes, &mut callers, &gate)
 }
 
 // The last turns alone are 100 steps of each of three nodes.
@@ -261,6 +262,7 @@ fn started_but<
     rt: &R,
     alloc: Global,
     nodes: &Vec<Shared<B>>,
+    controller: Pass<B>,
     carrier: &Arc<C, Global>,
     refused: NodeId,
 ) -> Result<(Cluster<B, C>, Result<(), Refusal>), Refusal> {
@@ -274,7 +276,7 @@ fn started_but<
             1 << 20
         }
     };
-    match start_on(rt, alloc, nodes, carrier, gate, &stack_of) {
+    match start_on(rt, alloc, nodes, controller, carrier, gate, &stack_of) {
         Ok(cluster) => Ok((cluster, Ok(()))),
         Err((cluster, refusal)) => Ok((cluster, Err(refusal))),
     }
@@ -304,10 +306,11 @@ fn start_and_stop<
     rt: &R,
     alloc: Global,
     nodes: &Vec<Shared<B>>,
+    controller: Pass<B>,
     carrier: &Arc<Carrier<B, R>, Global>,
     refused: NodeId,
 ) -> Result<Ended, Refusal> {
-    let (cluster, started) = started_but(rt, alloc, nodes, carrier, refused)?;
+    let (cluster, started) = started_but(rt, alloc, nodes, controller, carrier, refused)?;
     let turned = cluster.turn(0);
     let stops = stops_of(rt, cluster);
     Ok(Ended {
@@ -327,8 +330,9 @@ fn stopped_after<
     requires { opened ≡ B.table }
 {
     let carrier = carrier_of(rt, alloc, refused)?;
-    let (_board, nodes) = nodes_of::<B>(alloc, opened, &LIMITS)?;
-    start_and_stop(rt, alloc, &nodes, &carrier, refused.place)
+    let (board, nodes, mut callers) = nodes_of::<B>(alloc, opened, &LIMITS)?;
+    let controller = board.pass(&mut callers);
+    start_and_stop(rt, alloc, &nodes, controller, &carrier, refused.place)
 }
 
 // A turn is one send, each worker that started is told by one more, and each refused send is one more; a refused one ends a `stop`.
@@ -381,6 +385,15 @@ fn refused_threads_and_sends_leave_what_stops(rt: HostRuntime) {
     }
 }
 
+// Each producer has a receipt of each of its batches; and where nobody moves the leadership all of them are acknowledged.
+fn is_whole(plan: &Plan, outcome: &Outcome) -> bool {
+    let batches = u64::from(plan.producers) * u64::from(plan.batches);
+    let is_still = plan.moves == 0;
+    outcome.receipts == batches
+        && outcome.acknowledged > 0
+        && (!is_still || outcome.acknowledged == batches && outcome.committed == batches)
+}
+
 // Nodes or workers that did nothing would agree, and acknowledge nothing.
 #[test]
 fn three_nodes_acknowledge_batches(rt: HostRuntime) {
@@ -392,6 +405,6 @@ fn three_nodes_acknowledge_batches(rt: HostRuntime) {
         };
         let found = race_over_channels(&rt, rt.alloc(), 3, &plan);
         let outcome = unrefused(&rt, found);
-        assert!(rt; holds(&plan, &outcome) && outcome.acknowledged > 0);
+        assert!(rt; holds(&plan, &outcome) && is_whole(&plan, &outcome));
     }
 }
