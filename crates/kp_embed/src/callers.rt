@@ -1,15 +1,16 @@
-//! Calls of a caller's pass alone.
+//! Calls of a caller's pass, and of two.
 ghost use Rattle.std.specs.Prelude.{◌≡◌, ℕ, Result, Option};
 ghost use Rattle.kp_types.specs.declared.refusal.Refusal.{Refusal};
 ghost use Rattle.kp_model.specs.declared.record.LeaderAndIsr.{LeaderAndIsr};
 ghost use Rattle.kp_handles.specs.declared.misuse.Misuse.{Misuse};
-ghost use Rattle.kp_handles.specs.Called.{CallerCalled};
-ghost use Rattle.kp_handles.specs.CallerCalls.{Elects, Looks, LearnsMark};
-ghost use Rattle.kp_handles.specs.Numbers.{answer_number, mark_number};
+ghost use Rattle.kp_handles.specs.Called.{AreOfOne, CallerCalled};
+ghost use Rattle.kp_handles.specs.CallerCalls.{Elects, Looks, LearnsMark, ReceiptsTold};
+ghost use Rattle.kp_handles.specs.Numbers.{answer_number, done_number, mark_number};
 ghost use Rattle.kp_handles.specs.Outs.{WritesMark, WritesOut, record_out};
 
 use kp_handles::{
-    Handle, Misuse, RecordOut, elect, misuse_number, record, refusal_number, watermark,
+    Handle, Misuse, RecordOut, elect, misuse_number, record, refusal_number, tell_receipts,
+    watermark,
 };
 use std::alloc::Global;
 use std::marker::Brand;
@@ -65,6 +66,21 @@ pub extern "C" fn kp_watermark(alloc: Global, pass: &mut Handle, node: u8, offse
         }
         Ok(Ok(None)) => misuse_number(&Misuse::OutOfRange),
         Ok(Err(refusal)) => refusal_number(&refusal),
+        Err(misuse) => misuse_number(&misuse),
+    }
+}
+
+/// A pass takes over the receipts of another one.
+#[tactic(auto, using(crate::proofs::OneCluster::first_is, crate::proofs::OneCluster::second_is))]
+#[unsafe(no_mangle)]
+pub extern "C" fn kp_tell_receipts(alloc: Global, from: &mut Handle, to: &mut Handle) -> u32
+    requires { AreOfOne from.old.object from.old.table to.old.object to.old.table }
+    ensures called { (answer : Result (Unit {0}) Misuse) × (result ≡ done_number answer)
+        × ReceiptsTold from.old.object from.new.object to.old.object to.new.object answer }
+    ensures cluster { (from.new.table ≡ from.old.table) × (to.new.table ≡ to.old.table) }
+{
+    match tell_receipts::<Brand>(alloc, from, to) {
+        Ok(()) => 0,
         Err(misuse) => misuse_number(&misuse),
     }
 }

@@ -1,7 +1,7 @@
 //! How a cluster, its nodes and passes are opened, and how a handle is closed.
 ghost use Rattle.std.specs.Prelude.{◌≡◌, None, Result, IfErr, OnErr, OnOk};
 ghost use Rattle.kp_handles.specs.Numbers.{done_number};
-ghost use Rattle.kp_handles.specs.Opening.{BadBoard, BadOpening, IsCluster, OpensCaller, OpensNode};
+ghost use Rattle.kp_handles.specs.Opening.{BadBoard, BadCallerOpening, BadNodeOpening, IsCluster, OpensCaller, OpensNode};
 ghost use Rattle.kp_handles.specs.Outs.{limits_in};
 ghost use Rattle.kp_handles.specs.declared.misuse.Misuse.{Misuse};
 ghost use Rattle.kp_handles.specs.declared.misuse.Misuse.TheVariants.{Closed};
@@ -54,7 +54,7 @@ pub extern "C" fn kp_open_node(alloc: Global, cluster: &mut Handle, node: &mut H
     ensures called { (answer : Result (Unit {0}) Misuse) × (result ≡ done_number answer)
         × OnOk answer (OpensNode cluster.old.object cluster.new.object node.new.object × (node.old.object ≡ None) × (node.new.table ≡ cluster.old.table))
         × OnErr answer ((cluster.new.object ≡ cluster.old.object) × (node.new ≡ node.old))
-        × IfErr answer (BadOpening cluster.old.object node.old.object) }
+        × IfErr answer (BadNodeOpening cluster.old.object node.old.object) }
     ensures table { cluster.new.table ≡ cluster.old.table }
 {
     match open_node::<Brand>(alloc, cluster, node) {
@@ -69,7 +69,7 @@ pub extern "C" fn kp_open_pass(alloc: Global, cluster: &mut Handle, pass: &mut H
     ensures called { (answer : Result (Unit {0}) Misuse) × (result ≡ done_number answer)
         × OnOk answer (OpensCaller cluster.old.object cluster.new.object pass.new.object × (pass.old.object ≡ None) × (pass.new.table ≡ cluster.old.table))
         × OnErr answer ((cluster.new.object ≡ cluster.old.object) × (pass.new ≡ pass.old))
-        × IfErr answer (BadOpening cluster.old.object pass.old.object) }
+        × IfErr answer (BadCallerOpening cluster.old.object pass.old.object) }
     ensures table { cluster.new.table ≡ cluster.old.table }
 {
     match open_caller::<Brand>(alloc, cluster, pass) {

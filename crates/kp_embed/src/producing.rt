@@ -7,13 +7,13 @@ ghost use Rattle.kp_handles.specs.Called.{AreOfOne, NoReason, PairCalled};
 ghost use Rattle.kp_handles.specs.Handing.{BadHand, HandedCalled, IsFree};
 ghost use Rattle.kp_handles.specs.Numbers.{answer_number, done_number};
 ghost use Rattle.kp_handles.specs.Objects.{handed as HandedBytes};
-ghost use Rattle.kp_handles.specs.Outs.{WritesOut, WritesReceipt, ack_out, marker_in, receipt_in, receipt_out};
-ghost use Rattle.kp_handles.specs.PairCalls.{Acks, BadBytes, BadMarker, Marks, Produces};
+ghost use Rattle.kp_handles.specs.Outs.{WritesOut, WritesReceipt, ack_out, marker_in, receipt_in};
+ghost use Rattle.kp_handles.specs.PairCalls.{Acks, BadBytes, BadMarker, FitsBatch, Marks, Produces};
 ghost use Rattle.kp_handles.specs.declared.misuse.Misuse.{Misuse};
 
 use kp_handles::{
     Called, Handle, MarkerIn, ReceiptOut, ack_out, acked, hand, mark_in, misuse_number, produce,
-    produce_handed, refusal_number, shared,
+    produce_handed, refusal_number,
 };
 use kp_replica::Receipt;
 use std::alloc::Global;
@@ -50,7 +50,7 @@ pub extern "C" fn kp_produce(
     requires { AreOfOne node.old.object node.old.table pass.old.object pass.old.table }
     ensures called { (answer : Result (Result Receipt Refusal) Misuse) × (result ≡ answer_number answer)
         × PairCalled (BadBytes (length bytes.now)) node.old.object node.new.object pass.old.object pass.new.object answer (Produces bytes.now)
-        × WritesReceipt answer receipt.old receipt.new }
+        × OnOk answer (FitsBatch (length bytes.now)) × WritesReceipt answer receipt.old receipt.new }
     ensures cluster { (node.new.table ≡ node.old.table) × (pass.new.table ≡ pass.old.table) }
 {
     told(produce::<Brand>(alloc, node, pass, bytes), receipt)
@@ -60,7 +60,7 @@ pub extern "C" fn kp_produce(
 #[unsafe(no_mangle)]
 pub extern "C" fn kp_hand(alloc: Global, handed: &mut Handle, bytes: &[u8]) -> u32
     ensures called { (answer : Result (Unit {0}) Misuse) × (result ≡ done_number answer)
-        × OnOk answer (handed.new.object ≡ Some (HandedBytes bytes.now))
+        × OnOk answer (handed.new.object ≡ Some (HandedBytes bytes.now)) × OnOk answer (FitsBatch (length bytes.now))
         × OnOk answer (IsFree handed.old.object)
         × OnErr answer (handed.new.object ≡ handed.old.object)
         × IfErr answer (BadHand (length bytes.now) handed.old.object) }
@@ -71,24 +71,8 @@ pub extern "C" fn kp_hand(alloc: Global, handed: &mut Handle, bytes: &[u8]) -> u
     }
 }
 
-// Hands a node the bytes that a handle holds.
-#[tactic(auto, using(crate::proofs::OneCluster::first_is, crate::proofs::OneCluster::second_is))]
-fn produce_held(
-    alloc: Global,
-    node: &mut Handle,
-    pass: &mut Handle,
-    handed: &mut Handle,
-) -> Called<Receipt>
-    requires { AreOfOne node.old.object node.old.table pass.old.object pass.old.table }
-    ensures called { HandedCalled handed.old.object node.old.object node.new.object pass.old.object pass.new.object result }
-    ensures same { handed.new.object ≡ handed.old.object }
-    ensures cluster { (node.new.table ≡ node.old.table) × (pass.new.table ≡ pass.old.table) }
-{
-    let bytes = shared::<Brand>(alloc, handed)?;
-    produce_handed::<Brand>(alloc, node, pass, bytes)
-}
-
 /// Hands a node the bytes that a handle holds, which it holds on.
+#[tactic(auto, using(crate::proofs::OneCluster::first_is, crate::proofs::OneCluster::second_is))]
 #[unsafe(no_mangle)]
 pub extern "C" fn kp_produce_handed(
     alloc: Global,
@@ -104,7 +88,10 @@ pub extern "C" fn kp_produce_handed(
     ensures same { handed.new.object ≡ handed.old.object }
     ensures cluster { (node.new.table ≡ node.old.table) × (pass.new.table ≡ pass.old.table) }
 {
-    told(produce_held(alloc, node, pass, handed), receipt)
+    told(
+        produce_handed::<Brand, Brand>(alloc, node, pass, handed),
+        receipt,
+    )
 }
 
 /// Hands a node a transaction's marker.
@@ -120,17 +107,13 @@ pub extern "C" fn kp_mark(
     requires { AreOfOne node.old.object node.old.table pass.old.object pass.old.table }
     ensures called { (answer : Result (Result Receipt Refusal) Misuse) × (result ≡ answer_number answer)
         × PairCalled (BadMarker (marker_in marker.now)) node.old.object node.new.object pass.old.object pass.new.object answer (Marks (marker_in marker.now))
-        × WritesOut receipt_out answer receipt.old receipt.new }
+        × WritesReceipt answer receipt.old receipt.new }
     ensures cluster { (node.new.table ≡ node.old.table) × (pass.new.table ≡ pass.old.table) }
 {
-    match mark_in::<Brand>(alloc, node, pass, marker.marker()) {
-        Ok(Ok(kept)) => {
-            *receipt = ReceiptOut::of(&kept);
-            0
-        }
-        Ok(Err(refusal)) => refusal_number(&refusal),
-        Err(misuse) => misuse_number(&misuse),
-    }
+    told(
+        mark_in::<Brand>(alloc, node, pass, marker.marker()),
+        receipt,
+    )
 }
 
 /// Whether a receipt's batch is committed.

@@ -1,20 +1,26 @@
 -- Why calls aren't made.
 use Rattle.std.proofs.Common.{◌≡◌, ◌⊎◌, ℕ, List, refl, sym, ap, subst, ◌∙◌}
 use mathlib.Core.Logic.{inl, inr}
-use Rattle.std.specs.Prelude.{Option, Some, None, Result, Ok, Err}
+use Rattle.std.specs.Prelude.{Option, Some, None, Result, Ok, Err, IfOk, IfErr, OnErr, length, slice_get}
+use Rattle.kp_batch.specs.Batch.{Written}
+use Rattle.kp_segment.specs.declared.name.SegmentName.{SegmentName}
 use Rattle.kp_model.specs.World.{Message as ModelMessage}
 use Rattle.kp_model.specs.declared.message.MessageBody.{MessageBody}
 use Rattle.kp_board.specs.Views.{CallerView}
 use Rattle.kp_node.specs.Seated.{SeatedNode}
+use Rattle.kp_types.specs.declared.limits.Limits.{Limits}
 use Rattle.kp_types.specs.declared.refusal.Refusal.{Refusal}
-use Rattle.kp_handles.specs.Called.{BadNode, BadOut, BadPair, NoReason, PairCalled}
-use Rattle.kp_handles.specs.Handing.{BadCopy, BadHand, BadHanded, IsFree}
+use Rattle.kp_board.specs.Views.{NodeView}
+use Rattle.kp_replica.specs.declared.producing.Receipt.{Receipt}
+use Rattle.kp_handles.specs.CallerCalls.{BadCallers, ReceiptsTold}
+use Rattle.kp_handles.specs.Called.{BadNode, BadPair, BadRoom, NoReason, PairCalled, PairMet}
+use Rattle.kp_handles.specs.Handing.{BadHand, BadHanded, BadShare, HandedCalled, IsFree}
 use Rattle.kp_handles.specs.Holding.{BadCount, BadLetter, BadPart, BadPartOf}
 use Rattle.kp_handles.specs.Messages.{BadDecide, BadStep}
-use Rattle.kp_handles.specs.Objects.{ObjectView, caller, cluster, handed, message, node, segments}
-use Rattle.kp_handles.specs.Opening.{BadCluster, BadOpening, NoneLeft}
-use Rattle.kp_handles.specs.PairCalls.{BadBytes}
-use Rattle.kp_handles.specs.Segments.{BadSegment, name_size}
+use Rattle.kp_handles.specs.Objects.{ObjectView, caller, cluster, handed, is_open, message, node, segments}
+use Rattle.kp_handles.specs.Opening.{BadCallerOpening, BadNodeOpening}
+use Rattle.kp_handles.specs.PairCalls.{BadBytes, FitsBatch, Produces}
+use Rattle.kp_handles.specs.Segments.{BadName, BadSegment}
 use Rattle.kp_handles.specs.declared.misuse.Misuse.{Misuse}
 use Rattle.kp_handles.specs.declared.misuse.Misuse.TheVariants.{Closed, OtherKind, InUse, NoRoom, OutOfRange, BadLength}
 
@@ -36,14 +42,36 @@ module _ (why : Misuse) (n m : Option ObjectView) where
   pub decide_closed : why ≡ Closed → (n ≡ None) ⊎ (m ≡ None) → BadDecide n m why
   decide_closed e none = subst (BadDecide n m) (sym e) none
 
-  pub node_closed : why ≡ Closed → n ≡ None → BadNode n why
-  node_closed e none = subst (BadNode n) (sym e) none
+  pub callers_closed : why ≡ Closed → (n ≡ None) ⊎ (m ≡ None) → BadCallers n m why
+  callers_closed e none = subst (BadCallers n m) (sym e) none
 
-  pub out_closed : why ≡ Closed → BadOut n why
-  out_closed e = subst (BadOut n) (sym e) tt
+  pub node_closed : (Own : Misuse → Type 0) → why ≡ Closed → n ≡ None → BadNode Own n why
+  node_closed Own e none = subst (BadNode Own n) (sym e) none
 
-  pub out_kind : why ≡ OtherKind → BadOut n why
-  out_kind e = subst (BadOut n) (sym e) tt
+-- what is so of objects is so of the handles that hold them
+module _ (why : Misuse) (n m out : Option ObjectView) (o l : ObjectView) (en : n ≡ Some o) where
+  pub pair_bad : (Own : Misuse → Type 0) → m ≡ Some l → BadPair Own (Some o) (Some l) why → BadPair Own n m why
+  pair_bad Own em bad =
+      subst (λ (a : Option ObjectView). BadPair Own a m why) (sym en) (subst (λ (b : Option ObjectView). BadPair Own (Some o) b why) (sym em) bad)
+
+  pub give_bad : m ≡ Some l → out ≡ None → BadPair (BadRoom None) (Some o) (Some l) why → BadPair (BadRoom out) n m why
+  give_bad em eo bad = pair_bad (BadRoom out) em (subst (λ (r : Option ObjectView). BadPair (BadRoom r) (Some o) (Some l) why) (sym eo) bad)
+
+  pub node_bad : out ≡ None → BadNode (BadRoom None) (Some o) why → BadNode (BadRoom out) n why
+  node_bad eo bad =
+      subst (λ (a : Option ObjectView). BadNode (BadRoom out) a why) (sym en) (subst (λ (r : Option ObjectView). BadNode (BadRoom r) (Some o) why) (sym eo) bad)
+
+  pub node_opening : out ≡ None → BadNodeOpening (Some o) None why → BadNodeOpening n out why
+  node_opening eo bad =
+      subst (λ (a : Option ObjectView). BadNodeOpening a out why) (sym en) (subst (λ (r : Option ObjectView). BadNodeOpening (Some o) r why) (sym eo) bad)
+
+  pub caller_opening : out ≡ None → BadCallerOpening (Some o) None why → BadCallerOpening n out why
+  caller_opening eo bad =
+      subst (λ (a : Option ObjectView). BadCallerOpening a out why) (sym en) (subst (λ (r : Option ObjectView). BadCallerOpening (Some o) r why) (sym eo) bad)
+
+  pub segment_bad : (index places : ℕ) → out ≡ None → BadSegment index places (Some o) None why → BadSegment index places n out why
+  segment_bad index places eo bad =
+      subst (λ (a : Option ObjectView). BadSegment index places a out why) (sym en) (subst (λ (r : Option ObjectView). BadSegment index places (Some o) r why) (sym eo) bad)
 
 -- one that has no reason of its own has any
 pub pair_any : {X : Type 0} (Own : Misuse → Type 0) (old new other then : Option ObjectView) (answer : Result (Result X Refusal) Misuse)
@@ -53,7 +81,7 @@ pair_any Own old new other then (Ok answer) P called = called
 pair_any Own old new other then (Err Closed) P called = called
 pair_any Own old new other then (Err OtherKind) P called = called
 pair_any Own old new other then (Err InUse) P (same, kept, bad) = absurd bad
-pair_any Own old new other then (Err NoRoom) P (same, kept, bad) = absurd bad
+pair_any Own old new other then (Err NoRoom) P (same, kept, bad) = absurd bad.1
 pair_any Own old new other then (Err OutOfRange) P (same, kept, bad) = absurd bad
 pair_any Own old new other then (Err BadLength) P (same, kept, bad) = absurd bad
 
@@ -63,41 +91,43 @@ none_is_closed : (o : ObjectView) → Some o ≡ None → ⊥
 none_is_closed o e = absurd cc
 
 module _ (n m : Option ObjectView) (count : ℕ) where
-  pub pair_copy : (why : Misuse) → BadCopy count m why → BadPair (BadBytes count) n m why
-  pair_copy Closed none = inr none
-  pair_copy OtherKind never = λ x k c e f. never k c f
-  pair_copy InUse bad = bad
-  pair_copy NoRoom bad = bad
-  pair_copy OutOfRange bad = bad
-  pair_copy BadLength bad = bad
+  pair_bytes : (x : SeatedNode) (k : ℕ) (c : CallerView) (why : Misuse) → n ≡ Some (node x) → m ≡ Some (caller k c) → BadBytes count why → BadPair (BadBytes count) n m why
+  pair_bytes x k c Closed e f bad = absurd bad
+  pair_bytes x k c OtherKind e f bad = absurd bad
+  pair_bytes x k c InUse e f bad = bad
+  pair_bytes x k c NoRoom e f bad = ((x, k, c, e, f), bad)
+  pair_bytes x k c OutOfRange e f bad = bad
+  pair_bytes x k c BadLength e f bad = bad
 
-  pub copy_bytes : (why : Misuse) → BadBytes count why → BadCopy count n why
-  copy_bytes Closed bad = absurd bad
-  copy_bytes OtherKind bad = absurd bad
-  copy_bytes InUse bad = bad
-  copy_bytes NoRoom bad = bad
-  copy_bytes OutOfRange bad = bad
-  copy_bytes BadLength bad = bad
+  hand_bytes : (why : Misuse) → IsFree n → BadBytes count why → BadHand count n why
+  hand_bytes Closed free bad = bad
+  hand_bytes OtherKind free bad = bad
+  hand_bytes InUse free bad = absurd bad
+  hand_bytes NoRoom free bad = (free, bad)
+  hand_bytes OutOfRange free bad = bad
+  hand_bytes BadLength free bad = bad
 
-  pub copy_closed : (why : Misuse) → why ≡ Closed → n ≡ None → BadCopy count n why
-  copy_closed why e none = subst (BadCopy count n) (sym e) none
+  pub hand_anew : (why : Misuse) → n ≡ None → BadBytes count why → BadHand count n why
+  hand_anew why none = hand_bytes why (inl none)
 
-  pub copy_bad : (o : ObjectView) (why : Misuse) → n ≡ Some o → BadCopy count (Some o) why → BadCopy count n why
-  copy_bad o why e bad = subst (λ (x : Option ObjectView). BadCopy count x why) (sym e) bad
+  pub hand_again : (was : List ℕ) (why : Misuse) → n ≡ Some (handed was) → BadBytes count why → BadHand count n why
+  hand_again was why e = hand_bytes why (inr (was, e))
 
-  pub hand_bytes : (why : Misuse) → BadBytes count why → BadHand count n why
-  hand_bytes Closed bad = bad
-  hand_bytes OtherKind bad = bad
-  hand_bytes InUse bad = absurd bad
-  hand_bytes NoRoom bad = bad
-  hand_bytes OutOfRange bad = bad
-  hand_bytes BadLength bad = bad
-
-  pub hand_room : (why : Misuse) → why ≡ NoRoom → BadHand count n why
-  hand_room why e = subst (BadHand count n) (sym e) tt
+  pub hand_room : (why : Misuse) → why ≡ NoRoom → n ≡ None → FitsBatch count → BadHand count n why
+  hand_room why e none fits = subst (BadHand count n) (sym e) (inl none, fits)
 
   pub hand_bad : (o : ObjectView) (why : Misuse) → n ≡ Some o → BadHand count (Some o) why → BadHand count n why
   hand_bad o why e bad = subst (λ (x : Option ObjectView). BadHand count x why) (sym e) bad
+
+pub pair_copy : (bytes : List ℕ) (old new other then : ObjectView) (x y : SeatedNode) (k : ℕ) (c d : CallerView) (r : Result (Result Receipt Refusal) Misuse)
+    → old ≡ node x → new ≡ node y → other ≡ caller k c → then ≡ caller k d → IfOk r (Produces bytes x y c d)
+    → OnErr r ((y ≡ x) × (d ≡ c)) → IfErr r (BadBytes (length bytes)) → PairMet (BadBytes (length bytes)) old new other then r (Produces bytes)
+pair_copy bytes old new other then x y k c d (Ok answer) e e' f f' made same only = (x, y, k, c, d, e, e', f, f', made)
+pair_copy bytes old new other then x y k c d (Err why) e e' f f' made (is, js) only = (
+  e' ∙ ap (λ (z : SeatedNode). node z) is ∙ sym e,
+  f' ∙ ap (λ (z : CallerView). caller k z) js ∙ sym f,
+  pair_bytes (Some old) (Some other) (length bytes) x k c why (ap (λ (v : ObjectView). Some v) e) (ap (λ (v : ObjectView). Some v) f) only,
+)
 
 module _ (n : Option ObjectView) (o : ObjectView) where
   pub is_free : n ≡ Some o → IsFree (Some o) → IsFree n
@@ -108,43 +138,74 @@ module _ (n : Option ObjectView) (o : ObjectView) where
   hand_used never (inr (was, e)) = never was (same_object o (handed was) (Some o) refl e)
 
 module _ (held : Option ObjectView) where
-  pub handed_closed : (why : Misuse) → why ≡ Closed → held ≡ None → BadHanded held why
-  handed_closed why e none = subst (BadHanded held) (sym e) none
+  pub share_closed : (why : Misuse) → why ≡ Closed → held ≡ None → BadShare held why
+  share_closed why e none = subst (BadShare held) (sym e) none
 
-  pub handed_bad : (o : ObjectView) (why : Misuse) → held ≡ Some o → BadHanded (Some o) why → BadHanded held why
-  handed_bad o why e bad = subst (λ (x : Option ObjectView). BadHanded x why) (sym e) bad
+  pub share_bad : (o : ObjectView) (why : Misuse) → held ≡ Some o → BadShare (Some o) why → BadShare held why
+  share_bad o why e bad = subst (λ (x : Option ObjectView). BadShare x why) (sym e) bad
+
+  pub handed_closed : (n m : Option ObjectView) (why : Misuse) → why ≡ Closed → (n ≡ None) ⊎ (m ≡ None) → BadHanded held n m why
+  handed_closed n m why e none = subst (BadHanded held n m) (sym e) (inr none)
+
+  bad_share : (n m : Option ObjectView) (x : SeatedNode) (k : ℕ) (c : CallerView) (why : Misuse)
+      → n ≡ Some (node x) → m ≡ Some (caller k c) → BadShare held why → BadHanded held n m why
+  bad_share n m x k c Closed e f bad = inl bad
+  bad_share n m x k c OtherKind e f bad = inl bad
+  bad_share n m x k c InUse e f bad = bad
+  bad_share n m x k c NoRoom e f bad = (bad, (x, k, c, e, f))
+  bad_share n m x k c OutOfRange e f bad = bad
+  bad_share n m x k c BadLength e f bad = bad
+
+  pub handed_share : (old new other then : ObjectView) (x y : SeatedNode) (k : ℕ) (c d : CallerView) (r : Result (Result Receipt Refusal) Misuse)
+      → old ≡ node x → new ≡ node y → other ≡ caller k c → then ≡ caller k d
+      → IfOk r (λ answer. (bytes : List ℕ) × (held ≡ Some (handed bytes)) × Produces bytes x y c d answer)
+      → OnErr r ((y ≡ x) × (d ≡ c)) → IfErr r (BadShare held) → HandedCalled held (Some old) (Some new) (Some other) (Some then) r
+  handed_share old new other then x y k c d (Ok answer) e e' f f' (bytes, is, made) same only =
+      (bytes, is, (x, y, k, c, d, ap (λ (v : ObjectView). Some v) e, ap (λ (v : ObjectView). Some v) e', ap (λ (v : ObjectView). Some v) f, ap (λ (v : ObjectView). Some v) f', made))
+  handed_share old new other then x y k c d (Err why) e e' f f' made (is, js) only = (
+    ap (λ (v : ObjectView). Some v) (e' ∙ ap (λ (z : SeatedNode). node z) is ∙ sym e),
+    ap (λ (v : ObjectView). Some v) (f' ∙ ap (λ (z : CallerView). caller k z) js ∙ sym f),
+    bad_share (Some old) (Some other) x k c why (ap (λ (v : ObjectView). Some v) e) (ap (λ (v : ObjectView). Some v) f) only,
+  )
+
+  pub handed_kind : (old new other then : ObjectView) (r : Result (Result Receipt Refusal) Misuse) → r ≡ Err OtherKind → new ≡ old → then ≡ other
+      → ((x : SeatedNode) → (k : ℕ) → (c : CallerView) → old ≡ node x → other ≡ caller k c → ⊥)
+      → HandedCalled held (Some old) (Some new) (Some other) (Some then) r
+  handed_kind old new other then r e same kept never =
+      subst (λ (s : Result (Result Receipt Refusal) Misuse). HandedCalled held (Some old) (Some new) (Some other) (Some then) s) (sym e) (
+        ap (λ (v : ObjectView). Some v) same,
+        ap (λ (v : ObjectView). Some v) kept,
+        inr (refl, refl, λ x k c f g. never x k c (same_object old (node x) (Some old) refl f) (same_object other (caller k c) (Some other) refl g)),
+      )
+
+  pub handed_called : (o o' l l' : ObjectView) (n n' m m' : Option ObjectView) (r : Result (Result Receipt Refusal) Misuse)
+      → HandedCalled held (Some o) (Some o') (Some l) (Some l') r → n ≡ Some o → n' ≡ Some o' → m ≡ Some l → m' ≡ Some l' → HandedCalled held n n' m m' r
+  handed_called o o' l l' n n' m m' r called en en' em em' =
+      subst (λ (a : Option ObjectView). HandedCalled held a n' m m' r) (sym en)
+      (subst (λ (a : Option ObjectView). HandedCalled held (Some o) a m m' r) (sym en')
+      (subst (λ (a : Option ObjectView). HandedCalled held (Some o) (Some o') a m' r) (sym em)
+      (subst (λ (a : Option ObjectView). HandedCalled held (Some o) (Some o') (Some l) a r) (sym em') called)))
 
 module _ (why : Misuse) (n m : Option ObjectView) (o l : ObjectView) (is : why ≡ OtherKind) (en : n ≡ Some o) (em : m ≡ Some l) where
-  pub pair_kind : (Own : Misuse → Type 0) → ((x : SeatedNode) → (k : ℕ) → (c : CallerView) → o ≡ node x → l ≡ caller k c → ⊥) → BadPair Own n m why
-  pair_kind Own never = subst (BadPair Own n m) (sym is) (λ x k c e f. never x k c (same_object o (node x) n en e) (same_object l (caller k c) m em f))
-
   pub step_kind : ((x : SeatedNode) → (b : MessageBody) → (p : ModelMessage) → o ≡ node x → l ≡ message b p → ⊥) → BadStep n m why
-  step_kind never = subst (BadStep n m) (sym is) (λ x b p e f. never x b p (same_object o (node x) n en e) (same_object l (message b p) m em f))
+  step_kind never = subst (BadStep n m) (sym is) (ap is_open en, ap is_open em, λ x b p e f. never x b p (same_object o (node x) n en e) (same_object l (message b p) m em f))
 
   pub decide_kind : ((k : ℕ) → (c : CallerView) → (b : MessageBody) → (p : ModelMessage) → o ≡ caller k c → l ≡ message b p → ⊥) → BadDecide n m why
-  decide_kind never = subst (BadDecide n m) (sym is) (λ k c b p e f. never k c b p (same_object o (caller k c) n en e) (same_object l (message b p) m em f))
+  decide_kind never = subst (BadDecide n m) (sym is) (ap is_open en, ap is_open em, λ k c b p e f. never k c b p (same_object o (caller k c) n en e) (same_object l (message b p) m em f))
 
-module _ (why : Misuse) (n : Option ObjectView) (o : ObjectView) (is : why ≡ OtherKind) (en : n ≡ Some o) where
-  pub node_kind : ((x : SeatedNode) → o ≡ node x → ⊥) → BadNode n why
-  node_kind never = subst (BadNode n) (sym is) (λ x e. never x (same_object o (node x) n en e))
+-- ---- of clusters
 
-pub no_room : (o : ObjectView) (why : Misuse) → why ≡ NoRoom → BadCluster o why
-no_room o why e = subst (BadCluster o) (sym e) tt
+module _ (old out : Option ObjectView) (why : Misuse) where
+  pub node_opening_closed : why ≡ Closed → old ≡ None → BadNodeOpening old out why
+  node_opening_closed e none = subst (BadNodeOpening old out) (sym e) none
 
-pub bad_cluster : (o : ObjectView) (why : Misuse) → (why ≡ NoRoom) ⊎ ((why ≡ OutOfRange) × NoneLeft o) → BadCluster o why
-bad_cluster o why (inl e) = subst (BadCluster o) (sym e) tt
-bad_cluster o why (inr (e, none)) = subst (BadCluster o) (sym e) none
+  pub caller_opening_closed : why ≡ Closed → old ≡ None → BadCallerOpening old out why
+  caller_opening_closed e none = subst (BadCallerOpening old out) (sym e) none
 
-pub bad_opening : (o : ObjectView) (old out : Option ObjectView) (why : Misuse) → old ≡ Some o → BadCluster o why → BadOpening old out why
-bad_opening o old out OtherKind e bad = λ n waiting limits f. bad n waiting limits (same_object o (cluster n waiting limits) old e f)
-bad_opening o old out NoRoom e bad = tt
-bad_opening o old out OutOfRange e (n, limits, f) = (n, limits, e ∙ ap (λ (v : ObjectView). Some v) f)
-bad_opening o old out Closed e bad = absurd bad
-bad_opening o old out InUse e bad = absurd bad
-bad_opening o old out BadLength e bad = absurd bad
+  pub caller_room : (n : ℕ) (waiting : List NodeView) (callers : ℕ) (limits : Limits) → why ≡ NoRoom → old ≡ Some (cluster n waiting callers limits) → out ≡ None → BadCallerOpening old out why
+  caller_room n waiting callers limits e is none = subst (BadCallerOpening old out) (sym e) (n, waiting, callers, limits, is, none)
 
-pub closed_opening : (old out : Option ObjectView) (why : Misuse) → why ≡ Closed → old ≡ None → BadOpening old out why
-closed_opening old out why e none = subst (BadOpening old out) (sym e) none
+-- ---- of what stands in a handle
 
 pub closed_count : (old : Option ObjectView) (why : Misuse) → why ≡ Closed → old ≡ None → BadCount old why
 closed_count old why e none = subst (BadCount old) (sym e) none
@@ -154,7 +215,7 @@ closed_letter old why e none = subst (BadLetter old) (sym e) none
 
 module _ {X : Type 0} (hold : List X → ObjectView) (size : X → ℕ) (index places : ℕ) where
   pub bad_part : (o : ObjectView) (old : Option ObjectView) (why : Misuse) → old ≡ Some o → BadPartOf hold size index places o why → BadPart hold size index places old why
-  bad_part o old OtherKind e bad = λ xs f. bad xs (same_object o (hold xs) old e f)
+  bad_part o old OtherKind e bad = (ap is_open e, λ xs f. bad xs (same_object o (hold xs) old e f))
   bad_part o old OutOfRange e (xs, f, none) = (xs, e ∙ ap (λ (v : ObjectView). Some v) f, none)
   bad_part o old BadLength e (xs, x, f, is, long) = (xs, x, e ∙ ap (λ (v : ObjectView). Some v) f, is, long)
   bad_part o old NoRoom e bad = absurd bad
@@ -168,10 +229,19 @@ module _ (index places : ℕ) (out : Option ObjectView) where
   pub segment_closed : (old : Option ObjectView) (why : Misuse) → why ≡ Closed → old ≡ None → BadSegment index places old out why
   segment_closed old why e none = subst (BadSegment index places old out) (sym e) none
 
-  pub segment_kind : (o : ObjectView) (old : Option ObjectView) (why : Misuse) → old ≡ Some o → BadPartOf segments name_size index places o why → BadSegment index places old out why
-  segment_kind o old OtherKind e bad = bad_part segments name_size index places o old OtherKind e bad
-  segment_kind o old OutOfRange e bad = bad_part segments name_size index places o old OutOfRange e bad
-  segment_kind o old BadLength e bad = bad_part segments name_size index places o old BadLength e bad
-  segment_kind o old NoRoom e bad = absurd bad
-  segment_kind o old Closed e bad = absurd bad
-  segment_kind o old InUse e bad = absurd bad
+  pub segment_name_bad : (ss : List (SegmentName × List Written)) (s : SegmentName × List Written) (o : ObjectView) (why : Misuse)
+      → o ≡ segments ss → slice_get ss index ≡ Some s → BadName s places why → BadSegment index places (Some o) None why
+  segment_name_bad ss s o BadLength e at bad = (ss, s, ap (λ (v : ObjectView). Some v) e, at, bad)
+  segment_name_bad ss s o NoRoom e at bad = ((ss, s, ap (λ (v : ObjectView). Some v) e, at, bad), refl)
+  segment_name_bad ss s o Closed e at bad = absurd bad
+  segment_name_bad ss s o OtherKind e at bad = absurd bad
+  segment_name_bad ss s o InUse e at bad = absurd bad
+  segment_name_bad ss s o OutOfRange e at bad = absurd bad
+
+-- ---- of two callers
+
+pub told_called : (o o' l l' : ObjectView) (n n' m m' : Option ObjectView) (r : Result (Unit {0}) Misuse)
+    → ReceiptsTold (Some o) (Some o') (Some l) (Some l') r → n ≡ Some o → n' ≡ Some o' → m ≡ Some l → m' ≡ Some l' → ReceiptsTold n n' m m' r
+told_called o o' l l' n n' m m' r told en en' em em' =
+    subst (λ (x : Option ObjectView × Option ObjectView × Option ObjectView × Option ObjectView). ReceiptsTold x.0 x.1 x.2 x.3 r)
+    (λ i. (sym en i, sym en' i, sym em i, sym em' i)) told

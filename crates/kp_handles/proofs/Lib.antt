@@ -4,6 +4,7 @@ pub mod Names
 pub mod Naming
 pub mod Parts
 pub mod Posts
+pub mod ReadCauses
 pub mod Values
 pub mod Waiting
 pub mod Words

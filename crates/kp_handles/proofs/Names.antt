@@ -1,5 +1,5 @@
 -- The name of what a call answers.
-use Rattle.std.proofs.Common.{◌≡◌, ◌≢◌, ◌⊎◌, ◌<◌, ℕ, List, [], ◌++◌, codes, sym, ◌∙◌}
+use Rattle.std.proofs.Common.{◌≡◌, ◌≢◌, ℕ, List, [], ◌++◌, codes}
 use mathlib.Core.Logic.{inl, inr}
 use Rattle.kp_types.specs.Texts.{place_of, place_text, refusal_text}
 use Rattle.kp_types.specs.declared.refusal.Refusal.{Refusal}

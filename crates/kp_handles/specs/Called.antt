@@ -29,18 +29,26 @@ CallerCalled None new answer P = (answer ≡ Err Closed) × (new ≡ None)
 CallerCalled (Some old) None answer P = ⊥
 CallerCalled (Some old) (Some new) answer P = CallerMet old new answer P
 
--- The call met a node and a caller's pass, and did this; or met something else, and nothing has changed.
-abbrev pub PairMet : {X : Type 0} → (old new other then : ObjectView) → Result (Result X Refusal) Misuse → (SeatedNode → SeatedNode → CallerView → CallerView → Result X Refusal → Type 0) → Type 0
-PairMet old new other then (Ok answer) P =
-    (x : SeatedNode) × (y : SeatedNode) × (n : ℕ) × (c : CallerView) × (d : CallerView)
-    × (old ≡ node x) × (new ≡ node y) × (other ≡ caller n c) × (then ≡ caller n d) × P x y c d answer
-PairMet old new other then (Err why) P =
-    (why ≡ OtherKind) × (new ≡ old) × (then ≡ other) × ((x : SeatedNode) → (n : ℕ) → (c : CallerView) → old ≡ node x → other ≡ caller n c → ⊥)
+-- a handle holds a node
+abbrev pub IsNode : Option ObjectView → Type 0
+IsNode old = (x : SeatedNode) × (old ≡ Some (node x))
 
--- Why a call of a node and a pass wasn't made: for what their handles hold, or for a reason of the call's own.
+-- two handles hold a node and a caller's pass
+abbrev pub ArePair : Option ObjectView → Option ObjectView → Type 0
+ArePair old other = (x : SeatedNode) × (n : ℕ) × (c : CallerView) × (old ≡ Some (node x)) × (other ≡ Some (caller n c))
+
+-- they are open, and don't hold these two
+abbrev pub AreNoPair : Option ObjectView → Option ObjectView → Type 0
+AreNoPair old other =
+    (is_open old ≡ true) × (is_open other ≡ true)
+    × ((x : SeatedNode) → (n : ℕ) → (c : CallerView) → old ≡ Some (node x) → other ≡ Some (caller n c) → ⊥)
+
+-- Why a call of a node and a pass wasn't made: for what their handles hold, or for a reason of the call's own. Want of room is a reason
+-- only where they are a node and a pass.
 abbrev pub BadPair : (Misuse → Type 0) → Option ObjectView → Option ObjectView → Misuse → Type 0
 BadPair Own old other Closed = (old ≡ None) ⊎ (other ≡ None)
-BadPair Own old other OtherKind = (x : SeatedNode) → (n : ℕ) → (c : CallerView) → old ≡ Some (node x) → other ≡ Some (caller n c) → ⊥
+BadPair Own old other OtherKind = AreNoPair old other
+BadPair Own old other NoRoom = ArePair old other × Own NoRoom
 BadPair Own old other why = Own why
 
 -- it has none
@@ -48,23 +56,24 @@ abbrev pub NoReason : Misuse → Type 0
 NoReason why = ⊥
 
 -- The same of a node alone.
-abbrev pub BadNode : Option ObjectView → Misuse → Type 0
-BadNode old Closed = old ≡ None
-BadNode old OtherKind = (x : SeatedNode) → old ≡ Some (node x) → ⊥
-BadNode old InUse = Unit {0}
-BadNode old NoRoom = Unit {0}
-BadNode old _ = ⊥
+abbrev pub BadNode : (Misuse → Type 0) → Option ObjectView → Misuse → Type 0
+BadNode Own old Closed = old ≡ None
+BadNode Own old OtherKind = (is_open old ≡ true) × ((x : SeatedNode) → old ≡ Some (node x) → ⊥)
+BadNode Own old NoRoom = IsNode old × Own NoRoom
+BadNode Own old why = Own why
 
--- The handle that was to be written is open, if that is why.
-abbrev pub BadOut : Option ObjectView → Misuse → Type 0
-BadOut out InUse = is_open out ≡ true
-BadOut out _ = Unit {0}
-
--- it was open, or there was no room for what it was to hold
+-- The handle that was to be written was open; or it was closed, and there was no room for what it was to hold.
 abbrev pub BadRoom : Option ObjectView → Misuse → Type 0
 BadRoom out InUse = is_open out ≡ true
-BadRoom out NoRoom = Unit {0}
+BadRoom out NoRoom = out ≡ None
 BadRoom out _ = ⊥
+
+-- The call met a node and a caller's pass, and did this; or it wasn't made, and nothing has changed.
+abbrev pub PairMet : {X : Type 0} → (Misuse → Type 0) → (old new other then : ObjectView) → Result (Result X Refusal) Misuse → (SeatedNode → SeatedNode → CallerView → CallerView → Result X Refusal → Type 0) → Type 0
+PairMet Own old new other then (Ok answer) P =
+    (x : SeatedNode) × (y : SeatedNode) × (n : ℕ) × (c : CallerView) × (d : CallerView)
+    × (old ≡ node x) × (new ≡ node y) × (other ≡ caller n c) × (then ≡ caller n d) × P x y c d answer
+PairMet Own old new other then (Err why) P = (new ≡ old) × (then ≡ other) × BadPair Own (Some old) (Some other) why
 
 -- The same of two handles' objects.
 abbrev pub PairCalled : {X : Type 0} → (Misuse → Type 0) → (old new other then : Option ObjectView) → Result (Result X Refusal) Misuse → (SeatedNode → SeatedNode → CallerView → CallerView → Result X Refusal → Type 0) → Type 0

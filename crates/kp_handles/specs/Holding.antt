@@ -6,7 +6,7 @@ use Rattle.kp_model.specs.Event.{Line}
 use Rattle.kp_model.specs.Letter.{goes_to, letter}
 use Rattle.kp_model.specs.World.{Message as ModelMessage}
 use Rattle.kp_model.specs.declared.message.MessageBody.{MessageBody}
-use Rattle.kp_handles.specs.Objects.{ObjectView, message, batches, records, segments}
+use Rattle.kp_handles.specs.Objects.{ObjectView, message, batches, is_open, records, segments}
 use Rattle.kp_handles.specs.declared.misuse.Misuse.{Misuse}
 use Rattle.kp_handles.specs.declared.misuse.Misuse.TheVariants.{Closed, OtherKind, OutOfRange, BadLength}
 use Rattle.kp_handles.specs.declared.outs.ValueOut.{ValueOut}
@@ -42,7 +42,7 @@ BadPartOf hold size index places object _ = ⊥
 
 abbrev pub BadPart : {X : Type 0} → (List X → ObjectView) → (X → ℕ) → (index places : ℕ) → Option ObjectView → Misuse → Type 0
 BadPart hold size index places object Closed = object ≡ None
-BadPart {X} hold size index places object OtherKind = (xs : List X) → object ≡ Some (hold xs) → ⊥
+BadPart {X} hold size index places object OtherKind = (is_open object ≡ true) × ((xs : List X) → object ≡ Some (hold xs) → ⊥)
 BadPart {X} hold size index places object OutOfRange = (xs : List X) × (object ≡ Some (hold xs)) × (slice_get xs index ≡ None)
 BadPart {X} hold size index places object BadLength = (xs : List X) × (x : X) × (object ≡ Some (hold xs)) × (slice_get xs index ≡ Some x) × (places < size x)
 BadPart hold size index places object _ = ⊥
@@ -112,5 +112,5 @@ HasAddressee object n = (body : MessageBody) × (pass : ModelMessage) × (object
 
 abbrev pub BadLetter : Option ObjectView → Misuse → Type 0
 BadLetter object Closed = object ≡ None
-BadLetter object OtherKind = (body : MessageBody) → (pass : ModelMessage) → object ≡ Some (message body pass) → ⊥
+BadLetter object OtherKind = (is_open object ≡ true) × ((body : MessageBody) → (pass : ModelMessage) → object ≡ Some (message body pass) → ⊥)
 BadLetter object _ = ⊥

@@ -1,5 +1,6 @@
 -- What each call does that sends a message or takes one, as kp_node's and kp_board's contracts say it.
-use Rattle.std.specs.Prelude.{◌≡◌, ◌≢◌, ◌⊎◌, ◌≤◌, ◌<◌, ℕ, ◌∷◌, max, Option, Some, None, Result, Ok, Err, IfOk, IfErr, IfSome, IfNone, OnErr}
+use Rattle.std.specs.Prelude.{◌≡◌, ◌≢◌, ◌⊎◌, ◌≤◌, ◌<◌, ℕ, true, ◌∷◌, max, Option, Some, None, Result, Ok, Err, IfOk, IfErr, IfSome, IfNone, OnErr}
+use Rattle.std.specs.Global.{Box}
 use Rattle.kp_types.specs.Causes.{IsRefusedOnlyBy}
 use Rattle.kp_types.specs.declared.refusal.Refusal.{Refusal}
 use Rattle.kp_types.specs.declared.refusal.Refusal.TheVariants.{Memory}
@@ -9,17 +10,17 @@ use Rattle.kp_model.specs.Local.{cause}
 use Rattle.kp_model.specs.Step.{decide_cause, decision}
 use Rattle.kp_model.specs.World.{LeaderAndIsr as ModelRecord, Message as ModelMessage, Proposal as ModelProposal, Decision as ModelDecision, Decides}
 use Rattle.kp_model.specs.declared.message.MessageBody.{MessageBody}
-use Rattle.kp_board.specs.Decisions.{IsUndecided, ShowsDecision}
+use Rattle.kp_board.specs.Decisions.{IsUndecided, ShowsDecision, deciding}
 use Rattle.kp_board.specs.Views.{CallerView}
 use Rattle.kp_board.specs.declared.message.Message.{Message}
 use Rattle.kp_board.specs.declared.passes.BoardName.{Ghosts}
-use Rattle.kp_node.specs.Calls.{CutsTo, Sent, WasTaken}
+use Rattle.kp_node.specs.Calls.{CutsTo, Sent, WantsMemory, WasTaken}
 use Rattle.kp_node.specs.Seated.{SeatedNode}
 use Rattle.kp_replica.specs.Altering.{change_act, IsProposal}
 use Rattle.kp_replica.specs.NumberedNode.{Does, DoesUnder}
 use Rattle.kp_replica.specs.declared.altering.IsrChange.{IsrChange}
-use Rattle.kp_handles.specs.Called.{BadNode, BadOut}
-use Rattle.kp_handles.specs.Objects.{ObjectView, caller, message, node}
+use Rattle.kp_handles.specs.Called.{BadNode, BadRoom}
+use Rattle.kp_handles.specs.Objects.{ObjectView, caller, is_open, message, node}
 use Rattle.kp_handles.specs.declared.misuse.Misuse.{Misuse}
 use Rattle.kp_handles.specs.declared.misuse.Misuse.TheVariants.{Closed, OtherKind}
 
@@ -68,6 +69,7 @@ Steps m x y answer =
     IfOk answer (λ o. IfSome o (λ a. Sent x.node y.node (Receive m.pass) a.pass (letter a.body)))
     × IfOk answer (λ o. IfNone o (WasTaken m.body y.pass.shown x.node y.node (Receive m.pass)))
     × IfErr answer (λ refusal. DoesUnder y.pass.shown x.node y.node (Receive m.pass) (Refused refusal))
+    × IfErr answer (λ refusal. refusal ≡ Memory → WantsMemory m.body x.node)
     × CutsTo m.body y.pass.shown x.node y.node × (x.pass.shown.version ≤ y.pass.shown.version)
     × (y.pass ≡ record x.pass {
       state = y.node.state;
@@ -76,13 +78,15 @@ Steps m x y answer =
       told = y.pass.told;
     })
 
--- the controller decided on this message, as `Board::decide` does
-abbrev pub DecidesOn : Posted → Result Posted Refusal → Type 0
-DecidesOn m answer =
-    IfOk answer (λ a. (p : ModelProposal) × (c : ModelRecord) × (letter m.body ≡ Proposing p) × (a.pass ≡ Decides (decision c p))
-    × (letter a.body ≡ Deciding (decision c p)) × (decide_cause c p ≡ None) × ShowsDecision p c)
-    × IfOk answer (λ a. (d : ModelDecision) × (letter a.body ≡ Deciding d) × (d.proposal.known.version < d.decided.version))
-    × IfErr answer (λ refusal. IsUndecided (letter m.body) refusal)
+-- the controller decided on this message with the pass, which was c and is d now, as `Board::decide` does
+abbrev pub DecidesOn : Posted → CallerView → CallerView → Result Posted Refusal → Type 0
+DecidesOn m c d answer =
+    IfOk answer (λ a. (p : ModelProposal) × (s : ModelRecord) × (letter m.body ≡ Proposing p) × (a.pass ≡ Decides (decision s p))
+    × (letter a.body ≡ Deciding (decision s p)) × (decide_cause s p ≡ None) × (c.shown.version ≤ s.version) × (d ≡ deciding s p c)
+    × ShowsDecision p s d)
+    × IfOk answer (λ a. (made : ModelDecision) × (letter a.body ≡ Deciding made) × (made.proposal.known.version < made.decided.version))
+    × IfErr answer (λ refusal. IsUndecided (letter m.body) c d refusal)
+    × OnErr answer (d ≡ record c { sent = d.sent; shown = d.shown })
 
 -- ---- of handles' objects
 
@@ -93,7 +97,15 @@ SendCalled old new out wrote (Ok (Ok done)) P =
     × (out ≡ None) × (wrote ≡ Some (message body pass)) × P x y (Ok (record { body = body; pass = pass }))
 SendCalled old new out wrote (Ok (Err refusal)) P =
     (x : SeatedNode) × (y : SeatedNode) × (old ≡ Some (node x)) × (new ≡ Some (node y)) × (wrote ≡ out) × P x y (Err refusal)
-SendCalled old new out wrote (Err why) P = (new ≡ old) × (wrote ≡ out) × BadNode old why × BadOut out why
+SendCalled old new out wrote (Err why) P = (new ≡ old) × (wrote ≡ out) × BadNode (BadRoom out) old why
+
+-- the same of an object
+abbrev pub SendMet : (old new : ObjectView) → Result (Result (Box ObjectView) Refusal) Misuse → (SeatedNode → SeatedNode → Result Posted Refusal → Type 0) → Type 0
+SendMet old new (Ok (Ok made)) P =
+    (x : SeatedNode) × (y : SeatedNode) × (body : MessageBody) × (pass : ModelMessage) × (old ≡ node x) × (new ≡ node y)
+    × (made.value ≡ message body pass) × P x y (Ok (record { body = body; pass = pass }))
+SendMet old new (Ok (Err refusal)) P = (x : SeatedNode) × (y : SeatedNode) × (old ≡ node x) × (new ≡ node y) × P x y (Err refusal)
+SendMet old new (Err why) P = (new ≡ old) × BadNode (BadRoom None) (Some old) why
 
 -- what a message's handle holds after it was used up: the answer, or nothing
 abbrev pub handle_left : Option Posted → Option ObjectView
@@ -116,9 +128,9 @@ refusal_of (Err refusal) = Err refusal
 unfoldable pub Took : Posted → SeatedNode → SeatedNode → Option ObjectView → Result (Unit {0}) Refusal → Type 0
 Took m x y left done = (answer : Result (Option Posted) Refusal) × (left ≡ handle_left (answer_of answer)) × (done ≡ refusal_of answer) × Steps m x y answer
 
--- The controller decided on this message: so it answered, and this is left of the message.
-unfoldable pub Decided : Posted → Option ObjectView → Result (Unit {0}) Refusal → Type 0
-Decided m left done = (answer : Result Posted Refusal) × (left ≡ handle_left (answer_of (some_of answer))) × (done ≡ refusal_of answer) × DecidesOn m answer
+-- The controller decided on this message with this pass: so it answered, and this is left of the message.
+unfoldable pub Decided : Posted → CallerView → CallerView → Option ObjectView → Result (Unit {0}) Refusal → Type 0
+Decided m c d left done = (answer : Result Posted Refusal) × (left ≡ handle_left (answer_of (some_of answer))) × (done ≡ refusal_of answer) × DecidesOn m c d answer
 
 -- A message came to a node; or they weren't those, and nothing has changed.
 abbrev pub StepMet : (old new letter : ObjectView) → (left : Option ObjectView) → Result (Result (Unit {0}) Refusal) Misuse → Type 0
@@ -131,7 +143,9 @@ StepMet old new letter left (Err why) =
 
 abbrev pub BadStep : Option ObjectView → Option ObjectView → Misuse → Type 0
 BadStep old letter Closed = (old ≡ None) ⊎ (letter ≡ None)
-BadStep old letter OtherKind = (x : SeatedNode) → (body : MessageBody) → (pass : ModelMessage) → old ≡ Some (node x) → letter ≡ Some (message body pass) → ⊥
+BadStep old letter OtherKind =
+    (is_open old ≡ true) × (is_open letter ≡ true)
+    × ((x : SeatedNode) → (body : MessageBody) → (pass : ModelMessage) → old ≡ Some (node x) → letter ≡ Some (message body pass) → ⊥)
 BadStep old letter _ = ⊥
 
 abbrev pub StepCalled : (old new letter after : Option ObjectView) → Result (Result (Unit {0}) Refusal) Misuse → Type 0
@@ -141,23 +155,25 @@ StepCalled old new letter after (Ok done) =
     × Took (record { body = body; pass = pass }) x y left done × (after ≡ left)
 StepCalled old new letter after (Err why) = (new ≡ old) × (after ≡ letter) × BadStep old letter why
 
--- The controller decided on a message, at a caller's pass, which stays as it is; or they weren't those, and nothing has changed.
+-- The controller decided on a message, with a caller's pass; or they weren't those, and nothing has changed.
 abbrev pub DecideMet : (old new letter : ObjectView) → (left : Option ObjectView) → Result (Result (Unit {0}) Refusal) Misuse → Type 0
 DecideMet old new letter left (Ok done) =
-    (n : ℕ) × (c : CallerView) × (body : MessageBody) × (pass : ModelMessage) × (old ≡ caller n c) × (new ≡ old)
-    × (letter ≡ message body pass) × Decided (record { body = body; pass = pass }) left done
+    (n : ℕ) × (c : CallerView) × (d : CallerView) × (body : MessageBody) × (pass : ModelMessage) × (old ≡ caller n c) × (new ≡ caller n d)
+    × (letter ≡ message body pass) × Decided (record { body = body; pass = pass }) c d left done
 DecideMet old new letter left (Err why) =
     (why ≡ OtherKind) × (new ≡ old) × (left ≡ Some letter)
     × ((n : ℕ) → (c : CallerView) → (body : MessageBody) → (pass : ModelMessage) → old ≡ caller n c → letter ≡ message body pass → ⊥)
 
 abbrev pub BadDecide : Option ObjectView → Option ObjectView → Misuse → Type 0
 BadDecide old letter Closed = (old ≡ None) ⊎ (letter ≡ None)
-BadDecide old letter OtherKind = (n : ℕ) → (c : CallerView) → (body : MessageBody) → (pass : ModelMessage) → old ≡ Some (caller n c) → letter ≡ Some (message body pass) → ⊥
+BadDecide old letter OtherKind =
+    (is_open old ≡ true) × (is_open letter ≡ true)
+    × ((n : ℕ) → (c : CallerView) → (body : MessageBody) → (pass : ModelMessage) → old ≡ Some (caller n c) → letter ≡ Some (message body pass) → ⊥)
 BadDecide old letter _ = ⊥
 
 abbrev pub DecideCalled : (old new letter after : Option ObjectView) → Result (Result (Unit {0}) Refusal) Misuse → Type 0
 DecideCalled old new letter after (Ok done) =
-    (n : ℕ) × (c : CallerView) × (body : MessageBody) × (pass : ModelMessage) × (left : Option ObjectView)
-    × (old ≡ Some (caller n c)) × (new ≡ old) × (letter ≡ Some (message body pass))
-    × Decided (record { body = body; pass = pass }) left done × (after ≡ left)
+    (n : ℕ) × (c : CallerView) × (d : CallerView) × (body : MessageBody) × (pass : ModelMessage) × (left : Option ObjectView)
+    × (old ≡ Some (caller n c)) × (new ≡ Some (caller n d)) × (letter ≡ Some (message body pass))
+    × Decided (record { body = body; pass = pass }) c d left done × (after ≡ left)
 DecideCalled old new letter after (Err why) = (new ≡ old) × (after ≡ letter) × BadDecide old letter why

@@ -13,12 +13,13 @@ use Rattle.kp_handles.specs.declared.object.Cluster.{Cluster as ClusterOf}
 use Rattle.kp_handles.specs.declared.object.Kind.{Kind}
 use Rattle.kp_handles.specs.declared.object.Kind.TheVariants.{Empty, Cluster, Node, Caller, Message, Batches, Records, Segments, Handed}
 
--- nothing; a board of so many nodes, with the passes of those that aren't open yet and the sizes of their logs; a node with its
+-- nothing; a board of so many nodes, with the passes of those that aren't open yet, how many callers' passes were opened, and the sizes of
+-- the nodes' logs; a node with its
 -- pass; a caller's pass of a board of so many nodes; a message with its pass; batches, as a node answered them to a read; records, as
 -- a read-committed consumer gets them; a log's segments, each by its name with its batches; the bytes that a client hands in
 pub data ObjectView : Type 0 where
   empty : ObjectView
-  cluster : (nodes : ℕ) → (waiting : List NodeView) → Limits → ObjectView
+  cluster : (nodes : ℕ) → (waiting : List NodeView) → (callers : ℕ) → Limits → ObjectView
   node : SeatedNode → ObjectView
   caller : (nodes : ℕ) → CallerView → ObjectView
   message : MessageBody → ModelMessage → ObjectView
@@ -28,7 +29,7 @@ pub data ObjectView : Type 0 where
   handed : List ℕ → ObjectView
 
 abbrev pub cluster_view : {X : Type 0} {g : Ghosts X} → ClusterOf X g → ObjectView
-cluster_view c = cluster c.board.value (map (λ f. f.pass) c.waiting.items) c.limits
+cluster_view c = cluster c.board.value (map (λ f. f.pass) c.waiting.items) c.callers c.limits
 
 abbrev pub object_view : {X : Type 0} {g : Ghosts X} → Kind X g → ObjectView
 object_view Empty = empty

@@ -1,5 +1,5 @@
 -- How handles are opened and closed (own rule).
-use Rattle.std.specs.Prelude.{◌≡◌, ◌<◌, ℕ, true, List, [], ◌∷◌, length, slice_get, Option, Some, None}
+use Rattle.std.specs.Prelude.{◌≡◌, ◌+◌, ◌<◌, ◌≤◌, ℕ, true, List, [], ◌∷◌, length, slice_get, Option, Some, None}
 use Rattle.kp_types.specs.declared.limits.Limits.{Limits}
 use Rattle.kp_model.specs.World.{fresh}
 use Rattle.kp_board.specs.Views.{NodeView, new_caller, new_node}
@@ -10,21 +10,21 @@ use Rattle.kp_handles.specs.declared.misuse.Misuse.TheVariants.{Closed, OtherKin
 -- A board of so many nodes was opened: each node waits to be opened, in their order.
 abbrev pub IsCluster : ℕ → Limits → Option ObjectView → Type 0
 IsCluster n limits object =
-    (waiting : List NodeView) × (object ≡ Some (cluster n waiting limits)) × (length waiting ≡ n)
+    (waiting : List NodeView) × (object ≡ Some (cluster n waiting 0 limits)) × (length waiting ≡ n)
     × ((k : ℕ) → k < n → slice_get waiting k ≡ Some (new_node n k))
 
 -- the next node of the cluster was opened, whose pass waited
 abbrev pub OpensNode : Option ObjectView → Option ObjectView → Option ObjectView → Type 0
 OpensNode old new opened =
-    (n : ℕ) × (x : NodeView) × (rest : List NodeView) × (limits : Limits) × (old ≡ Some (cluster n (x ∷ rest) limits))
-    × (new ≡ Some (cluster n rest limits))
+    (n : ℕ) × (x : NodeView) × (rest : List NodeView) × (callers : ℕ) × (limits : Limits) × (old ≡ Some (cluster n (x ∷ rest) callers limits))
+    × (new ≡ Some (cluster n rest callers limits))
     × (opened ≡ Some (node (record { node = record { number = x.number; limits = limits; state = fresh }; pass = x })))
 
--- a new caller's pass of the cluster was opened
+-- a new caller's pass of the cluster was opened, and no other
 abbrev pub OpensCaller : Option ObjectView → Option ObjectView → Option ObjectView → Type 0
 OpensCaller old new opened =
-    (n : ℕ) × (waiting : List NodeView) × (limits : Limits) × (old ≡ Some (cluster n waiting limits))
-    × (new ≡ old) × (opened ≡ Some (caller n (new_caller n)))
+    (n : ℕ) × (waiting : List NodeView) × (callers : ℕ) × (limits : Limits) × (old ≡ Some (cluster n waiting callers limits))
+    × (new ≡ Some (cluster n waiting (callers + 1) limits)) × (opened ≡ Some (caller n (new_caller n)))
 
 -- ---- why a call wasn't made
 
@@ -32,24 +32,29 @@ OpensCaller old new opened =
 abbrev pub BadBoard : ℕ → Option ObjectView → Misuse → Type 0
 BadBoard n out OutOfRange = 7 < n
 BadBoard n out InUse = is_open out ≡ true
-BadBoard n out NoRoom = Unit {0}
+BadBoard n out NoRoom = (n ≤ 7) × (out ≡ None)
 BadBoard n out _ = ⊥
 
--- all nodes of the cluster are open
-abbrev pub NoneLeft : ObjectView → Type 0
-NoneLeft object = (n : ℕ) × (limits : Limits) × (object ≡ cluster n [] limits)
+-- the handle is open, and holds no cluster
+abbrev pub IsNoCluster : Option ObjectView → Type 0
+IsNoCluster old =
+    (is_open old ≡ true) × ((n : ℕ) → (waiting : List NodeView) → (callers : ℕ) → (limits : Limits) → old ≡ Some (cluster n waiting callers limits) → ⊥)
 
--- nothing of this cluster was opened
-abbrev pub BadCluster : ObjectView → Misuse → Type 0
-BadCluster object OtherKind = (n : ℕ) → (waiting : List NodeView) → (limits : Limits) → object ≡ cluster n waiting limits → ⊥
-BadCluster object NoRoom = Unit {0}
-BadCluster object OutOfRange = NoneLeft object
-BadCluster object _ = ⊥
+-- no pass of this cluster was opened
+abbrev pub BadCallerOpening : (old out : Option ObjectView) → Misuse → Type 0
+BadCallerOpening old out Closed = old ≡ None
+BadCallerOpening old out OtherKind = IsNoCluster old
+BadCallerOpening old out InUse = is_open out ≡ true
+BadCallerOpening old out NoRoom =
+    (n : ℕ) × (waiting : List NodeView) × (callers : ℕ) × (limits : Limits) × (old ≡ Some (cluster n waiting callers limits)) × (out ≡ None)
+BadCallerOpening old out _ = ⊥
 
-abbrev pub BadOpening : Option ObjectView → Option ObjectView → Misuse → Type 0
-BadOpening old out Closed = old ≡ None
-BadOpening old out OtherKind = (n : ℕ) → (waiting : List NodeView) → (limits : Limits) → old ≡ Some (cluster n waiting limits) → ⊥
-BadOpening old out InUse = is_open out ≡ true
-BadOpening old out NoRoom = Unit {0}
-BadOpening old out OutOfRange = (n : ℕ) × (limits : Limits) × (old ≡ Some (cluster n [] limits))
-BadOpening old out BadLength = ⊥
+-- no node of it was opened; all may be open
+abbrev pub BadNodeOpening : (old out : Option ObjectView) → Misuse → Type 0
+BadNodeOpening old out Closed = old ≡ None
+BadNodeOpening old out OtherKind = IsNoCluster old
+BadNodeOpening old out InUse = is_open out ≡ true
+BadNodeOpening old out OutOfRange = (n : ℕ) × (callers : ℕ) × (limits : Limits) × (old ≡ Some (cluster n [] callers limits))
+BadNodeOpening old out NoRoom =
+    (n : ℕ) × (next : NodeView) × (rest : List NodeView) × (callers : ℕ) × (limits : Limits) × (old ≡ Some (cluster n (next ∷ rest) callers limits)) × (out ≡ None)
+BadNodeOpening old out BadLength = ⊥

@@ -1,5 +1,7 @@
 -- What each call of a node for a caller's pass does, as kp_node's contracts say it.
-use Rattle.std.specs.Prelude.{◌≡◌, ◌≢◌, ◌⊎◌, ◌<◌, ℕ, ◌∷◌, List, map, false, true, None, Some, Result, Ok, Err, IfOk, IfErr, OnOk, OnErr, Contains}
+use Rattle.std.specs.Prelude.{◌≡◌, ◌≢◌, ◌<◌, ◌≤◌, ℕ, ◌∷◌, List, map, false, true, Result, Ok, Err, IfOk, IfErr, OnOk, OnErr, Contains}
+use Rattle.std.specs.Global.{Vec}
+use Rattle.kp_types.specs.Causes.{IsRefusedBy}
 use Rattle.kp_types.specs.declared.refusal.Refusal.{Refusal}
 use Rattle.kp_types.specs.declared.refusal.Refusal.TheVariants.{Down, Memory}
 use Rattle.kp_batch.specs.Batch.{Body, Written}
@@ -16,17 +18,21 @@ use Rattle.kp_replica.specs.NumberedNode.{Does}
 use Rattle.kp_replica.specs.Replies.{IsNamedBy, IsOffer, body_of, lines_reply, mark_of, receipt_reply}
 use Rattle.kp_replica.specs.declared.producing.Receipt.{Receipt}
 use Rattle.kp_board.specs.Views.{CallerView, KeptReceipt}
-use Rattle.kp_node.specs.Acks.{ack_of, HasAnother, HasIt, IsKept, IsMarkerKept, IsPieceOf, SawHeld}
+use Rattle.kp_node.specs.Acks.{ack_of, AreLinesOf, HasAnother, HasIt, IsKept, IsMarkerKept, IsPieceOf, SawHeld}
 use Rattle.kp_node.specs.Seated.{SeatedNode}
 use Rattle.kp_node.specs.declared.ack.Ack.{Ack}
 use Rattle.kp_node.specs.declared.ack.Ack.TheVariants.{Yes, Lost}
 use Rattle.kp_handles.specs.declared.misuse.Misuse.{Misuse}
 use Rattle.kp_handles.specs.declared.misuse.Misuse.TheVariants.{NoRoom, OutOfRange, BadLength}
 
--- why bytes weren't copied, so many of them: no batch has as many, or there was no room
+-- a batch may have so many bytes: its length, a signed field of four bytes, counts all but the first twelve (Kafka protocol guide)
+abbrev pub FitsBatch : ℕ → Type 0
+FitsBatch n = n ≤ 2147483659
+
+-- why bytes weren't copied, so many of them: no batch has as many; or one may, and there was no room
 abbrev pub BadBytes : ℕ → Misuse → Type 0
 BadBytes n BadLength = 2147483659 < n
-BadBytes n NoRoom = Unit {0}
+BadBytes n NoRoom = FitsBatch n
 BadBytes n _ = ⊥
 
 -- a field of the marker lies out of its range
@@ -61,14 +67,20 @@ Acks receipt x y c d answer =
     × IfOk answer (λ ack. ack ≡ Lost → (k : KeptReceipt) → IsNamedBy receipt k.batch → HasAnother d receipt.base k.batch)
     × OnErr answer (d ≡ c)
 
+-- batches as a list
+abbrev pub listed : Result (Vec Written) Refusal → Result (List Written) Refusal
+listed (Ok batches) = Ok batches.items
+listed (Err refusal) = Err refusal
+
 -- it answered these batches to a read from an offset on, as `Node::read` says
 abbrev pub Reads : ℕ → SeatedNode → SeatedNode → CallerView → CallerView → Result (List Written) Refusal → Type 0
 Reads from x y c d answer =
     (y ≡ x) × IfOk answer (λ ws. map logged ws ≡ at_least_one (below x.node.state.watermark (reaching from x.node.state.log)))
-    × IfErr answer (λ refusal. (refusal ≡ Memory) ⊎ (read_cause x.node.state from ≡ Some refusal)) × OnOk answer (read_cause x.node.state from ≡ None)
+    × IsRefusedBy (read_cause x.node.state from) answer
     × OnOk answer (SawHeld c d x.pass) × IfOk answer (λ ws. IsPieceOf (map logged ws) d.seen) × OnErr answer (d ≡ c)
 
 -- it answered these records to a read-committed consumer from an offset on, as `Node::committed` says
 unfoldable pub ReadsCommitted : ℕ → SeatedNode → SeatedNode → CallerView → CallerView → Result (List Line) Refusal → Type 0
 ReadsCommitted from x y c d answer =
-    (y ≡ x) × Does x.node x.node (Committed from) (lines_reply answer) × OnOk answer (SawHeld c d x.pass) × OnErr answer (d ≡ c)
+    (y ≡ x) × Does x.node x.node (Committed from) (lines_reply answer)
+    × IfOk answer (λ lines. AreLinesOf lines from x.node.state.watermark d.seen) × OnOk answer (SawHeld c d x.pass) × OnErr answer (d ≡ c)

@@ -1,10 +1,10 @@
-//! Calls of a caller's pass alone.
+//! Calls of a caller's pass, and of two.
 
-ghost use Rattle.std.specs.Prelude.{◌≡◌, IfSome, Ok};
+ghost use Rattle.std.specs.Prelude.{◌≡◌, IfSome, Some, Ok};
 ghost use Rattle.kp_handles.specs.Called.{CallerCalled, CallerMet};
-ghost use Rattle.kp_handles.specs.CallerCalls.{Elects, Looks, LearnsMark};
+ghost use Rattle.kp_handles.specs.CallerCalls.{Elects, Looks, LearnsMark, ReceiptsTold};
 
-use crate::handle::{Handle, Unnamed, put, take};
+use crate::handle::{Handle, Unnamed, put, take, take_two};
 use crate::misuse::Misuse;
 use crate::nodes::Called;
 use crate::object::{Caller, Kind, Object};
@@ -95,4 +95,38 @@ pub fn watermark<B: BoardName + Unnamed>(
     let answer = watermark_object(&mut object, node);
     put(handle, object);
     answer
+}
+
+fn tell_objects<B: BoardName>(one: &mut Object<B>, other: &mut Object<B>) -> Result<(), Misuse>
+    ensures { ReceiptsTold (Some one.old) (Some one.new) (Some other.old) (Some other.new) result }
+{
+    match &mut one.kind {
+        Kind::Caller(from) => match &mut other.kind {
+            Kind::Caller(to) => {
+                from.board.tell_receipts(&mut from.pass, &mut to.pass);
+                Ok(())
+            }
+            _ => Err(Misuse::OtherKind),
+        },
+        _ => Err(Misuse::OtherKind),
+    }
+}
+
+/// One caller's pass takes over the receipts of another one, as by `Board::tell_receipts`. Closed, OtherKind. O(1), and no memory.
+#[tactic(auto, using(crate::proofs::Bad::callers_closed, crate::proofs::Bad::told_called))]
+pub fn tell_receipts<B: BoardName + Unnamed>(
+    alloc: Global,
+    from: &mut Handle,
+    to: &mut Handle,
+) -> Result<(), Misuse>
+    requires from { IfSome from.old.object (λ _. from.old.table ≡ B.table) }
+    requires to { IfSome to.old.object (λ _. to.old.table ≡ B.table) }
+    ensures called { ReceiptsTold from.old.object from.new.object to.old.object to.new.object result }
+    ensures cluster { (from.new.table ≡ from.old.table) × (to.new.table ≡ to.old.table) }
+{
+    let (mut first, mut second) = take_two::<B>(alloc, from, to)?;
+    let done = tell_objects(&mut first, &mut second);
+    put(from, first);
+    put(to, second);
+    done
 }

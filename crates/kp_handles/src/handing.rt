@@ -1,13 +1,13 @@
 //! The bytes of a batch, copied and tested before a node gets them.
 
 ghost use Rattle.std.specs.Prelude.{◌≡◌, true, None, Some, length, IfSome, IfOk, IfErr, OnOk, OnErr};
-ghost use Rattle.kp_handles.specs.Handing.{BadCopy, BadHand, BadHanded, IsFree};
+ghost use Rattle.kp_handles.specs.Handing.{BadHand, BadShare, IsFree};
 ghost use Rattle.kp_handles.specs.Objects.{handed, is_open};
-ghost use Rattle.kp_handles.specs.PairCalls.{BadBytes};
+ghost use Rattle.kp_handles.specs.PairCalls.{BadBytes, FitsBatch};
 
-use crate::handle::{Handle, Unnamed, fill, is_open, put, take};
+use crate::handle::{Handle, Unnamed, is_open, put, take};
 use crate::misuse::Misuse;
-use crate::object::{InHand, Kind, Object, room};
+use crate::object::{InHand, Kind, Object, filled, room};
 use bytes::BytesMut;
 use kp_batch::Handed;
 use kp_board::BoardName;
@@ -17,8 +17,9 @@ use std::alloc::Global;
 const MOST_BYTES: usize = 2_147_483_659;
 
 /// The bytes, copied once, behind the last ones of the block or into a new one.
-fn copied(block: &mut BytesMut, bytes: &[u8]) -> Result<Handed, Misuse>
+pub(crate) fn copied(block: &mut BytesMut, bytes: &[u8]) -> Result<Handed, Misuse>
     ensures copied { IfOk result (λ copy. copy ≡ bytes.now) }
+    ensures fits { OnOk result (FitsBatch (length bytes.now)) }
     ensures only { IfErr result (BadBytes (length bytes.now)) }
 {
     if bytes.len() > MOST_BYTES {
@@ -30,40 +31,10 @@ fn copied(block: &mut BytesMut, bytes: &[u8]) -> Result<Handed, Misuse>
     }
 }
 
-#[tactic(auto, using(crate::proofs::Bad::copy_bytes))]
-fn copy_object<B: BoardName>(object: &mut Object<B>, bytes: &[u8]) -> Result<Handed, Misuse>
-    ensures copied { IfOk result (λ copy. copy ≡ bytes.now) }
-    ensures same { object.new ≡ object.old }
-    ensures only { IfErr result (BadCopy (length bytes.now) (Some object.old)) }
-{
-    match &mut object.kind {
-        Kind::Caller(caller) => copied(&mut caller.block, bytes),
-        _ => Err(Misuse::OtherKind),
-    }
-}
-
-/// The bytes, copied once into memory of the pass.
-#[tactic(auto, using(crate::proofs::Bad::copy_closed, crate::proofs::Bad::copy_bad))]
-pub(crate) fn copied_by<B: BoardName + Unnamed>(
-    alloc: Global,
-    caller: &mut Handle,
-    bytes: &[u8],
-) -> Result<Handed, Misuse>
-    requires { IfSome caller.old.object (λ _. caller.old.table ≡ B.table) }
-    ensures copied { IfOk result (λ copy. copy ≡ bytes.now) }
-    ensures only { IfErr result (BadCopy (length bytes.now) caller.old.object) }
-    ensures same { caller.new.object ≡ caller.old.object }
-    ensures cluster { caller.new.table ≡ caller.old.table }
-{
-    let mut object = take::<B>(alloc, caller)?;
-    let copy = copy_object(&mut object, bytes);
-    put(caller, object);
-    copy
-}
-
 // The bytes, copied and tested, in place of those that were in hand.
 fn take_up(hand: &mut InHand, bytes: &[u8]) -> Result<(), Misuse>
     ensures handed { OnOk result (hand.new ≡ bytes.now) }
+    ensures fits { OnOk result (FitsBatch (length bytes.now)) }
     ensures same { OnErr result (hand.new ≡ hand.old) }
     ensures only { IfErr result (BadBytes (length bytes.now)) }
 {
@@ -72,9 +43,10 @@ fn take_up(hand: &mut InHand, bytes: &[u8]) -> Result<(), Misuse>
     Ok(())
 }
 
-#[tactic(auto, using(crate::proofs::Bad::hand_bytes, crate::proofs::Bad::hand_used))]
+#[tactic(auto, using(crate::proofs::Bad::hand_again, crate::proofs::Bad::hand_used))]
 fn hand_object<B: BoardName>(object: &mut Object<B>, bytes: &[u8]) -> Result<(), Misuse>
     ensures handed { OnOk result (object.new ≡ handed bytes.now) }
+    ensures fits { OnOk result (FitsBatch (length bytes.now)) }
     ensures free { OnOk result (IsFree (Some object.old)) }
     ensures same { OnErr result (object.new ≡ object.old) }
     ensures only { IfErr result (BadHand (length bytes.now) (Some object.old)) }
@@ -95,6 +67,7 @@ fn hand_again<B: BoardName + Unnamed>(
     requires table { IfSome handle.old.object (λ _. handle.old.table ≡ B.table) }
     requires open { is_open handle.old.object ≡ true }
     ensures handed { OnOk result (handle.new.object ≡ Some (handed bytes.now)) }
+    ensures fits { OnOk result (FitsBatch (length bytes.now)) }
     ensures free { OnOk result (IsFree handle.old.object) }
     ensures same { OnErr result (handle.new.object ≡ handle.old.object) }
     ensures only { IfErr result (BadHand (length bytes.now) handle.old.object) }
@@ -108,6 +81,7 @@ fn hand_again<B: BoardName + Unnamed>(
 // What holds the bytes, copied and tested.
 fn in_hand(alloc: Global, bytes: &[u8]) -> Result<InHand, Misuse>
     ensures handed { IfOk result (λ hand. hand ≡ bytes.now) }
+    ensures fits { OnOk result (FitsBatch (length bytes.now)) }
     ensures only { IfErr result (BadBytes (length bytes.now)) }
 {
     let mut block = BytesMut::new(alloc);
@@ -118,8 +92,8 @@ fn in_hand(alloc: Global, bytes: &[u8]) -> Result<InHand, Misuse>
     })
 }
 
-// Puts the bytes into a closed handle.
-#[tactic(auto, using(crate::proofs::Bad::hand_bytes, crate::proofs::Bad::hand_room))]
+// Puts the bytes into a closed handle. Room for the handle is taken last, once no byte is too many.
+#[tactic(auto, using(crate::proofs::Bad::hand_anew, crate::proofs::Bad::hand_room))]
 fn hand_anew<B: BoardName + Unnamed>(
     alloc: Global,
     handle: &mut Handle,
@@ -127,18 +101,14 @@ fn hand_anew<B: BoardName + Unnamed>(
 ) -> Result<(), Misuse>
     requires { handle.old.object ≡ None }
     ensures handed { OnOk result (handle.new.object ≡ Some (handed bytes.now)) }
+    ensures fits { OnOk result (FitsBatch (length bytes.now)) }
     ensures same { OnErr result (handle.new.object ≡ handle.old.object) }
     ensures only { IfErr result (BadHand (length bytes.now) handle.old.object) }
 {
-    let made = room::<B>(alloc)?;
     let hand = in_hand(alloc, bytes)?;
-    fill(
-        handle,
-        made,
-        Object {
-            kind: Kind::Handed(hand),
-        },
-    );
+    let made = room::<B>(alloc)?;
+    let kind = Kind::Handed(hand);
+    put(handle, filled(made, Object { kind }));
     Ok(())
 }
 
@@ -151,6 +121,7 @@ pub fn hand<B: BoardName + Unnamed>(
 ) -> Result<(), Misuse>
     requires { IfSome handle.old.object (λ _. handle.old.table ≡ B.table) }
     ensures handed { OnOk result (handle.new.object ≡ Some (handed bytes.now)) }
+    ensures fits { OnOk result (FitsBatch (length bytes.now)) }
     ensures free { OnOk result (IsFree handle.old.object) }
     ensures same { OnErr result (handle.new.object ≡ handle.old.object) }
     ensures only { IfErr result (BadHand (length bytes.now) handle.old.object) }
@@ -164,7 +135,7 @@ pub fn hand<B: BoardName + Unnamed>(
 
 fn share_object<B: BoardName>(object: &Object<B>) -> Result<Handed, Misuse>
     ensures shared { IfOk result (λ bytes. object.now ≡ handed bytes) }
-    ensures only { IfErr result (BadHanded (Some object.now)) }
+    ensures only { IfErr result (BadShare (Some object.now)) }
 {
     match &object.kind {
         Kind::Handed(hand) => match hand.bytes.share() {
@@ -176,11 +147,14 @@ fn share_object<B: BoardName>(object: &Object<B>) -> Result<Handed, Misuse>
 }
 
 /// A share of the bytes that the handle holds, which it holds on. Closed, OtherKind, NoRoom. O(1).
-#[tactic(auto, using(crate::proofs::Bad::handed_closed, crate::proofs::Bad::handed_bad))]
-pub fn shared<B: BoardName + Unnamed>(alloc: Global, handle: &mut Handle) -> Result<Handed, Misuse>
+#[tactic(auto, using(crate::proofs::Bad::share_closed, crate::proofs::Bad::share_bad))]
+pub(crate) fn shared<B: BoardName + Unnamed>(
+    alloc: Global,
+    handle: &mut Handle,
+) -> Result<Handed, Misuse>
     requires { IfSome handle.old.object (λ _. handle.old.table ≡ B.table) }
     ensures shared { IfOk result (λ bytes. handle.old.object ≡ Some (handed bytes)) }
-    ensures only { IfErr result (BadHanded handle.old.object) }
+    ensures only { IfErr result (BadShare handle.old.object) }
     ensures same { handle.new.object ≡ handle.old.object }
 {
     let object = take::<B>(alloc, handle)?;

@@ -114,20 +114,6 @@ pub(crate) fn put<B: BoardName + Unnamed>(handle: &mut Handle, object: Box<Objec
     *handle = of_loose(Loose::of(object));
 }
 
-/// Puts an object into a closed handle, where there is room for it.
-pub(crate) fn fill<B: BoardName + Unnamed>(
-    handle: &mut Handle,
-    mut room: Box<Object<B>>,
-    object: Object<B>,
-)
-    requires { handle.old.object ≡ None }
-    ensures object { handle.new.object ≡ Some object }
-    ensures table { handle.new.table ≡ B.table }
-{
-    Box::replace(&mut room, object);
-    put(handle, room);
-}
-
 /// Takes what two handles hold, and leaves both closed.
 pub(crate) fn take_two<B: BoardName + Unnamed>(
     alloc: Global,

@@ -19,9 +19,9 @@ mod producing;
 mod reading;
 mod segments;
 
-pub use callers::{elect, record, watermark};
+pub use callers::{elect, record, tell_receipts, watermark};
 pub use clusters::{close, open, open_caller, open_node};
-pub use handing::{hand, shared};
+pub use handing::hand;
 pub use handle::{Handle, Unnamed, is_open};
 pub use holding::{addressee, batch_size, count, record_at, write_batch, write_value};
 pub use messages::{decide, send, step};

@@ -3,15 +3,14 @@
 ghost use Rattle.std.specs.Prelude.{◌≡◌, IfSome, IfOk, IfErr, OnOk, OnErr};
 ghost use Rattle.kp_model.specs.World.{Message as ModelMessage};
 ghost use Rattle.kp_model.specs.declared.message.MessageBody.{MessageBody};
-ghost use Rattle.kp_handles.specs.Called.{NodeMet};
 ghost use Rattle.kp_handles.specs.Objects.{message};
-ghost use Rattle.kp_handles.specs.Messages.{DecideCalled, DecideMet, SendCalled, Sends, StepCalled, Decided, StepMet, Took, answer_of, handle_left, post_of, posted, posts_of, refusal_of};
+ghost use Rattle.kp_handles.specs.Messages.{DecideCalled, DecideMet, SendCalled, SendMet, Sends, StepCalled, Decided, StepMet, Took, answer_of, handle_left, post_of, posted, posts_of, refusal_of};
 
-use crate::handle::{Handle, Unnamed, fill, is_open, put, take, take_two};
+use crate::handle::{Handle, Unnamed, is_open, put, take, take_two};
 use crate::misuse::Misuse;
 use crate::nodes::Called;
-use crate::object::{Kind, Object, room};
-use kp_board::{Board, BoardName, Message};
+use crate::object::{Kind, Object, filled, room};
+use kp_board::{Board, BoardName, Message, Pass};
 use kp_node::Node;
 use kp_replica::IsrChange;
 use kp_types::Refusal;
@@ -31,20 +30,30 @@ fn sent_by<B: BoardName>(
 }
 
 fn send_object<B: BoardName>(
+    alloc: Global,
     object: &mut Object<B>,
     proposed: Option<IsrChange>,
-) -> Called<Message<B>>
-    ensures { NodeMet object.old object.new result (λ x y sent. Sends proposed x y (post_of sent)) }
+) -> Called<Box<Object<B>>>
+    ensures { SendMet object.old object.new result (Sends proposed) }
 {
     match &mut object.kind {
-        Kind::Node(node) => Ok(sent_by(node, proposed)),
+        Kind::Node(node) => {
+            let made = room::<B>(alloc)?;
+            match sent_by(node, proposed) {
+                Ok(sent) => {
+                    let kind = Kind::Message(sent);
+                    Ok(Ok(filled(made, Object { kind })))
+                }
+                Err(refusal) => Ok(Err(refusal)),
+            }
+        }
         _ => Err(Misuse::OtherKind),
     }
 }
 
 /// Proposes a change of the in-sync replicas, as `Node::alter` does, or asks the node's leader, as `Node::ask` does, where there is none.
 /// The message comes into a closed handle. InUse, Closed, OtherKind, NoRoom.
-#[tactic(auto, using(crate::proofs::Bad::node_closed, crate::proofs::Bad::node_kind, crate::proofs::Bad::out_closed, crate::proofs::Bad::out_kind))]
+#[tactic(auto, using(crate::proofs::Bad::node_closed, crate::proofs::Bad::node_bad))]
 pub fn send<B: BoardName + Unnamed>(
     alloc: Global,
     node: &mut Handle,
@@ -59,19 +68,12 @@ pub fn send<B: BoardName + Unnamed>(
     if is_open(out) {
         return Err(Misuse::InUse);
     }
-    let made = room::<B>(alloc)?;
     let mut object = take::<B>(alloc, node)?;
-    let answer = send_object(&mut object, proposed);
+    let answer = send_object(alloc, &mut object, proposed);
     put(node, object);
     match answer {
-        Ok(Ok(sent)) => {
-            fill(
-                out,
-                made,
-                Object {
-                    kind: Kind::Message(sent),
-                },
-            );
+        Ok(Ok(made)) => {
+            put(out, made);
             Ok(Ok(()))
         }
         Ok(Err(refusal)) => Ok(Err(refusal)),
@@ -177,15 +179,16 @@ pub fn step<B: BoardName + Unnamed>(
     done
 }
 
-// The controller decides on the message.
+// The controller decides on the message, with a caller's pass.
 #[tactic(auto, using(crate::proofs::Posts::chosen, crate::proofs::Posts::undecided))]
 fn decided<B: BoardName>(
     board: &Board<B>,
+    pass: &mut Pass<B>,
     message: Message<B>,
 ) -> (Option<Object<B>>, Result<(), Refusal>)
-    ensures { Decided (posted message) result.0 result.1 }
+    ensures { Decided (posted message) pass.old pass.new result.0 result.1 }
 {
-    match board.decide(message) {
+    match board.decide(pass, message) {
         Ok(answer) => {
             let kind = Kind::Message(answer);
             (Some(Object { kind }), Ok(()))
@@ -194,12 +197,15 @@ fn decided<B: BoardName>(
     }
 }
 
-fn decide_object<B: BoardName>(one: &Object<B>, sent: Message<B>) -> (Option<Object<B>>, Called<()>)
-    ensures { DecideMet one.now one.now (message sent.body sent.pass) result.0 result.1 }
+fn decide_object<B: BoardName>(
+    one: &mut Object<B>,
+    sent: Message<B>,
+) -> (Option<Object<B>>, Called<()>)
+    ensures { DecideMet one.old one.new (message sent.body sent.pass) result.0 result.1 }
 {
-    match &one.kind {
+    match &mut one.kind {
         Kind::Caller(caller) => {
-            let (left, done) = decided(&caller.board, sent);
+            let (left, done) = decided(&caller.board, &mut caller.pass, sent);
             (left, Ok(done))
         }
         _ => {
@@ -211,10 +217,10 @@ fn decide_object<B: BoardName>(one: &Object<B>, sent: Message<B>) -> (Option<Obj
 
 #[tactic(auto, using(crate::proofs::Posts::decide_of))]
 fn decide_objects<B: BoardName>(
-    one: &Object<B>,
+    one: &mut Object<B>,
     letter: Object<B>,
 ) -> (Option<Object<B>>, Called<()>)
-    ensures { DecideMet one.now one.now letter result.0 result.1 }
+    ensures { DecideMet one.old one.new letter result.0 result.1 }
 {
     match message_of(letter) {
         Ok(sent) => decide_object(one, sent),
@@ -222,7 +228,7 @@ fn decide_objects<B: BoardName>(
     }
 }
 
-/// Decides on a proposal at a pass's board, as by `Board::decide`. The message's handle holds the answer then, or is closed. Closed, OtherKind.
+/// Decides on a proposal with a caller's pass, as by `Board::decide`. The message's handle holds the answer then, or is closed. Closed, OtherKind.
 #[tactic(auto, using(crate::proofs::Posts::decide_called, crate::proofs::Bad::decide_closed))]
 pub fn decide<B: BoardName + Unnamed>(
     alloc: Global,
@@ -235,9 +241,9 @@ pub fn decide<B: BoardName + Unnamed>(
     ensures cluster { caller.new.table ≡ caller.old.table }
     ensures named { IfSome letter.new.object (λ _. letter.new.table ≡ letter.old.table) }
 {
-    let (first, mut second) = take_two::<B>(alloc, caller, letter)?;
+    let (mut first, mut second) = take_two::<B>(alloc, caller, letter)?;
     let came = Box::replace(&mut second, Object { kind: Kind::Empty });
-    let (left, done) = decide_objects(&first, came);
+    let (left, done) = decide_objects(&mut first, came);
     put(caller, first);
     match left {
         Some(object) => {

@@ -9,7 +9,7 @@ pub enum Misuse {
     OtherKind,
     /// The handle that was to be written is open.
     InUse,
-    /// The memory that a handle takes was refused.
+    /// The memory that a handle takes was refused, and none of the others is so.
     NoRoom,
     /// A number is above the greatest that it may be.
     OutOfRange,

@@ -14,7 +14,8 @@ use std::alloc::Global;
 
 /// What a call of handles answers: the answer of the call of `Node` or `Board` that it makes, with that one's refusals, or why none was
 /// made. Nothing has changed where it is a misuse: Closed and OtherKind of a handle that holds none of what is asked, InUse of one
-/// that was to be written and is open, NoRoom where its memory was refused. The handles cost O(1) beside the call. (Own rule.)
+/// that was to be written and is open, NoRoom where its memory was refused and nothing else is wrong. The handles cost O(1) beside the
+/// call. (Own rule.)
 pub type Called<T> = Result<Result<T, Refusal>, Misuse>;
 
 fn adopt_object<B: BoardName>(object: &mut Object<B>) -> Called<Role>

@@ -8,7 +8,7 @@ use crate::misuse::Misuse;
 use crate::segments::SegmentShare;
 use bytes::BytesMut;
 use kp_batch::{Batch, Handed};
-use kp_board::{Board, BoardName, FreshPass, Message, Pass};
+use kp_board::{Board, BoardName, Callers, FreshPass, Message, Pass};
 use kp_node::Node;
 use kp_types::Limits;
 use kp_visible::ReadRecords;
@@ -16,11 +16,12 @@ use std::alloc::Global;
 use std::marker::Model;
 use std::sync::Arc;
 
-/// A board with the passes of the nodes that aren't open yet, and the sizes of their logs.
+/// A board with the passes of the nodes that aren't open yet, what makes the passes of callers, and the sizes of the nodes' logs.
 #[derive(Drop)]
 pub struct Cluster<B: BoardName> {
     pub(crate) board: Arc<Board<B>, Global>,
     pub(crate) waiting: Vec<FreshPass<B>>,
+    pub(crate) callers: Callers<B>,
     pub(crate) limits: Limits,
 }
 
@@ -89,6 +90,14 @@ impl<B: BoardName> Object<B> {
         let Object { kind } = self;
         kind
     }
+}
+
+/// An object in its room.
+pub(crate) fn filled<B: BoardName>(mut room: Box<Object<B>>, object: Object<B>) -> Box<Object<B>>
+    ensures { result.value ≡ object }
+{
+    Box::replace(&mut room, object);
+    room
 }
 
 /// Room for an object, which holds nothing yet.

@@ -1,15 +1,16 @@
 //! Calls of a node for a caller's pass.
 
-ghost use Rattle.std.specs.Prelude.{◌≡◌, length, IfSome};
+ghost use Rattle.std.specs.Prelude.{◌≡◌, ℕ, List, Some, length, IfSome, IfOk, IfErr, OnOk, OnErr};
 ghost use Rattle.kp_handles.specs.Called.{NoReason, PairCalled, PairMet};
-ghost use Rattle.kp_handles.specs.PairCalls.{Acks, BadBytes, BadMarker, Marks, Produces};
+ghost use Rattle.kp_handles.specs.Handing.{BadShare, HandedCalled};
+ghost use Rattle.kp_handles.specs.Objects.{handed};
+ghost use Rattle.kp_handles.specs.PairCalls.{Acks, BadBytes, BadMarker, FitsBatch, Marks, Produces};
 
-use crate::handing::copied_by;
+use crate::handing::{copied, shared};
 use crate::handle::{Handle, Unnamed, put, take_two};
 use crate::misuse::Misuse;
 use crate::nodes::Called;
-use crate::object::{Kind, Object};
-use kp_batch::Handed;
+use crate::object::{Caller, Kind, Object};
 use kp_board::{BoardName, Pass};
 use kp_marker::{HandedMarker, Marker};
 use kp_node::{Ack, Node};
@@ -17,45 +18,43 @@ use kp_replica::Receipt;
 use kp_types::Refusal;
 use std::alloc::Global;
 
+// The bytes are copied into memory of the pass.
+fn produce_copy<B: BoardName>(
+    node: &mut Node<B>,
+    caller: &mut Caller<B>,
+    bytes: &[u8],
+) -> Called<Receipt>
+    ensures made { IfOk result (Produces bytes.now node.old node.new caller.old.pass caller.new.pass) }
+    ensures fits { OnOk result (FitsBatch (length bytes.now)) }
+    ensures same { OnErr result ((node.new ≡ node.old) × (caller.new.pass ≡ caller.old.pass)) }
+    ensures only { IfErr result (BadBytes (length bytes.now)) }
+    ensures board { caller.new.board.value ≡ caller.old.board.value }
+{
+    let copy = copied(&mut caller.block, bytes)?;
+    Ok(node.produce(&mut caller.pass, copy))
+}
+
+#[tactic(auto, using(crate::proofs::Bad::pair_copy))]
 fn produce_objects<B: BoardName>(
     one: &mut Object<B>,
     other: &mut Object<B>,
-    bytes: Handed,
+    bytes: &[u8],
 ) -> Called<Receipt>
-    ensures { PairMet one.old one.new other.old other.new result (Produces bytes) }
+    ensures met { PairMet (BadBytes (length bytes.now)) one.old one.new other.old other.new result (Produces bytes.now) }
+    ensures fits { OnOk result (FitsBatch (length bytes.now)) }
 {
     match &mut one.kind {
         Kind::Node(node) => match &mut other.kind {
-            Kind::Caller(caller) => Ok(node.produce(&mut caller.pass, bytes)),
+            Kind::Caller(caller) => produce_copy(node, caller, bytes),
             _ => Err(Misuse::OtherKind),
         },
         _ => Err(Misuse::OtherKind),
     }
 }
 
-/// Hands the node the batch that the bytes are, as by `Node::produce`. Closed, OtherKind.
-#[tactic(auto, using(crate::proofs::Bad::pair_closed, crate::proofs::Bad::pair_kind))]
-pub fn produce_handed<B: BoardName + Unnamed>(
-    alloc: Global,
-    node: &mut Handle,
-    caller: &mut Handle,
-    bytes: Handed,
-) -> Called<Receipt>
-    requires node { IfSome node.old.object (λ _. node.old.table ≡ B.table) }
-    requires caller { IfSome caller.old.object (λ _. caller.old.table ≡ B.table) }
-    ensures called { PairCalled NoReason node.old.object node.new.object caller.old.object caller.new.object result (Produces bytes) }
-    ensures cluster { (node.new.table ≡ node.old.table) × (caller.new.table ≡ caller.old.table) }
-{
-    let (mut first, mut second) = take_two::<B>(alloc, node, caller)?;
-    let answer = produce_objects(&mut first, &mut second, bytes);
-    put(node, first);
-    put(caller, second);
-    answer
-}
-
 /// Hands the node the batch that the bytes are, which are copied once, as by `Node::produce`. Closed, OtherKind, NoRoom; BadLength above
 /// 2,147,483,659 bytes.
-#[tactic(auto, using(crate::proofs::Bad::pair_copy))]
+#[tactic(auto, using(crate::proofs::Bad::pair_closed, crate::proofs::Bad::pair_bad))]
 pub fn produce<B: BoardName + Unnamed>(
     alloc: Global,
     node: &mut Handle,
@@ -65,10 +64,73 @@ pub fn produce<B: BoardName + Unnamed>(
     requires node { IfSome node.old.object (λ _. node.old.table ≡ B.table) }
     requires caller { IfSome caller.old.object (λ _. caller.old.table ≡ B.table) }
     ensures called { PairCalled (BadBytes (length bytes.now)) node.old.object node.new.object caller.old.object caller.new.object result (Produces bytes.now) }
+    ensures fits { OnOk result (FitsBatch (length bytes.now)) }
     ensures cluster { (node.new.table ≡ node.old.table) × (caller.new.table ≡ caller.old.table) }
 {
-    let copy = copied_by::<B>(alloc, caller, bytes)?;
-    produce_handed::<B>(alloc, node, caller, copy)
+    let (mut first, mut second) = take_two::<B>(alloc, node, caller)?;
+    let answer = produce_objects(&mut first, &mut second, bytes);
+    put(node, first);
+    put(caller, second);
+    answer
+}
+
+// The handle's bytes are shared.
+fn produce_share<B: BoardName, C: BoardName + Unnamed>(
+    alloc: Global,
+    node: &mut Node<B>,
+    pass: &mut Pass<B>,
+    held: &mut Handle,
+) -> Called<Receipt>
+    requires { IfSome held.old.object (λ _. held.old.table ≡ C.table) }
+    ensures made { IfOk result (λ answer. (bytes : List ℕ) × (held.old.object ≡ Some (handed bytes)) × Produces bytes node.old node.new pass.old pass.new answer) }
+    ensures same { OnErr result ((node.new ≡ node.old) × (pass.new ≡ pass.old)) }
+    ensures only { IfErr result (BadShare held.old.object) }
+    ensures held { held.new.object ≡ held.old.object }
+{
+    let bytes = shared::<C>(alloc, held)?;
+    Ok(node.produce(pass, bytes))
+}
+
+fn produce_shared<B: BoardName, C: BoardName + Unnamed>(
+    alloc: Global,
+    one: &mut Object<B>,
+    other: &mut Object<B>,
+    held: &mut Handle,
+) -> Called<Receipt>
+    requires { IfSome held.old.object (λ _. held.old.table ≡ C.table) }
+    ensures called { HandedCalled held.old.object (Some one.old) (Some one.new) (Some other.old) (Some other.new) result }
+    ensures same { held.new.object ≡ held.old.object }
+{
+    match &mut one.kind {
+        Kind::Node(node) => match &mut other.kind {
+            Kind::Caller(caller) => produce_share::<B, C>(alloc, node, &mut caller.pass, held),
+            _ => Err(Misuse::OtherKind),
+        },
+        _ => Err(Misuse::OtherKind),
+    }
+}
+
+/// Hands the node the batch that the bytes in the third handle are, which it holds on, as by `Node::produce`. They may be of another board.
+/// Closed, OtherKind, NoRoom.
+#[tactic(auto, using(crate::proofs::Bad::handed_called, crate::proofs::Bad::handed_closed))]
+pub fn produce_handed<B: BoardName + Unnamed, C: BoardName + Unnamed>(
+    alloc: Global,
+    node: &mut Handle,
+    caller: &mut Handle,
+    held: &mut Handle,
+) -> Called<Receipt>
+    requires node { IfSome node.old.object (λ _. node.old.table ≡ B.table) }
+    requires caller { IfSome caller.old.object (λ _. caller.old.table ≡ B.table) }
+    requires held { IfSome held.old.object (λ _. held.old.table ≡ C.table) }
+    ensures called { HandedCalled held.old.object node.old.object node.new.object caller.old.object caller.new.object result }
+    ensures same { held.new.object ≡ held.old.object }
+    ensures cluster { (node.new.table ≡ node.old.table) × (caller.new.table ≡ caller.old.table) }
+{
+    let (mut first, mut second) = take_two::<B>(alloc, node, caller)?;
+    let answer = produce_shared::<B, C>(alloc, &mut first, &mut second, held);
+    put(node, first);
+    put(caller, second);
+    answer
 }
 
 fn mark_objects<B: BoardName>(
@@ -76,7 +138,7 @@ fn mark_objects<B: BoardName>(
     other: &mut Object<B>,
     marker: &HandedMarker,
 ) -> Called<Receipt>
-    ensures { PairMet one.old one.new other.old other.new result (Marks marker.now.marker) }
+    ensures { PairMet NoReason one.old one.new other.old other.new result (Marks marker.now.marker) }
 {
     match &mut one.kind {
         Kind::Node(node) => match &mut other.kind {
@@ -88,7 +150,7 @@ fn mark_objects<B: BoardName>(
 }
 
 /// Hands the node a transaction's marker, as `Node::mark` does.
-#[tactic(auto, using(crate::proofs::Bad::pair_closed, crate::proofs::Bad::pair_kind))]
+#[tactic(auto, using(crate::proofs::Bad::pair_closed, crate::proofs::Bad::pair_bad))]
 fn mark<B: BoardName + Unnamed>(
     alloc: Global,
     node: &mut Handle,
@@ -141,7 +203,7 @@ fn acked_objects<B: BoardName>(
     other: &mut Object<B>,
     receipt: &Receipt,
 ) -> Called<Ack>
-    ensures { PairMet one.old one.new other.old other.new result (Acks receipt.now) }
+    ensures { PairMet NoReason one.old one.new other.old other.new result (Acks receipt.now) }
 {
     match &mut one.kind {
         Kind::Node(node) => match &mut other.kind {
@@ -153,7 +215,7 @@ fn acked_objects<B: BoardName>(
 }
 
 /// Whether the receipt's batch is committed, as by `Node::acked`. Closed, OtherKind.
-#[tactic(auto, using(crate::proofs::Bad::pair_closed, crate::proofs::Bad::pair_kind))]
+#[tactic(auto, using(crate::proofs::Bad::pair_closed, crate::proofs::Bad::pair_bad))]
 pub fn acked<B: BoardName + Unnamed>(
     alloc: Global,
     node: &mut Handle,

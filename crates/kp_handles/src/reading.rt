@@ -1,14 +1,14 @@
 //! What a node tells a caller of what is committed.
 
 ghost use Rattle.std.specs.Prelude.{◌≡◌, IfSome};
-ghost use Rattle.kp_handles.specs.Called.{PairMet};
-ghost use Rattle.kp_handles.specs.PairCalls.{ReadsCommitted};
-ghost use Rattle.kp_handles.specs.Reading.{CommittedCalled, ReadCalled, ReadsVec};
+ghost use Rattle.kp_handles.specs.Objects.{batches, records};
+ghost use Rattle.kp_handles.specs.PairCalls.{Reads, ReadsCommitted, listed};
+ghost use Rattle.kp_handles.specs.Reading.{CommittedCalled, GiveMet, ReadCalled};
 
-use crate::handle::{Handle, Unnamed, fill, is_open, put, take_two};
+use crate::handle::{Handle, Unnamed, is_open, put, take_two};
 use crate::misuse::Misuse;
 use crate::nodes::Called;
-use crate::object::{Kind, Object, room};
+use crate::object::{Kind, Object, filled, room};
 use kp_batch::Batch;
 use kp_board::{BoardName, Pass};
 use kp_node::Node;
@@ -16,16 +16,37 @@ use kp_types::{Offset, Refusal};
 use kp_visible::ReadRecords;
 use std::alloc::Global;
 
+#[tactic(auto, using(crate::proofs::ReadCauses::reads_as))]
+fn read_by<B: BoardName>(
+    node: &mut Node<B>,
+    pass: &mut Pass<B>,
+    from: Offset,
+) -> Result<Vec<Batch>, Refusal>
+    ensures { Reads from node.old node.new pass.old pass.new (listed result) }
+{
+    node.read(pass, from)
+}
+
 fn read_objects<B: BoardName>(
+    alloc: Global,
     one: &mut Object<B>,
     other: &mut Object<B>,
     from: Offset,
-) -> Called<Vec<Batch>>
-    ensures { PairMet one.old one.new other.old other.new result (ReadsVec from) }
+) -> Called<Box<Object<B>>>
+    ensures { GiveMet batches (Reads from) one.old one.new other.old other.new result }
 {
     match &mut one.kind {
         Kind::Node(node) => match &mut other.kind {
-            Kind::Caller(caller) => Ok(node.read(&mut caller.pass, from)),
+            Kind::Caller(caller) => {
+                let made = room::<B>(alloc)?;
+                match read_by(node, &mut caller.pass, from) {
+                    Ok(found) => {
+                        let kind = Kind::Batches(found);
+                        Ok(Ok(filled(made, Object { kind })))
+                    }
+                    Err(refusal) => Ok(Err(refusal)),
+                }
+            }
             _ => Err(Misuse::OtherKind),
         },
         _ => Err(Misuse::OtherKind),
@@ -33,7 +54,7 @@ fn read_objects<B: BoardName>(
 }
 
 /// Reads committed batches, as by `Node::read`, and puts them into a closed handle. InUse, Closed, OtherKind, NoRoom.
-#[tactic(auto, using(crate::proofs::Bad::pair_closed, crate::proofs::Bad::pair_kind, crate::proofs::Bad::out_closed, crate::proofs::Bad::out_kind))]
+#[tactic(auto, using(crate::proofs::Bad::pair_closed, crate::proofs::Bad::give_bad))]
 pub fn read<B: BoardName + Unnamed>(
     alloc: Global,
     node: &mut Handle,
@@ -49,20 +70,13 @@ pub fn read<B: BoardName + Unnamed>(
     if is_open(out) {
         return Err(Misuse::InUse);
     }
-    let made = room::<B>(alloc)?;
     let (mut first, mut second) = take_two::<B>(alloc, node, caller)?;
-    let answer = read_objects(&mut first, &mut second, from);
+    let answer = read_objects(alloc, &mut first, &mut second, from);
     put(node, first);
     put(caller, second);
     match answer {
-        Ok(Ok(batches)) => {
-            fill(
-                out,
-                made,
-                Object {
-                    kind: Kind::Batches(batches),
-                },
-            );
+        Ok(Ok(made)) => {
+            put(out, made);
             Ok(Ok(()))
         }
         Ok(Err(refusal)) => Ok(Err(refusal)),
@@ -82,15 +96,25 @@ fn committed_by<B: BoardName>(
 }
 
 fn committed_objects<B: BoardName>(
+    alloc: Global,
     one: &mut Object<B>,
     other: &mut Object<B>,
     from: Offset,
-) -> Called<ReadRecords>
-    ensures { PairMet one.old one.new other.old other.new result (ReadsCommitted from) }
+) -> Called<Box<Object<B>>>
+    ensures { GiveMet records (ReadsCommitted from) one.old one.new other.old other.new result }
 {
     match &mut one.kind {
         Kind::Node(node) => match &mut other.kind {
-            Kind::Caller(caller) => Ok(committed_by(node, &mut caller.pass, from)),
+            Kind::Caller(caller) => {
+                let made = room::<B>(alloc)?;
+                match committed_by(node, &mut caller.pass, from) {
+                    Ok(found) => {
+                        let kind = Kind::Records(found);
+                        Ok(Ok(filled(made, Object { kind })))
+                    }
+                    Err(refusal) => Ok(Err(refusal)),
+                }
+            }
             _ => Err(Misuse::OtherKind),
         },
         _ => Err(Misuse::OtherKind),
@@ -99,7 +123,7 @@ fn committed_objects<B: BoardName>(
 
 /// Reads the records that a read-committed consumer gets, as by `Node::committed`, and puts them into a closed handle. InUse, Closed,
 /// OtherKind, NoRoom.
-#[tactic(auto, using(crate::proofs::Bad::pair_closed, crate::proofs::Bad::pair_kind, crate::proofs::Bad::out_closed, crate::proofs::Bad::out_kind))]
+#[tactic(auto, using(crate::proofs::Bad::pair_closed, crate::proofs::Bad::give_bad))]
 pub fn read_committed<B: BoardName + Unnamed>(
     alloc: Global,
     node: &mut Handle,
@@ -115,20 +139,13 @@ pub fn read_committed<B: BoardName + Unnamed>(
     if is_open(out) {
         return Err(Misuse::InUse);
     }
-    let made = room::<B>(alloc)?;
     let (mut first, mut second) = take_two::<B>(alloc, node, caller)?;
-    let answer = committed_objects(&mut first, &mut second, from);
+    let answer = committed_objects(alloc, &mut first, &mut second, from);
     put(node, first);
     put(caller, second);
     match answer {
-        Ok(Ok(records)) => {
-            fill(
-                out,
-                made,
-                Object {
-                    kind: Kind::Records(records),
-                },
-            );
+        Ok(Ok(made)) => {
+            put(out, made);
             Ok(Ok(()))
         }
         Ok(Err(refusal)) => Ok(Err(refusal)),

@@ -5,11 +5,11 @@ ghost use Rattle.kp_types.specs.declared.refusal.Refusal.TheVariants.{Memory};
 ghost use Rattle.kp_segment.specs.Runs.{AreRunsOf};
 ghost use Rattle.kp_handles.specs.Segments.{GivesSegment, SegmentCalled, SegmentMet, SegmentsCalled, SegmentsMet};
 
-use crate::handle::{Handle, Unnamed, fill, is_open, put, take};
+use crate::handle::{Handle, Unnamed, is_open, put, take};
 use crate::holding::copy_front;
 use crate::misuse::Misuse;
 use crate::nodes::Called;
-use crate::object::{Kind, Object, room};
+use crate::object::{Kind, Object, filled, room};
 use kp_batch::{Batch, share_all};
 use kp_board::BoardName;
 use kp_log::PartitionLog;
@@ -48,18 +48,27 @@ fn shares_of(alloc: Global, log: &PartitionLog) -> Result<Vec<SegmentShare>, Ref
     Ok(shares)
 }
 
-fn shares_object<B: BoardName>(alloc: Global, object: &Object<B>) -> Called<Vec<SegmentShare>>
+fn shares_object<B: BoardName>(alloc: Global, object: &Object<B>) -> Called<Box<Object<B>>>
     ensures { SegmentsMet object.now result }
 {
     match &object.kind {
-        Kind::Node(node) => Ok(shares_of(alloc, node.log())),
+        Kind::Node(node) => {
+            let made = room::<B>(alloc)?;
+            match shares_of(alloc, node.log()) {
+                Ok(shares) => {
+                    let kind = Kind::Segments(shares);
+                    Ok(Ok(filled(made, Object { kind })))
+                }
+                Err(refusal) => Ok(Err(refusal)),
+            }
+        }
         _ => Err(Misuse::OtherKind),
     }
 }
 
 /// Puts the node's log as segments, with shares of all its batches, into a closed handle. F33; InUse, Closed, OtherKind, NoRoom.
 /// O(batches).
-#[tactic(auto, using(crate::proofs::Bad::node_closed, crate::proofs::Bad::node_kind, crate::proofs::Bad::out_closed, crate::proofs::Bad::out_kind))]
+#[tactic(auto, using(crate::proofs::Bad::node_closed, crate::proofs::Bad::node_bad))]
 pub fn segments_of<B: BoardName + Unnamed>(
     alloc: Global,
     node: &mut Handle,
@@ -72,19 +81,12 @@ pub fn segments_of<B: BoardName + Unnamed>(
     if is_open(out) {
         return Err(Misuse::InUse);
     }
-    let made = room::<B>(alloc)?;
     let object = take::<B>(alloc, node)?;
     let answer = shares_object(alloc, &object);
     put(node, object);
     match answer {
-        Ok(Ok(shares)) => {
-            fill(
-                out,
-                made,
-                Object {
-                    kind: Kind::Segments(shares),
-                },
-            );
+        Ok(Ok(made)) => {
+            put(out, made);
             Ok(Ok(()))
         }
         Ok(Err(refusal)) => Ok(Err(refusal)),
@@ -92,27 +94,34 @@ pub fn segments_of<B: BoardName + Unnamed>(
     }
 }
 
-// Writes the name of the segment's file to the front of the place, and answers shares of the segment's batches.
-fn given(alloc: Global, share: &SegmentShare, to: &mut [u8]) -> Called<Vec<Batch>>
+// Shares of the segment's batches, once the name of its file is known to fit.
+fn given<B: BoardName>(alloc: Global, share: &SegmentShare, to: &mut [u8]) -> Called<Box<Object<B>>>
     ensures { GivesSegment share.now to.old to.new result }
 {
-    let batches = match share_all(alloc, &share.batches) {
-        Ok(batches) => batches,
-        Err(refusal) => return Ok(Err(refusal)),
-    };
     let Ok(text) = format!(in alloc; "{}", share.name) else {
         return Ok(Err(Refusal::Memory));
     };
-    copy_front(text.as_bytes(), to)?;
-    Ok(Ok(batches))
+    if to.len() < text.as_bytes().len() {
+        return Err(Misuse::BadLength);
+    }
+    let made = room::<B>(alloc)?;
+    match share_all(alloc, &share.batches) {
+        Ok(batches) => {
+            copy_front(text.as_bytes(), to)?;
+            let kind = Kind::Batches(batches);
+            Ok(Ok(filled(made, Object { kind })))
+        }
+        Err(refusal) => Ok(Err(refusal)),
+    }
 }
 
+#[tactic(auto, using(crate::proofs::Bad::segment_name_bad))]
 fn segment_object<B: BoardName>(
     alloc: Global,
     object: &Object<B>,
     index: usize,
     to: &mut [u8],
-) -> Called<Vec<Batch>>
+) -> Called<Box<Object<B>>>
     ensures { SegmentMet object.now index to.old to.new result }
 {
     match &object.kind {
@@ -126,7 +135,7 @@ fn segment_object<B: BoardName>(
 
 /// Writes the name of the file of the segment at this index, 24 bytes, and puts the segment's batches into a closed handle. F33; InUse,
 /// Closed, OtherKind, OutOfRange, NoRoom; BadLength where the name doesn't fit. O(its batches).
-#[tactic(auto, using(crate::proofs::Bad::segment_closed, crate::proofs::Bad::segment_kind))]
+#[tactic(auto, using(crate::proofs::Bad::segment_closed, crate::proofs::Bad::segment_bad))]
 pub fn segment<B: BoardName + Unnamed>(
     alloc: Global,
     handle: &mut Handle,
@@ -141,19 +150,12 @@ pub fn segment<B: BoardName + Unnamed>(
     if is_open(out) {
         return Err(Misuse::InUse);
     }
-    let made = room::<B>(alloc)?;
     let object = take::<B>(alloc, handle)?;
     let answer = segment_object(alloc, &object, index, to);
     put(handle, object);
     match answer {
-        Ok(Ok(batches)) => {
-            fill(
-                out,
-                made,
-                Object {
-                    kind: Kind::Batches(batches),
-                },
-            );
+        Ok(Ok(made)) => {
+            put(out, made);
             Ok(Ok(()))
         }
         Ok(Err(refusal)) => Ok(Err(refusal)),

@@ -1,4 +1,3 @@
-use Rattle.std.proofs.Common.{rules}
 use Rattle.kp_handles.proofs.Names.{of_misuse}
 use Rattle.kp_handles.proofs.numbers.name_of.Goals as goal
 
