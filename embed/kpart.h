@@ -7,10 +7,8 @@
  * meet its contract, which stands in crates/kp_embed/src/ and speaks of what the handles hold, before and after.
  * At each function stands the word of the contract that carries it (crates/kp_handles/specs/), and the call of kp_node or
  * kp_board whose clauses that word repeats. Also proved: a handle is Send, so it may go from thread to thread.
- * WHAT IS NOT PROVED. That callers keep the duties below; that malloc, realloc and free do what C says; the C compiler and
- * linker. Of the numbers from 65 on it is proved that each comes only where what it says is so, but for KP_NO_ROOM, of which it
- * is proved only that nothing has changed. Where several are so, any of them may be answered. What a call writes through a
- * parameter is written at KP_DONE alone, but for `place` of a receipt; else it is as it was.
+ * WHAT IS NOT PROVED. That callers keep the duties below; that malloc, realloc and free do what C says; that a call which says
+ * KP_NO_ROOM or KP_MEMORY was refused memory, and that kp_close gives all back (both are tested); the C compiler and linker.
  * The layer's own unsafe lines are two, in crates/kp_handles: `Box::from_raw` in src/loose.rt, and `unsafe impl Send for
  * Handle` in src/handle.rt. Both are proved, as are the casts of a box's pointer there (proofs/handle, proofs/loose).
  *
@@ -28,11 +26,16 @@
  *  5. No call is made from a signal handler, nor in the forked child of a process with threads.
  *  6. malloc and realloc align a block to each power of two up to 16 that divides its size.
  *
- * WHAT IS TESTED and answered by a number: a closed handle where an open one is wanted, so also a handle that was used after
- * its close, and a second close (KP_CLOSED); a handle that holds something else (KP_OTHER_KIND); an open handle where a
- * closed one is wanted (KP_IN_USE); a number above its greatest (KP_OUT_OF_RANGE); a length above the greatest, or too small
- * (KP_BAD_LENGTH); memory that was refused (KP_NO_ROOM, and KP_MEMORY from a log). After each of these but KP_MEMORY nothing
- * has changed. For the refusals 1 to 34 see docs/RULES.md; after one a call has done what its contract says.
+ * WHAT A CALL LOOKS AT FIRST, and answers by a number: a closed handle where an open one is wanted, so also a handle that was used
+ * after its close, and a second close (KP_CLOSED); an open handle that holds something else (KP_OTHER_KIND); an open handle where
+ * a closed one is wanted (KP_IN_USE); a number above its greatest (KP_OUT_OF_RANGE); a length above the greatest, or too small
+ * (KP_BAD_LENGTH). Each comes only where what it says is so; where several are so, any of them may be answered. KP_NO_ROOM, that
+ * the memory of a handle was refused, comes only where none of them is so. After each of these six nothing has changed.
+ * KP_MEMORY is a refusal, as 1 to 34 are: docs/RULES.md has them, and after one a call has done what its contract says.
+ *
+ * WHAT A CALL WRITES through a parameter is written at KP_DONE alone, but for `place` of a receipt: kp_produce, kp_produce_handed
+ * and kp_mark also write it after a refusal, and then nothing else of the receipt: at 8 where the record begins in the batch, at any
+ * other one 0. After a number from 65 on no parameter has changed.
  */
 #ifndef KPART_H
 #define KPART_H
@@ -77,16 +80,16 @@ typedef struct {
     uint32_t max_batch;      /* the most of a batch */
 } kp_limits;
 
-/* Opens a board of 0 to 7 nodes, at the start of a run. KP_OUT_OF_RANGE above 7, KP_IN_USE, KP_NO_ROOM.
+/* Opens a board of 0 to 7 nodes, at the start of a run. KP_OUT_OF_RANGE above 7, KP_IN_USE, KP_NO_ROOM (`BadBoard`).
  * Proved: `IsCluster` (kp_board's `Opened::new`, `Board::new`). */
 uint32_t kp_open(kp_handle *cluster, uint8_t nodes, const kp_limits *limits);
 
 /* Opens the cluster's next node, 0 first, up and idle with an empty log. KP_OUT_OF_RANGE where all are open.
- * Proved: `OpensNode` (`Node::new`). */
+ * Proved: `OpensNode` (`Node::new`), `BadNodeOpening`. */
 uint32_t kp_open_node(kp_handle *cluster, kp_handle *node);
 
 /* Opens a pass: what a client or the controller calls with, one for each that calls at the same time. It has seen nothing.
- * Proved: `OpensCaller` (`Board::pass`). */
+ * Proved: `OpensCaller` (`Board::pass`), `BadCallerOpening`. */
 uint32_t kp_open_pass(kp_handle *cluster, kp_handle *pass);
 
 /* Closes a handle and frees what it holds; what its cluster shares stays until the last of its handles is closed. KP_CLOSED
@@ -112,6 +115,11 @@ uint32_t kp_record(kp_handle *pass, kp_record_out *found);
 /* A high watermark that the node had. KP_OUT_OF_RANGE where the cluster has no such node.
  * Proved: `CallerCalled`, `LearnsMark` (`Board::watermark`). */
 uint32_t kp_watermark(kp_handle *pass, uint8_t node, uint64_t *offset);
+
+/* One pass takes over the receipts that another one has, which keeps them, too: what kp_acked promises of the receipts of its pass, it
+ * promises then of these, so hand receipts on with it. A pass has those that its own calls gave, and those that it was told of. Memory:
+ * none. Proved: `ReceiptsTold` (`Board::tell_receipts`). */
+uint32_t kp_tell_receipts(kp_handle *from, kp_handle *to);
 
 /* ---- a node alone */
 
@@ -148,21 +156,21 @@ uint32_t kp_restart(kp_handle *node, kp_restarted *restarted);
 typedef struct {
     uint64_t base;   /* the offset of the batch's first record */
     uint64_t last;   /* of its last record */
-    uint64_t place;  /* after a refusal 8: where the record begins in the batch; 0 after another one, and after none */
+    uint64_t place;  /* after a refusal 8: where the record begins in the batch; else 0 */
     uint32_t epoch;  /* its leader epoch */
     bool duplicate;  /* it had been appended before */
 } kp_receipt;
 
 /* Hands the leader the bytes of a batch as a client sends them (magic 2). They are copied once. KP_BAD_LENGTH above
  * 2,147,483,659 bytes; the refusals are those of `Replica::produce`, and 28.
- * Proved: `PairCalled`, `Produces` (`Node::produce`), `WritesReceipt`. */
+ * Proved: `PairCalled`, `Produces` (`Node::produce`), `FitsBatch`, `WritesReceipt`. */
 uint32_t kp_produce(kp_handle *node, kp_handle *pass, const uint8_t *bytes, size_t length, kp_receipt *receipt);
 
 /* The same in two calls, so that of several threads none copies bytes, or sums them up, while it has the node's lock.
  *
  * The first copies the bytes into a handle that is closed, or in place of those that it holds, and tests them: it needs no lock.
- * KP_BAD_LENGTH as above; KP_IN_USE where the handle holds something else. Proved: `BadHand` (`Handed::tested`), and that the
- * handle holds these bytes then. */
+ * KP_BAD_LENGTH as above; KP_IN_USE where the handle holds something else. Proved: `BadHand`, `FitsBatch` (`Handed::tested`), and
+ * that the handle holds these bytes then. */
 uint32_t kp_hand(kp_handle *handed, const uint8_t *bytes, size_t length);
 
 /* The second hands the leader the bytes that the handle holds, which it holds on. Proved: `HandedCalled`, `WritesReceipt`. */
@@ -177,13 +185,14 @@ typedef struct {
 } kp_marker;
 
 /* Hands the leader a transaction's marker. KP_OUT_OF_RANGE for a field out of its range; the refusals of `Replica::mark`, and
- * 28. Proved: `PairCalled`, `Marks` (`Node::mark`). */
+ * 28. Proved: `PairCalled`, `Marks` (`Node::mark`), `WritesReceipt`. */
 uint32_t kp_mark(kp_handle *node, kp_handle *pass, const kp_marker *marker, kp_receipt *receipt);
 
 enum { KP_NOT_YET = 0, KP_COMMITTED = 1, KP_LOST = 2 };
 
 /* Whether a receipt's batch is committed, by this node: KP_NOT_YET, KP_COMMITTED, or KP_LOST where another batch is committed
- * in its place. 28. Proved: `PairCalled`, `Acks` (`Node::acked`). */
+ * in its place. At KP_COMMITTED the batch of a receipt that the pass has (kp_tell_receipts) stands for good in the one committed list: of
+ * another one's receipt only that a batch of its offset and epoch does. 28. Proved: `PairCalled`, `Acks` (`Node::acked`). */
 uint32_t kp_acked(kp_handle *node, kp_handle *pass, const kp_receipt *receipt, uint32_t *ack);
 
 /* Reads committed batches from an offset on into a closed handle, which shares their bytes: as many as fit into 1,048,576

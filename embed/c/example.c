@@ -258,6 +258,7 @@ int main(void) {
     kp_restarted restarted;
     has_file(&nodes[0].node, CLIENTS * BATCHES + 1); /* also while it is down */
     wants("restart", kp_restart(&nodes[0].node, &restarted), KP_DONE);
+    holds("in its second life", restarted.life == 1);
     holds("at its checkpoint", restarted.watermark == CLIENTS * BATCHES && restarted.end == CLIENTS * BATCHES + 1);
 
     kp_role role;

@@ -116,6 +116,30 @@ impl Pass {
         self.raw.watermark(node)
     }
 
+    /// Takes over the receipts that another caller's pass has, which keeps them, too. What [`Node::acked`] promises of the receipts of its
+    /// pass, it promises then of these: hand a receipt on with the pass that it came to. [`Error::OtherCluster`]. O(1), and no lock.
+    ///
+    /// ```
+    /// use kpart::{Ack, Cluster, Limits};
+    ///
+    /// # fn main() -> Result<(), kpart::Error> {
+    /// let cluster = Cluster::open(1, Limits::default())?;
+    /// let (mut producer, mut consumer) = (cluster.pass()?, cluster.pass()?);
+    /// producer.elect(0)?;
+    /// let batch = include_bytes!(concat!(env!("CARGO_MANIFEST_DIR"), "/tests/one_record.batch"));
+    ///
+    /// let mut leader = cluster.node(0)?;
+    /// leader.adopt()?;
+    /// let receipt = leader.produce(&mut producer, batch)?;
+    /// leader.raise()?;
+    /// consumer.take_receipts(&mut producer)?;
+    /// assert_eq!(leader.acked(&mut consumer, &receipt)?, Ack::Yes);
+    /// # Ok(()) }
+    /// ```
+    pub fn take_receipts(&mut self, from: &mut Pass) -> Result<(), Error> {
+        self.raw.take_receipts(&mut from.raw)
+    }
+
     /// What the controller decides on a proposal ([`Node::alter`]): hand it to the node that it goes to. F24 where versions are used
     /// up; F29 where the message is no proposal. The message is spent in any case. O(1), and no lock.
     pub fn decide(&mut self, proposal: Message) -> Result<Message, Error> {

@@ -97,6 +97,7 @@ unsafe extern "C" {
     fn kp_record(pass: &mut Handle, found: &mut RecordOut) -> u32;
     fn kp_watermark(pass: &mut Handle, node: u8, offset: &mut u64) -> u32;
     fn kp_decide(pass: &mut Handle, message: &mut Handle) -> u32;
+    fn kp_tell_receipts(from: &mut Handle, to: &mut Handle) -> u32;
 
     fn kp_adopt(node: &mut Handle, role: &mut RoleOut) -> u32;
     fn kp_raise(node: &mut Handle, offset: &mut u64) -> u32;
@@ -263,6 +264,13 @@ impl RawPass {
         // SAFETY: the handle is the library's.
         answered(unsafe { kp_watermark(&mut self.handle, node, &mut offset) })?;
         Ok(offset)
+    }
+
+    /// Another pass's receipts.
+    pub(crate) fn take_receipts(&mut self, from: &mut RawPass) -> Result<(), Error> {
+        of_one(self.cluster, from.cluster)?;
+        // SAFETY: both handles are the library's, and of one cluster.
+        answered(unsafe { kp_tell_receipts(&mut from.handle, &mut self.handle) })
     }
 
     /// The decision on a proposal.

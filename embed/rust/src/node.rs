@@ -11,8 +11,8 @@ use crate::segments::Segments;
 use crate::values::{Ack, Change, Marker, Receipt, Restarted, Role};
 use std::sync::MutexGuard;
 
-/// A node, as long as its lock is held: drop it to let others in. Each call is one event of the run; a node that is down refuses all
-/// but [`Node::restart`] by F28.
+/// A node, as long as its lock is held: drop it to let others in. Each call is an event of the run, or none, as a read; a node that is
+/// down refuses all but [`Node::restart`] by F28.
 #[derive(Debug)]
 pub struct Node<'a> {
     number: u8,
@@ -98,8 +98,9 @@ impl<'a> Node<'a> {
         self.raw.mark(&mut pass.raw, &MarkerIn::from(marker)).map(Receipt::from)
     }
 
-    /// Whether the receipt's batch is committed, as far as this node knows. At [`Ack::Yes`] it stands in the one committed list, and
-    /// in every list that is read later, at any node. O(log n) in the log, and no memory.
+    /// Whether the receipt's batch is committed, as far as this node knows. At [`Ack::Yes`] the batch of a receipt that the pass has, from
+    /// its own calls or by [`Pass::take_receipts`], stands in the one committed list for good: each read at any node gives a piece of that
+    /// list, up to the node's high watermark. O(log n) in the log, and no memory.
     pub fn acked(&mut self, pass: &mut Pass, receipt: &Receipt) -> Result<Ack, Error> {
         Ok(match self.raw.acked(&mut pass.raw, &ReceiptOut::from(receipt))? {
             1 => Ack::Yes,

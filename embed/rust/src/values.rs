@@ -67,7 +67,7 @@ pub struct Receipt {
 /// Whether a receipt's batch is committed.
 #[derive(Clone, Copy, Debug, PartialEq, Eq)]
 pub enum Ack {
-    /// It stands in the committed list, for good.
+    /// It stands in the committed list, for good; the pass that asks has to have the receipt.
     Yes,
     /// Another batch stands in its place, for good. Hand it in again.
     Lost,

@@ -86,7 +86,8 @@ fn a_batch_is_copied_before_a_node_gets_it() -> Done {
     batch.set(&ONE_RECORD[..60])?;
     assert_eq!(cluster.node(0)?.produce_batch(&mut pass, &mut batch), Err(Refusal::Truncated.into()));
     batch.set(TRANSACTION)?;
-    assert_eq!(cluster.node(0)?.produce_batch(&mut pass, &mut batch)?.last, 3);
+    let receipt = cluster.node(0)?.produce_batch(&mut pass, &mut batch)?;
+    assert_eq!((receipt.base, receipt.last, receipt.duplicate), (2, 3, false)); // two records
     assert!(cluster.node(0)?.produce_batch(&mut pass, &mut batch)?.duplicate); // the same sequence numbers again
     Ok(())
 }
@@ -149,15 +150,33 @@ fn in_sync_changes_go_by_the_controller() -> Done {
 #[test]
 fn a_node_stops_and_starts() -> Done {
     let (cluster, mut pass) = led(1)?;
-    cluster.node(0)?.produce(&mut pass, ONE_RECORD)?;
+    cluster.node(0)?.produce(&mut pass, TRANSACTION)?;
     cluster.node(0)?.raise()?;
-    assert_eq!(cluster.node(0)?.checkpoint()?, 1);
+    assert_eq!(cluster.node(0)?.checkpoint()?, 2);
+    cluster.node(0)?.produce(&mut pass, ONE_RECORD)?;
     cluster.node(0)?.stop()?;
     assert_eq!(cluster.node(0)?.read(&mut pass, 0).err(), Some(Refusal::Down.into()));
+    assert_eq!(cluster.node(0)?.read_committed(&mut pass, 0).err(), Some(Refusal::Down.into()));
     let restarted = cluster.node(0)?.restart()?;
-    assert_eq!((restarted.life, restarted.end, restarted.watermark), (1, 1, 1));
+    assert_eq!((restarted.life, restarted.end, restarted.watermark), (1, 3, 2));
     assert_eq!(cluster.node(0)?.adopt(), Err(Refusal::StaleRecord.into())); // it has to be elected anew
     assert_eq!(cluster.node(0)?.produce(&mut pass, ONE_RECORD), Err(Refusal::NotLeader.into()));
+    Ok(())
+}
+
+#[test]
+fn records_and_roles_have_their_fields() -> Done {
+    let (cluster, mut pass) = opened(3)?;
+    pass.elect(1)?;
+    let wanted = Record { version: 2, leader: Some((2, 1)), in_sync: [true, true, true, false, false, false, false] };
+    assert_eq!((pass.elect(2)?, pass.record()?), (wanted, wanted));
+    assert_eq!(cluster.node(0)?.adopt()?, Role::Follows { leader: 2, epoch: 1 });
+    cluster.node(2)?.adopt()?;
+    for _ in 0..5 {
+        cluster.node(2)?.produce(&mut pass, ONE_RECORD)?;
+    }
+    pass.elect(2)?;
+    assert_eq!(cluster.node(2)?.adopt()?, Role::Leads { epoch: 2, start: 5 });
     Ok(())
 }
 

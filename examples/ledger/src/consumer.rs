@@ -2,6 +2,7 @@
 
 use crate::clock::{Clock, Fault};
 use crate::payment::Entry;
+use crate::producer::Last;
 use kpart::{Ack, Cluster, CommittedRecord, Error, Pass, Receipt, Refusal};
 use std::collections::{BTreeMap, HashMap};
 use std::sync::mpsc::Receiver;
@@ -11,7 +12,7 @@ pub struct Consumer {
     pass: Pass,
     clock: Clock,
     next: u64,
-    // Of each producer that is done, the receipt of its last marker.
+    // Of each producer that is done, the receipt of its last marker, which the consumer's pass has taken over.
     last: Vec<Receipt>,
     /// By account.
     pub balances: BTreeMap<u32, i64>,
@@ -26,10 +27,13 @@ impl Consumer {
     }
 
     /// Reads from the nodes by turns until so many producers are done, and a node has given all that they did.
-    pub fn run(mut self, producers: u64, done: &Receiver<Receipt>) -> Result<Consumer, Fault> {
+    pub fn run(mut self, producers: u64, done: &Receiver<Last>) -> Result<Consumer, Fault> {
         let mut number = 0;
         loop {
-            self.last.extend(done.try_iter());
+            for mut last in done.try_iter() {
+                self.pass.take_receipts(&mut last.pass)?;
+                self.last.push(last.receipt);
+            }
             let all = self.last.len() as u64 == producers;
             if self.read_from(number)? && all {
                 return Ok(self);

@@ -20,6 +20,12 @@ pub struct Paid {
     pub retries: u64,
 }
 
+/// The receipt of a producer's last marker, and the pass that has it.
+pub struct Last {
+    pub receipt: Receipt,
+    pub pass: Pass,
+}
+
 pub struct Producer {
     cluster: Cluster,
     pass: Pass,
@@ -35,18 +41,21 @@ impl Producer {
         Ok(Producer { cluster, pass, clock, id, sequence: 0, retries: 0 })
     }
 
-    /// Makes so many payments one after another, counts each one that is acknowledged, and tells the last marker's receipt.
-    pub fn run(mut self, payments: u64, acknowledged: &AtomicU64, done: &Sender<Receipt>) -> Result<Vec<Paid>, Fault> {
+    /// Makes so many payments one after another, counts each one that is acknowledged, and in the end hands on the last marker's receipt,
+    /// with the pass that has it.
+    pub fn run(mut self, payments: u64, acknowledged: &AtomicU64, done: &Sender<Last>) -> Result<Vec<Paid>, Fault> {
         let mut paid = Vec::new();
+        let mut last = None;
         for number in 0..payments {
             let payment = Payment::made_up(self.id, number);
             let commits = number % 5 != 4;
             let receipt = self.pay(&payment, commits)?;
             acknowledged.fetch_add(1, Ordering::Relaxed);
             paid.push(Paid { payment, commits, retries: std::mem::take(&mut self.retries) });
-            if number + 1 == payments {
-                done.send(receipt).map_err(|_| "the consumer has ended")?;
-            }
+            last = Some(receipt);
+        }
+        if let Some(receipt) = last {
+            done.send(Last { receipt, pass: self.pass }).map_err(|_| "the consumer has ended")?;
         }
         Ok(paid)
     }

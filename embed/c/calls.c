@@ -1,0 +1,514 @@
+/* A test of the C face: each field of each struct by a value that no other field has, each misuse by its number, and every block of
+ * memory given back once all handles are closed. `tools/embed gate` builds and runs it:
+ *
+ *   cc -std=c11 -Wl,--wrap=malloc,--wrap=realloc,--wrap=free -Iembed embed/c/calls.c LIBRARY HEAP -o calls && ./calls embed/rust/tests
+ *
+ * The folder has the batches: one_record.batch, and transaction.batch, which is producer 12's, of epoch 0: the values 'paid' and null.
+ * The numbers that are wanted are worked out by docs/RULES.md. Only the library takes memory, so the blocks are its own.
+ */
+#include "kpart.h"
+
+#include <stdio.h>
+#include <stdlib.h>
+#include <string.h>
+
+/* ---- memory: how many blocks the library has, and whether it gets any more */
+
+static long blocks;
+static bool refuses;
+
+void *__real_malloc(size_t size);
+void *__real_realloc(void *block, size_t size);
+void __real_free(void *block);
+void *__wrap_malloc(size_t size);
+void *__wrap_realloc(void *block, size_t size);
+void __wrap_free(void *block);
+
+void *__wrap_malloc(size_t size) {
+    void *found = refuses ? NULL : __real_malloc(size);
+    blocks += found != NULL;
+    return found;
+}
+
+void *__wrap_realloc(void *block, size_t size) {
+    void *found = refuses ? NULL : __real_realloc(block, size);
+    blocks += block == NULL && found != NULL;
+    return found;
+}
+
+void __wrap_free(void *block) {
+    blocks -= block != NULL;
+    __real_free(block);
+}
+
+/* ---- what is wanted */
+
+static const char *test;
+static int wrong;
+
+static void wanted_at(int line, const char *what, unsigned long found, unsigned long wanted) {
+    if (found != wanted) {
+        printf("%s, line %d: %s is %lu, wanted %lu\n", test, line, what, found, wanted);
+        wrong++;
+    }
+}
+
+#define WANT(found, wanted) wanted_at(__LINE__, #found, (unsigned long)(found), (unsigned long)(wanted))
+
+/* ---- batches */
+
+typedef struct {
+    uint8_t bytes[128];
+    size_t size;
+} batch;
+
+static batch one_record, transaction, broken;
+
+static void load(batch *to, const char *folder, const char *name) {
+    char path[1024];
+    snprintf(path, sizeof path, "%s/%s", folder, name);
+    FILE *file = fopen(path, "rb");
+    if (!file) {
+        printf("%s isn't there\n", path);
+        exit(2);
+    }
+    to->size = fread(to->bytes, 1, sizeof to->bytes, file);
+    fclose(file);
+}
+
+/* CRC-32C */
+static uint32_t checksum(const uint8_t *bytes, size_t length) {
+    uint32_t sum = 0xffffffff;
+    for (size_t i = 0; i < length; i++) {
+        sum ^= bytes[i];
+        for (int bit = 0; bit < 8; bit++)
+            sum = (sum >> 1) ^ (0x82f63b78 & (0 - (sum & 1)));
+    }
+    return ~sum;
+}
+
+/* The one record says that it is a byte longer than it is; the checksum is right. */
+static void breaks_record(void) {
+    broken = one_record;
+    broken.bytes[61] += 2; /* a zigzag number */
+    uint32_t sum = checksum(broken.bytes + 21, broken.size - 21);
+    for (int i = 0; i < 4; i++)
+        broken.bytes[17 + i] = (uint8_t)(sum >> (24 - 8 * i));
+}
+
+/* ---- four nodes, of which node 2 leads: no bool has these numbers */
+
+enum { NODES = 4, LEADER = 2 };
+
+typedef struct {
+    kp_handle cluster, nodes[NODES], pass;
+} world;
+
+static void opens(world *w, const kp_limits *limits) {
+    *w = (world){0};
+    WANT(kp_open(&w->cluster, NODES, limits), KP_DONE);
+    for (int i = 0; i < NODES; i++)
+        WANT(kp_open_node(&w->cluster, &w->nodes[i]), KP_DONE);
+    WANT(kp_open_pass(&w->cluster, &w->pass), KP_DONE);
+}
+
+static void closes(world *w) {
+    WANT(kp_close(&w->cluster), KP_DONE);
+    for (int i = 0; i < NODES; i++)
+        WANT(kp_close(&w->nodes[i]), KP_DONE);
+    WANT(kp_close(&w->pass), KP_DONE);
+    WANT(blocks, 0);
+}
+
+static void elects(world *w) {
+    kp_record_out record;
+    kp_role role;
+    WANT(kp_elect(&w->pass, LEADER, &record), KP_DONE);
+    for (int i = 0; i < NODES; i++)
+        WANT(kp_adopt(&w->nodes[i], &role), KP_DONE);
+}
+
+static uint32_t produces(world *w, const batch *bytes, kp_receipt *receipt) {
+    return kp_produce(&w->nodes[LEADER], &w->pass, bytes->bytes, bytes->size, receipt);
+}
+
+/* Each follower fetches, and tells that it has what it fetched; then the high watermark rises to the log's end. */
+static void commits(world *w, uint64_t end) {
+    uint64_t offset = 0;
+    for (int round = 0; round < 2; round++)
+        for (int i = 0; i < NODES; i++) {
+            kp_handle message = {0};
+            if (i == LEADER)
+                continue;
+            WANT(kp_ask(&w->nodes[i], &message), KP_DONE);
+            WANT(kp_step(&w->nodes[LEADER], &message), KP_DONE);
+            WANT(kp_step(&w->nodes[i], &message), KP_DONE);
+            WANT(kp_close(&message), KP_CLOSED);
+        }
+    WANT(kp_raise(&w->nodes[LEADER], &offset), KP_DONE);
+    WANT(offset, end);
+}
+
+/* ---- fields */
+
+static const kp_limits roomy = {.segment_bytes = 1 << 20, .index_interval = 4096, .max_batch = 1 << 16};
+
+static void limits_are_in_order(void) {
+    test = "limits";
+    /* two batches of 69 bytes fit into a segment; one of 79 is too large */
+    const kp_limits limits = {.segment_bytes = 150, .index_interval = 4096, .max_batch = 78};
+    world w;
+    kp_receipt receipt;
+    opens(&w, &limits);
+    elects(&w);
+    for (int i = 0; i < 3; i++)
+        WANT(produces(&w, &one_record, &receipt), KP_DONE);
+    WANT(produces(&w, &transaction, &receipt), 9);
+    kp_handle segments = {0}, batches = {0};
+    size_t count = 0;
+    uint8_t name[KP_NAME_BYTES];
+    WANT(kp_segments(&w.nodes[LEADER], &segments), KP_DONE);
+    WANT(kp_count(&segments, &count), KP_DONE);
+    WANT(count, 2);
+    WANT(kp_segment(&segments, 1, name, sizeof name, &batches), KP_DONE);
+    WANT(memcmp(name, "00000000000000000002.log", sizeof name), 0);
+    WANT(kp_count(&batches, &count), KP_DONE);
+    WANT(count, 1);
+    WANT(kp_close(&batches), KP_DONE);
+    WANT(kp_close(&segments), KP_DONE);
+    closes(&w);
+}
+
+static void records_and_roles_are_in_order(void) {
+    test = "records and roles";
+    world w;
+    kp_record_out record = {0};
+    kp_role role = {0};
+    kp_receipt receipt;
+    opens(&w, &roomy);
+    WANT(kp_elect(&w.pass, 1, &record), KP_DONE);
+    elects(&w);
+    WANT(kp_record(&w.pass, &record), KP_DONE);
+    WANT(record.version, 2);
+    WANT(record.epoch, 1);
+    WANT(record.leader, LEADER);
+    WANT(record.elected, true);
+    for (int i = 0; i < 7; i++)
+        WANT(record.in_sync[i], i < NODES);
+    for (int i = 0; i < 5; i++)
+        WANT(produces(&w, &one_record, &receipt), KP_DONE);
+    WANT(kp_elect(&w.pass, LEADER, &record), KP_DONE);
+    WANT(kp_adopt(&w.nodes[LEADER], &role), KP_DONE);
+    WANT(role.start, 5);
+    WANT(role.epoch, 2);
+    WANT(role.leader, 0);
+    WANT(role.leads, true);
+    WANT(kp_adopt(&w.nodes[0], &role), KP_DONE);
+    WANT(role.start, 0);
+    WANT(role.epoch, 2);
+    WANT(role.leader, LEADER);
+    WANT(role.leads, false);
+    closes(&w);
+}
+
+/* Producer 12's transaction is committed. */
+static const kp_marker ends_12 = {.producer_id = 12, .timestamp = 1000, .coordinator_epoch = 3, .producer_epoch = 0, .commits = true};
+
+static void wants_receipt(const kp_receipt *found, uint64_t base, uint64_t last, uint64_t place, uint32_t epoch, bool duplicate) {
+    WANT(found->base, base);
+    WANT(found->last, last);
+    WANT(found->place, place);
+    WANT(found->epoch, epoch);
+    WANT(found->duplicate, duplicate);
+}
+
+static void receipts_are_in_order(void) {
+    test = "receipts";
+    world w;
+    const kp_receipt before = {.base = 11, .last = 12, .place = 13, .epoch = 14, .duplicate = true};
+    kp_receipt receipt = before;
+    kp_handle handed = {0};
+    kp_marker wrong_marker = ends_12;
+    wrong_marker.producer_epoch = 40000;
+    opens(&w, &roomy);
+    elects(&w);
+    for (int i = 0; i < 3; i++)
+        WANT(produces(&w, &one_record, &receipt), KP_DONE);
+    elects(&w);
+    WANT(produces(&w, &transaction, &receipt), KP_DONE);
+    wants_receipt(&receipt, 3, 4, 0, 1, false);
+    WANT(kp_hand(&handed, transaction.bytes, transaction.size), KP_DONE);
+    WANT(kp_produce_handed(&w.nodes[LEADER], &w.pass, &handed, &receipt), KP_DONE);
+    wants_receipt(&receipt, 3, 4, 0, 1, true);
+    /* after a refusal its place alone is written, and after a misuse nothing is */
+    receipt = before;
+    WANT(produces(&w, &broken, &receipt), 8);
+    wants_receipt(&receipt, 11, 12, 61, 14, true);
+    WANT(kp_produce_handed(&w.nodes[0], &w.pass, &handed, &receipt), 15);
+    wants_receipt(&receipt, 11, 12, 0, 14, true);
+    receipt = before;
+    WANT(kp_mark(&w.nodes[0], &w.pass, &ends_12, &receipt), 15);
+    wants_receipt(&receipt, 11, 12, 0, 14, true);
+    receipt = before;
+    WANT(kp_mark(&w.nodes[LEADER], &w.pass, &wrong_marker, &receipt), KP_OUT_OF_RANGE);
+    WANT(kp_produce(&w.pass, &w.cluster, broken.bytes, broken.size, &receipt), KP_OTHER_KIND);
+    wants_receipt(&receipt, 11, 12, 13, 14, true);
+    WANT(kp_mark(&w.nodes[LEADER], &w.pass, &ends_12, &receipt), KP_DONE);
+    wants_receipt(&receipt, 5, 5, 0, 1, false);
+    WANT(kp_close(&handed), KP_DONE);
+    closes(&w);
+}
+
+/* A producer's receipt, asked about by a caller of its own, who takes it over. */
+static void receipts_go_from_pass_to_pass(void) {
+    test = "receipts of others";
+    world w;
+    kp_handle other = {0};
+    kp_receipt receipt;
+    uint32_t ack = KP_LOST;
+    opens(&w, &roomy);
+    elects(&w);
+    WANT(kp_open_pass(&w.cluster, &other), KP_DONE);
+    WANT(produces(&w, &one_record, &receipt), KP_DONE);
+    refuses = true;
+    WANT(kp_tell_receipts(&w.pass, &other), KP_DONE);
+    refuses = false;
+    WANT(kp_acked(&w.nodes[LEADER], &other, &receipt, &ack), KP_DONE);
+    WANT(ack, KP_NOT_YET);
+    commits(&w, 1);
+    WANT(kp_acked(&w.nodes[LEADER], &other, &receipt, &ack), KP_DONE);
+    WANT(ack, KP_COMMITTED);
+    WANT(kp_close(&other), KP_DONE);
+    closes(&w);
+}
+
+/* The transaction stands at 3 and 4, behind three batches of no producer; its marker is at 5. */
+static void reads_are_in_order(void) {
+    test = "reads";
+    world w;
+    kp_receipt receipt;
+    kp_marker earlier = ends_12;
+    earlier.coordinator_epoch = 2;
+    opens(&w, &roomy);
+    elects(&w);
+    for (int i = 0; i < 3; i++)
+        WANT(produces(&w, &one_record, &receipt), KP_DONE);
+    WANT(produces(&w, &transaction, &receipt), KP_DONE);
+    WANT(kp_mark(&w.nodes[LEADER], &w.pass, &ends_12, &receipt), KP_DONE);
+    WANT(kp_mark(&w.nodes[LEADER], &w.pass, &earlier, &receipt), 14);
+    commits(&w, 6);
+    kp_handle batches = {0}, records = {0};
+    size_t count = 0;
+    uint32_t size = 0;
+    kp_committed_out found = {0};
+    uint8_t value[5] = "....";
+    WANT(kp_read(&w.nodes[LEADER], &w.pass, 1, &batches), KP_DONE);
+    WANT(kp_count(&batches, &count), KP_DONE);
+    WANT(count, 4);
+    WANT(kp_batch_size(&batches, 2, &size), KP_DONE);
+    WANT(size, transaction.size);
+    WANT(kp_read_committed(&w.nodes[LEADER], &w.pass, 3, &records), KP_DONE);
+    WANT(kp_committed(&records, 0, &found), KP_DONE);
+    WANT(found.offset, 3);
+    WANT(found.size, 4);
+    WANT(found.null, false);
+    WANT(kp_value(&records, 0, value, 4), KP_DONE);
+    WANT(memcmp(value, "paid", 5), 0);
+    WANT(kp_committed(&records, 1, &found), KP_DONE);
+    WANT(found.offset, 4);
+    WANT(found.size, 0);
+    WANT(found.null, true);
+    WANT(kp_close(&batches), KP_DONE);
+    WANT(kp_close(&records), KP_DONE);
+    closes(&w);
+}
+
+static void restarts_are_in_order(void) {
+    test = "restarts";
+    world w;
+    kp_receipt receipt;
+    kp_restarted restarted = {0};
+    uint64_t offset = 0;
+    opens(&w, &roomy);
+    elects(&w);
+    for (int i = 0; i < 2; i++)
+        WANT(produces(&w, &one_record, &receipt), KP_DONE);
+    commits(&w, 2);
+    WANT(kp_checkpoint(&w.nodes[LEADER], &offset), KP_DONE);
+    WANT(offset, 2);
+    WANT(produces(&w, &one_record, &receipt), KP_DONE);
+    WANT(kp_stop(&w.nodes[LEADER]), KP_DONE);
+    WANT(kp_restart(&w.nodes[LEADER], &restarted), KP_DONE);
+    WANT(restarted.life, 1);
+    WANT(restarted.end, 3);
+    WANT(restarted.watermark, 2);
+    closes(&w);
+}
+
+/* ---- changes of the in-sync replicas */
+
+static void proposes(world *w, bool joins, uint8_t which) {
+    kp_handle proposal = {0};
+    kp_record_out record = {0};
+    uint8_t addressee = 0;
+    WANT(kp_alter(&w->nodes[LEADER], joins, which, &proposal), KP_DONE);
+    WANT(kp_addressee(&proposal, &addressee), KP_DONE);
+    WANT(addressee, KP_CONTROLLER);
+    WANT(kp_decide(&w->pass, &proposal), KP_DONE);
+    WANT(kp_addressee(&proposal, &addressee), KP_DONE);
+    WANT(addressee, LEADER);
+    WANT(kp_step(&w->nodes[LEADER], &proposal), KP_DONE);
+    WANT(kp_record(&w->pass, &record), KP_DONE);
+    for (int i = 0; i < NODES; i++)
+        WANT(record.in_sync[i], joins || i != which);
+}
+
+static void proposals_are_what_was_asked_for(void) {
+    test = "proposals";
+    world w;
+    opens(&w, &roomy);
+    elects(&w);
+    proposes(&w, false, 3);
+    commits(&w, 0);
+    proposes(&w, true, 3);
+    proposes(&w, false, 1);
+    closes(&w);
+}
+
+/* ---- misuses. Each is answered by its number, whether there is memory or not, and changes nothing. */
+
+static void wants_opening_misuses(world *w) {
+    kp_handle closed = {0};
+    WANT(kp_open(&closed, 8, &roomy), KP_OUT_OF_RANGE);
+    WANT(kp_open(&w->pass, 2, &roomy), KP_IN_USE);
+    WANT(kp_open_node(&w->cluster, &closed), KP_OUT_OF_RANGE); /* all are open */
+    WANT(kp_open_node(&w->pass, &closed), KP_OTHER_KIND);
+    WANT(kp_open_node(&w->cluster, &w->pass), KP_IN_USE);
+    WANT(kp_open_pass(&w->nodes[0], &closed), KP_OTHER_KIND);
+    WANT(kp_open_pass(&w->cluster, &w->pass), KP_IN_USE);
+    WANT(kp_close(&closed), KP_CLOSED);
+    kp_handle other = {0};
+    WANT(kp_open_node(&closed, &other), KP_CLOSED);
+    WANT(kp_open_pass(&closed, &other), KP_CLOSED);
+}
+
+static void wants_pair_misuses(world *w, kp_handle *node) {
+    kp_handle closed = {0}, other = {0};
+    kp_receipt receipt;
+    WANT(kp_produce(&closed, &w->pass, one_record.bytes, one_record.size, &receipt), KP_CLOSED);
+    WANT(kp_produce(node, &closed, one_record.bytes, one_record.size, &receipt), KP_CLOSED);
+    WANT(kp_produce(&w->cluster, &w->pass, one_record.bytes, one_record.size, &receipt), KP_OTHER_KIND);
+    WANT(kp_produce_handed(node, &w->pass, &closed, &receipt), KP_CLOSED);
+    WANT(kp_produce_handed(node, &w->pass, &w->cluster, &receipt), KP_OTHER_KIND);
+    WANT(kp_read(&closed, &w->pass, 0, &other), KP_CLOSED);
+    WANT(kp_read(&w->cluster, &w->pass, 0, &closed), KP_OTHER_KIND);
+    WANT(kp_read(node, &w->pass, 0, &w->cluster), KP_IN_USE);
+    WANT(kp_read_committed(node, &closed, 0, &other), KP_CLOSED);
+    WANT(kp_read_committed(&w->cluster, &w->pass, 0, &closed), KP_OTHER_KIND);
+    WANT(kp_read_committed(node, &w->cluster, 0, &closed), KP_OTHER_KIND);
+    WANT(kp_read_committed(node, &w->pass, 0, &w->cluster), KP_IN_USE);
+}
+
+static void wants_receipts_misuses(world *w, kp_handle *node) {
+    kp_handle closed = {0};
+    WANT(kp_tell_receipts(&closed, &w->pass), KP_CLOSED);
+    WANT(kp_tell_receipts(&w->pass, &closed), KP_CLOSED);
+    WANT(kp_tell_receipts(node, &w->pass), KP_OTHER_KIND);
+    WANT(kp_tell_receipts(&w->pass, node), KP_OTHER_KIND);
+    WANT(kp_close(&closed), KP_CLOSED);
+}
+
+static void wants_node_misuses(world *w, kp_handle *node, kp_handle *segments) {
+    kp_handle closed = {0}, other = {0};
+    uint8_t name[KP_NAME_BYTES];
+    WANT(kp_ask(&closed, &other), KP_CLOSED);
+    WANT(kp_ask(&w->pass, &closed), KP_OTHER_KIND);
+    WANT(kp_alter(node, true, 0, &w->pass), KP_IN_USE);
+    WANT(kp_segments(&closed, &other), KP_CLOSED);
+    WANT(kp_segments(&w->pass, &closed), KP_OTHER_KIND);
+    WANT(kp_segments(node, &w->pass), KP_IN_USE);
+    WANT(kp_segment(&closed, 0, name, sizeof name, &other), KP_CLOSED);
+    WANT(kp_segment(&w->pass, 0, name, sizeof name, &closed), KP_OTHER_KIND);
+    WANT(kp_segment(segments, 0, name, sizeof name, &w->pass), KP_IN_USE);
+    WANT(kp_segment(segments, 1, name, sizeof name, &closed), KP_OUT_OF_RANGE);
+    WANT(kp_hand(&w->pass, one_record.bytes, one_record.size), KP_IN_USE);
+}
+
+/* With no memory each call that has nothing else against it says so. A length is tested before a byte of it is read. */
+static void wants_no_room(world *w, kp_handle *node, kp_handle *handed) {
+    const size_t most = 2147483659;
+    kp_handle closed = {0};
+    kp_receipt receipt = {.base = 1, .last = 2, .place = 3, .epoch = 4, .duplicate = true};
+    WANT(kp_open(&closed, 7, &roomy), KP_NO_ROOM);
+    WANT(kp_open_pass(&w->cluster, &closed), KP_NO_ROOM);
+    WANT(kp_read(node, &w->pass, 0, &closed), KP_NO_ROOM);
+    WANT(kp_read_committed(node, &w->pass, 0, &closed), KP_NO_ROOM);
+    WANT(kp_segments(node, &closed), KP_NO_ROOM);
+    WANT(kp_ask(node, &closed), KP_NO_ROOM);
+    WANT(kp_hand(&closed, one_record.bytes, most), KP_NO_ROOM);
+    WANT(kp_hand(&closed, one_record.bytes, most + 1), KP_BAD_LENGTH);
+    WANT(kp_hand(handed, one_record.bytes, most), KP_NO_ROOM);
+    WANT(kp_hand(handed, one_record.bytes, most + 1), KP_BAD_LENGTH);
+    WANT(kp_produce(node, &w->pass, one_record.bytes, most, &receipt), KP_NO_ROOM);
+    WANT(kp_produce(node, &w->pass, one_record.bytes, most + 1, &receipt), KP_BAD_LENGTH);
+    WANT(kp_close(&closed), KP_CLOSED);
+    wants_receipt(&receipt, 1, 2, 3, 4, true);
+}
+
+/* Also the refusals of a read: of a node that is down, and above its log's end. */
+static void wants_read_refusals(world *w) {
+    kp_handle closed = {0};
+    WANT(kp_read(&w->nodes[LEADER], &w->pass, 2, &closed), 16);
+    WANT(kp_read_committed(&w->nodes[LEADER], &w->pass, 2, &closed), 16);
+    WANT(kp_read(&w->nodes[0], &w->pass, 0, &closed), 28);
+    WANT(kp_read_committed(&w->nodes[0], &w->pass, 0, &closed), 28);
+    WANT(kp_close(&closed), KP_CLOSED);
+}
+
+static void misuses_have_their_numbers(void) {
+    test = "misuses";
+    world w;
+    kp_receipt receipt;
+    kp_handle handed = {0}, segments = {0};
+    opens(&w, &roomy);
+    elects(&w);
+    WANT(produces(&w, &one_record, &receipt), KP_DONE);
+    WANT(kp_stop(&w.nodes[0]), KP_DONE);
+    WANT(kp_hand(&handed, one_record.bytes, one_record.size), KP_DONE);
+    WANT(kp_segments(&w.nodes[LEADER], &segments), KP_DONE);
+    const long held = blocks;
+    for (int round = 0; round < 2; round++) {
+        refuses = round == 1;
+        wants_opening_misuses(&w);
+        wants_pair_misuses(&w, &w.nodes[LEADER]);
+        wants_receipts_misuses(&w, &w.nodes[LEADER]);
+        wants_node_misuses(&w, &w.nodes[LEADER], &segments);
+        WANT(blocks, held);
+    }
+    wants_no_room(&w, &w.nodes[1], &handed);
+    WANT(blocks, held);
+    refuses = false;
+    wants_read_refusals(&w);
+    WANT(blocks, held);
+    WANT(kp_close(&handed), KP_DONE);
+    WANT(kp_close(&segments), KP_DONE);
+    closes(&w);
+}
+
+int main(int count, char **words) {
+    const char *folder = count > 1 ? words[1] : ".";
+    load(&one_record, folder, "one_record.batch");
+    load(&transaction, folder, "transaction.batch");
+    breaks_record();
+    blocks = 0;
+    limits_are_in_order();
+    records_and_roles_are_in_order();
+    receipts_are_in_order();
+    receipts_go_from_pass_to_pass();
+    reads_are_in_order();
+    restarts_are_in_order();
+    proposals_are_what_was_asked_for();
+    misuses_have_their_numbers();
+    printf("%d wrong\n", wrong);
+    return wrong ? 1 : 0;
+}
