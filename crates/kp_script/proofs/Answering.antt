@@ -20,7 +20,7 @@ use Rattle.kp_world.specs.Shown.{IsShown, Stage}
 use Rattle.kp_world.specs.declared.event.EventAnswer.{EventAnswer}
 use Rattle.kp_script.specs.Call.{Call, Header, IsCallText, IsHeaderText, SpellsNoCall, node_of}
 use Rattle.kp_script.specs.Ended.{limits_in}
-use Rattle.kp_script.specs.Lines.{lines}
+use Rattle.kp_script.specs.Lines.{sent_lines}
 use Rattle.kp_script.specs.Piped.{AreSaid, Heard, IsNoHeader, IsPiped, PipesFirst, PipesFront, PipesTo, Says, answers_text, calls_in, counted_in, counts, fault_line, fault_lines, faults_among}
 use Rattle.kp_script.specs.Piping.{AnswersFront, Stands, StandsOn, Unanswered, logs_of}
 use Rattle.kp_script.specs.Playing.{BeginFrom, HasPlayed, LeadTo, PlayTo}
@@ -33,7 +33,7 @@ use Rattle.kp_script.proofs.Played.{as_many, played_none, played_on, traced}
 
 -- ---- what lines say, one line more
 
-said_more : (count : ℕ) (lines : List (ℕ × List ℕ)) (said : List (ℕ × Option Call)) (line : ℕ × List ℕ) (one : ℕ × Option Call) → AreSaid count lines said → Says count line one
+said_more : (count : ℕ) (lines : List (ℕ × Option (List ℕ))) (said : List (ℕ × Option Call)) (line : ℕ × Option (List ℕ)) (one : ℕ × Option Call) → AreSaid count lines said → Says count line one
     → AreSaid count (lines ++ line ∷ []) (said ++ one ∷ [])
 said_more count [] [] line one h k = (k, tt)
 said_more count [] (s ∷ said) line one h k = absurd h
@@ -63,13 +63,14 @@ one_answer number call [] = refl
 one_answer number call (o ∷ os) = refl
 
 -- one more line behind the header
-abbrev heard_more : (all : List (ℕ × List ℕ)) (h : Heard all) (line : ℕ × List ℕ) (one : ℕ × Option Call) → Says h.header.count line one → Heard (all ++ line ∷ [])
+abbrev heard_more : (all : List (ℕ × Option (List ℕ))) (h : Heard all) (line : ℕ × Option (List ℕ)) (one : ℕ × Option Call) → Says h.header.count line one → Heard (all ++ line ∷ [])
 heard_more all h line one says =
     record {
       before = h.before;
+      number = h.number;
       first = h.first;
       rest = h.rest ++ line ∷ [];
-      whole = ap (λ (ls : List (ℕ × List ℕ)). ls ++ line ∷ []) h.whole ∙ append_assoc h.before (h.first ∷ h.rest) (line ∷ []);
+      whole = ap (λ (ls : List (ℕ × Option (List ℕ))). ls ++ line ∷ []) h.whole ∙ append_assoc h.before ((h.number, Some h.first) ∷ h.rest) (line ∷ []);
       no_header = h.no_header;
       header = h.header;
       spelled = h.spelled;
@@ -88,48 +89,48 @@ filter_append p [] ys = refl
 filter_append {A} p (x ∷ xs) ys =
     ap (λ (l : List A). cond (p x) (x ∷ l) l) (filter_append p xs ys) ∙ put_first (p x) x (filter p xs) (filter p ys)
 
-numbered_push : (n : ℕ) (read : List (List ℕ)) (line : List ℕ) → enumerate_from n (read ++ line ∷ []) ≡ enumerate_from n read ++ (n + length read, line) ∷ []
+numbered_push : (n : ℕ) (read : List (Option (List ℕ))) (line : Option (List ℕ)) → enumerate_from n (read ++ line ∷ []) ≡ enumerate_from n read ++ (n + length read, line) ∷ []
 numbered_push n [] line = let same : n ≡ n + 0 = omega arith in ap (λ (m : ℕ). (m, line) ∷ []) same
 numbered_push n (x ∷ read) line = let same : (n + 1) + length read ≡ n + suc (length read) = omega arith in
-    ap (λ (l : List (ℕ × List ℕ)). (n, x) ∷ l) (numbered_push (n + 1) read line ∙ ap (λ (m : ℕ). enumerate_from (n + 1) read ++ (m, line) ∷ []) same)
+    ap (λ (l : List (ℕ × Option (List ℕ))). (n, x) ∷ l) (numbered_push (n + 1) read line ∙ ap (λ (m : ℕ). enumerate_from (n + 1) read ++ (m, line) ∷ []) same)
 
-pub counted_push : (read : List (List ℕ)) (line : List ℕ) (number : ℕ) → number ≡ length read + 1 → counted_in (read ++ line ∷ []) ≡ counted_in read ++ filter counts ((number, line) ∷ [])
+pub counted_push : (read : List (Option (List ℕ))) (line : Option (List ℕ)) (number : ℕ) → number ≡ length read + 1 → counted_in (read ++ line ∷ []) ≡ counted_in read ++ filter counts ((number, line) ∷ [])
 counted_push read line number is =
     let same : 1 + length read ≡ number = omega arith in
     ap (filter counts) (numbered_push 1 read line) ∙ filter_append counts (enumerate_from 1 read) _ ∙ ap (λ (m : ℕ). counted_in read ++ filter counts ((m, line) ∷ [])) same
 
-pub counts_one : (line : ℕ × List ℕ) → counts line ≡ true → filter counts (line ∷ []) ≡ line ∷ []
+pub counts_one : (line : ℕ × Option (List ℕ)) → counts line ≡ true → filter counts (line ∷ []) ≡ line ∷ []
 counts_one line e = rw e refl
 
-pub counts_none : (line : ℕ × List ℕ) → counts line ≡ false → filter counts (line ∷ []) ≡ []
+pub counts_none : (line : ℕ × Option (List ℕ)) → counts line ≡ false → filter counts (line ∷ []) ≡ []
 counts_none line e = rw e refl
 
 -- ---- what an answer does
 
-all_more : (P : ℕ × List ℕ → Type 0) (xs : List (ℕ × List ℕ)) (x : ℕ × List ℕ) → AllByRecursion P xs → P x → AllByRecursion P (xs ++ x ∷ [])
+all_more : (P : ℕ × Option (List ℕ) → Type 0) (xs : List (ℕ × Option (List ℕ))) (x : ℕ × Option (List ℕ)) → AllByRecursion P xs → P x → AllByRecursion P (xs ++ x ∷ [])
 all_more P [] x h k = (k, tt)
 all_more P (y ∷ ys) x h k = (h.0, all_more P ys x h.1 k)
 
-faults_more : (all : List (ℕ × List ℕ)) (line : ℕ × List ℕ) → fault_lines (all ++ line ∷ []) ≡ fault_lines all ++ fault_line line.0
-faults_more all line = flat_map-append (λ (l : ℕ × List ℕ). fault_line l.0) all (line ∷ []) ∙ ap (λ (text : List ℕ). fault_lines all ++ text) (append-nil (fault_line line.0))
+faults_more : (all : List (ℕ × Option (List ℕ))) (line : ℕ × Option (List ℕ)) → fault_lines (all ++ line ∷ []) ≡ fault_lines all ++ fault_line line.0
+faults_more all line = flat_map-append (λ (l : ℕ × Option (List ℕ)). fault_line l.0) all (line ∷ []) ∙ ap (λ (text : List ℕ). fault_lines all ++ text) (append-nil (fault_line line.0))
 
 -- a line that isn't counted
-pub stands_quiet : (line : ℕ × List ℕ) (running : Option Running) → counts line ≡ false → StandsOn line running running 0 []
+pub stands_quiet : (line : ℕ × Option (List ℕ)) (running : Option Running) → counts line ≡ false → StandsOn line running running 0 []
 stands_quiet line running e = λ all text answered s.
-    let same : all ≡ all ++ filter counts (line ∷ []) = sym (ap (λ (l : List (ℕ × List ℕ)). all ++ l) (counts_none line e) ∙ append-nil all) in
+    let same : all ≡ all ++ filter counts (line ∷ []) = sym (ap (λ (l : List (ℕ × Option (List ℕ))). all ++ l) (counts_none line e) ∙ append-nil all) in
     let number : answered ≡ answered + 0 = omega arith in
     subst (λ (n : ℕ). Stands (all ++ filter counts (line ∷ [])) (text ++ []) n running) number
     (subst (λ (t : List ℕ). Stands (all ++ filter counts (line ∷ [])) t answered running) (sym (append-nil text))
-    (subst (λ (ls : List (ℕ × List ℕ)). Stands ls text answered running) same s))
+    (subst (λ (ls : List (ℕ × Option (List ℕ))). Stands ls text answered running) same s))
 
-counted_on : (line : ℕ × List ℕ) (old new : Option Running) (refused : ℕ) (answer : List ℕ) → counts line ≡ true
-    → ((all : List (ℕ × List ℕ)) (text : List ℕ) (answered : ℕ) → Stands all text answered old → Stands (all ++ line ∷ []) (text ++ answer) (answered + refused) new)
+counted_on : (line : ℕ × Option (List ℕ)) (old new : Option Running) (refused : ℕ) (answer : List ℕ) → counts line ≡ true
+    → ((all : List (ℕ × Option (List ℕ))) (text : List ℕ) (answered : ℕ) → Stands all text answered old → Stands (all ++ line ∷ []) (text ++ answer) (answered + refused) new)
     → StandsOn line old new refused answer
 counted_on line old new refused answer e step = λ all text answered s.
-    subst (λ (ls : List (ℕ × List ℕ)). Stands (all ++ ls) (text ++ answer) (answered + refused) new) (sym (counts_one line e)) (step all text answered s)
+    subst (λ (ls : List (ℕ × Option (List ℕ))). Stands (all ++ ls) (text ++ answer) (answered + refused) new) (sym (counts_one line e)) (step all text answered s)
 
 -- no header
-pub stands_faulty : (line : ℕ × List ℕ) → counts line ≡ true → IsNoHeader line → StandsOn line None None 1 (fault_line line.0)
+pub stands_faulty : (line : ℕ × Option (List ℕ)) → counts line ≡ true → IsNoHeader line → StandsOn line None None 1 (fault_line line.0)
 stands_faulty line e wrong = counted_on line None None 1 (fault_line line.0) e (λ all text answered s. (
   all_more IsNoHeader all line s.0 wrong,
   ap (λ (t : List ℕ). t ++ fault_line line.0) s.1 ∙ sym (faults_more all line),
@@ -137,10 +138,10 @@ stands_faulty line e wrong = counted_on line None None 1 (fault_line line.0) e (
 ))
 
 -- the header
-pub stands_header : (line : ℕ × List ℕ) (header : Header) (running : Running) → counts line ≡ true → IsHeaderText line.1 header → running.count ≡ header.count
-    → IsShown (limits_in header) running.world (start header.count) → StandsOn line None (Some running) 0 []
-stands_header line header running e spelled count shown = counted_on line None (Some running) 0 [] e (λ all text answered s. record {
-  heard = record { before = all; first = line; rest = []; whole = refl; no_header = s.0; header = header; spelled = spelled; said = []; are = tt };
+pub stands_header : (number : ℕ) (bytes : List ℕ) (header : Header) (running : Running) → counts (number, Some bytes) ≡ true → IsHeaderText bytes header → running.count ≡ header.count
+    → IsShown (limits_in header) running.world (start header.count) → StandsOn (number, Some bytes) None (Some running) 0 []
+stands_header number bytes header running e spelled count shown = counted_on (number, Some bytes) None (Some running) 0 [] e (λ all text answered s. record {
+  heard = record { before = all; number = number; first = bytes; rest = []; whole = refl; no_header = s.0; header = header; spelled = spelled; said = []; are = tt };
   count_is = sym count;
   refused = 0;
   played = played_none header running.world None shown;
@@ -149,11 +150,11 @@ stands_header line header running e spelled count shown = counted_on line None (
 })
 
 -- a line behind it that says nothing
-pub stands_wrong : (line : ℕ × List ℕ) (running : Running) → counts line ≡ true → SpellsNoCall running.count line.1 → StandsOn line (Some running) (Some running) 1 (fault_line line.0)
+pub stands_wrong : (line : ℕ × Option (List ℕ)) (running : Running) → counts line ≡ true → IfSome line.1 (λ bytes. SpellsNoCall running.count bytes) → StandsOn line (Some running) (Some running) 1 (fault_line line.0)
 stands_wrong line running e wrong = counted_on line (Some running) (Some running) 1 (fault_line line.0) e (λ all text answered s.
     let h = s.heard in
     let one : ℕ × Option Call = (line.0, None) in
-    let says : Says h.header.count line one = (refl, subst (λ (count : ℕ). SpellsNoCall count line.1) (sym s.count_is) wrong) in
+    let says : Says h.header.count line one = (refl, subst (λ (count : ℕ). IfSome line.1 (λ bytes. SpellsNoCall count bytes)) (sym s.count_is) wrong) in
     let calls : calls_in h.said ≡ calls_in (h.said ++ one ∷ []) = sym (calls_append h.said (one ∷ []) ∙ append-nil (calls_in h.said)) in
     let outcomes = map outcome_of s.played.answers in
     let moved : (r : HasPlayed h.header (calls_in (h.said ++ one ∷ [])) running.world s.refused None None) × (r.answers ≡ s.played.answers) =
@@ -176,13 +177,13 @@ stands_wrong line running e wrong = counted_on line (Some running) (Some running
     })
 
 -- and one that says a call, which is played
-pub stands_call : (number : ℕ) (bytes : List ℕ) (call : Call) (running new : Running) (answers : List (Result EventAnswer Refusal)) → counts (number, bytes) ≡ true → IsCallText running.count bytes call
+pub stands_call : (number : ℕ) (bytes : List ℕ) (call : Call) (running new : Running) (answers : List (Result EventAnswer Refusal)) → counts (number, Some bytes) ≡ true → IsCallText running.count bytes call
     → LeadTo ((number, call) ∷ []) running.world new.world answers → new.count ≡ running.count
-    → StandsOn (number, bytes) (Some running) (Some new) (refusals_in (map outcome_of answers)) (trace_text (numbered ((number, call) ∷ [])) (map outcome_of answers))
-stands_call number bytes call running new answers e text_of lead count = counted_on (number, bytes) (Some running) (Some new) _ _ e (λ all text answered s.
+    → StandsOn (number, Some bytes) (Some running) (Some new) (refusals_in (map outcome_of answers)) (trace_text (numbered ((number, call) ∷ [])) (map outcome_of answers))
+stands_call number bytes call running new answers e text_of lead count = counted_on (number, Some bytes) (Some running) (Some new) _ _ e (λ all text answered s.
     let h = s.heard in
     let one : ℕ × Option Call = (number, Some call) in
-    let says : Says h.header.count (number, bytes) one = (refl, subst (λ (n : ℕ). IsCallText n bytes call) (sym s.count_is) text_of) in
+    let says : Says h.header.count (number, Some bytes) one = (refl, subst (λ (n : ℕ). IsCallText n bytes call) (sym s.count_is) text_of) in
     let more = map outcome_of answers in
     let next = refusals_in more in
     let answer = trace_text (numbered ((number, call) ∷ [])) more in
@@ -198,7 +199,7 @@ stands_call number bytes call running new answers e text_of lead count = counted
     ∙ ap (λ (os : List Outcome). answers_text (h.said ++ one ∷ []) os) (map-append outcome_of s.played.answers answers)
     ∙ text_append h.said (one ∷ []) outcomes more many ∙ ap (λ (t : List ℕ). answers_text h.said outcomes ++ t) (one_answer number call more) in
     record {
-      heard = heard_more all h (number, bytes) one says;
+      heard = heard_more all h (number, Some bytes) one says;
       count_is = s.count_is ∙ sym count;
       refused = s.refused + next;
       played = moved.0;
@@ -209,21 +210,21 @@ stands_call number bytes call running new answers e text_of lead count = counted
     })
 
 -- what was played of a line is its answer
-pub event_played : (number : ℕ) (bytes : List ℕ) (call : Call) (running new : Running) (r : Result ℕ Refusal) (before after : Option (List ℕ)) → counts (number, bytes) ≡ true
+pub event_played : (number : ℕ) (bytes : List ℕ) (call : Call) (running new : Running) (r : Result ℕ Refusal) (before after : Option (List ℕ)) → counts (number, Some bytes) ≡ true
     → IsCallText running.count bytes call → IfOk r (λ refused. PlayTo ((number, call) ∷ []) running.world new.world refused before after) → new.count ≡ running.count
-    → IfOk r (λ refused. (answer : List ℕ) × StandsOn (number, bytes) (Some running) (Some new) refused answer × Appends before after answer)
+    → IfOk r (λ refused. (answer : List ℕ) × StandsOn (number, Some bytes) (Some running) (Some new) refused answer × Appends before after answer)
 event_played number bytes call running new (Ok refused) before after e spelled q count = (
   trace_text (numbered ((number, call) ∷ [])) (map outcome_of q.answers),
-  subst (λ (n : ℕ). StandsOn (number, bytes) (Some running) (Some new) n (trace_text (numbered ((number, call) ∷ [])) (map outcome_of q.answers))) (sym q.refused_is)
+  subst (λ (n : ℕ). StandsOn (number, Some bytes) (Some running) (Some new) n (trace_text (numbered ((number, call) ∷ [])) (map outcome_of q.answers))) (sym q.refused_is)
       (stands_call number bytes call running new q.answers e spelled q.lead count),
   q.written,
 )
 event_played number bytes call running new (Err refusal) before after e spelled q count = tt
 
 -- or its beginning
-pub event_begun : (number : ℕ) (bytes : List ℕ) (call : Call) (running : Running) (before after : Option (List ℕ)) → counts (number, bytes) ≡ true → IsCallText running.count bytes call
+pub event_begun : (number : ℕ) (bytes : List ℕ) (call : Call) (running : Running) (before after : Option (List ℕ)) → counts (number, Some bytes) ≡ true → IsCallText running.count bytes call
     → BeginFrom ((number, call) ∷ []) running.world before after
-    → (new : Option Running) × (refused : ℕ) × (answer : List ℕ) × StandsOn (number, bytes) (Some running) new refused answer × AppendsFront before after answer
+    → (new : Option Running) × (refused : ℕ) × (answer : List ℕ) × StandsOn (number, Some bytes) (Some running) new refused answer × AppendsFront before after answer
 event_begun number bytes call running before after e spelled q =
     let new : Running = record { count = running.count; world = q.new } in (
       Some new,
@@ -234,12 +235,12 @@ event_begun number bytes call running before after e spelled q =
     )
 
 -- a line that says nothing is answered by its fault
-pub wrong_answered : (number : ℕ) (bytes : List ℕ) (old new : Option Running) (r : Result ℕ Refusal) (before after : Option (List ℕ)) → StandsOn (number, bytes) old new 1 (fault_line number)
+pub wrong_answered : (number : ℕ) (line : Option (List ℕ)) (old new : Option Running) (r : Result ℕ Refusal) (before after : Option (List ℕ)) → StandsOn (number, line) old new 1 (fault_line number)
     → OnOk r (Appends before after (fault_line number)) → IfOk r (λ refused. refused ≡ 1)
-    → IfOk r (λ refused. (answer : List ℕ) × StandsOn (number, bytes) old new refused answer × Appends before after answer)
-wrong_answered number bytes old new (Ok refused) before after stands out one =
-    (fault_line number, subst (λ (n : ℕ). StandsOn (number, bytes) old new n (fault_line number)) (sym one) stands, out)
-wrong_answered number bytes old new (Err refusal) before after stands out one = tt
+    → IfOk r (λ refused. (answer : List ℕ) × StandsOn (number, line) old new refused answer × Appends before after answer)
+wrong_answered number line old new (Ok refused) before after stands out one =
+    (fault_line number, subst (λ (n : ℕ). StandsOn (number, line) old new n (fault_line number)) (sym one) stands, out)
+wrong_answered number line old new (Err refusal) before after stands out one = tt
 
 -- ---- what stands is what is promised
 
@@ -248,7 +249,7 @@ reached_nodes : RunsKeepCount → (header : Header) (done : List (ℕ × Call)) 
 reached_nodes keep header done stage refused p =
     sym p.reached.shown.count ∙ keep header.count p.reached.run (last p.reached.run) (last_is_of header.count p.reached.run)
 
-pub is_piped : RunsKeepCount → RunsAreSafe → NoDeliveryIsRefusedOddly → (all : List (ℕ × List ℕ)) (text : List ℕ) (answered : ℕ) (running : Option Running) → Stands all text answered running
+pub is_piped : RunsKeepCount → RunsAreSafe → NoDeliveryIsRefusedOddly → (all : List (ℕ × Option (List ℕ))) (text : List ℕ) (answered : ℕ) (running : Option Running) → Stands all text answered running
     → IsPiped all text (record { refused = answered; logs = logs_of running })
 is_piped keep safe odd all text answered None s = inl (record { no_header = s.0; text_is = s.1; refused_is = s.2; logs_are = refl })
 is_piped keep safe odd all text answered (Some running) s = inr (record {
@@ -263,28 +264,28 @@ is_piped keep safe odd all text answered (Some running) s = inr (record {
 
 -- ---- what has been read
 
-pub reads_more : (a b c : Option (List ℕ)) (read more : List (List ℕ)) → Reads a b read → Reads b c more → Reads a c (read ++ more)
+pub reads_more : (a b c : Option (List ℕ)) (read more : List (Option (List ℕ))) → Reads a b read → Reads b c more → Reads a c (read ++ more)
 reads_more None b c read more p q = tt
 reads_more (Some xs) None c read more p q = absurd p
 reads_more (Some xs) (Some ys) None read more p q = absurd q
 reads_more (Some xs) (Some ys) (Some zs) read more p q =
-    p ∙ ap (λ (ls : List (List ℕ)). read ++ ls) q ∙ sym (append_assoc read more (lines zs))
+    p ∙ ap (λ (ls : List (Option (List ℕ))). read ++ ls) q ∙ sym (append_assoc read more (sent_lines zs))
 
-pub reads_begun : (a b c : Option (List ℕ)) (read : List (List ℕ)) → Reads a b read → ReadsInto b c [] → ReadsInto a c read
+pub reads_begun : (a b c : Option (List ℕ)) (read : List (Option (List ℕ))) → Reads a b read → ReadsInto b c [] → ReadsInto a c read
 reads_begun None b c read p q = tt
 reads_begun (Some xs) None c read p q = absurd p
 reads_begun (Some xs) (Some ys) None read p q = absurd q
-reads_begun (Some xs) (Some ys) (Some zs) read p q = (q.0, q.1, p ∙ ap (λ (ls : List (List ℕ)). read ++ ls) q.2)
+reads_begun (Some xs) (Some ys) (Some zs) read p q = (q.0, q.1, p ∙ ap (λ (ls : List (Option (List ℕ))). read ++ ls) q.2)
 
-pub reads_whole : (a b : Option (List ℕ)) (read : List (List ℕ)) → Reads a b read → ReadsInto a b read
+pub reads_whole : (a b : Option (List ℕ)) (read : List (Option (List ℕ))) → Reads a b read → ReadsInto a b read
 reads_whole None b read p = tt
 reads_whole (Some xs) None read p = absurd p
 reads_whole (Some xs) (Some ys) read p = ([], tt, p)
 
-pub reads_all : (a b : Option (List ℕ)) (read : List (List ℕ)) → Reads a b read → IsAtEnd b → IfSome a (λ bytes. lines bytes ≡ read)
+pub reads_all : (a b : Option (List ℕ)) (read : List (Option (List ℕ))) → Reads a b read → IsAtEnd b → IfSome a (λ bytes. sent_lines bytes ≡ read)
 reads_all None b read p end = tt
 reads_all (Some xs) None read p end = absurd p
-reads_all (Some xs) (Some ys) read p end = p ∙ ap (λ (bytes : List ℕ). read ++ lines bytes) end ∙ append-nil read
+reads_all (Some xs) (Some ys) read p end = p ∙ ap (λ (bytes : List ℕ). read ++ sent_lines bytes) end ∙ append-nil read
 
 pub reads_nothing : (a : Option (List ℕ)) → Reads a a []
 reads_nothing None = tt
@@ -299,12 +300,17 @@ not_and false true = refl
 not_and false false = refl
 
 -- a line that is too long counts, and says nothing
-long_counts : (line : ℕ × List ℕ) → 2100000 < length line.1 → counts line ≡ true
-long_counts line long = let small : nat_le (length line.1) 2100000 ≡ false = lt-leb (length line.1) 2100000 long in rw small (not_and (length line.1 == 0 || slice_index line.1 0 == 35) (list_all (λ byte. nat_lt byte 128) line.1))
+long_counts : (number : ℕ) (bytes : List ℕ) → 2100000 < length bytes → counts (number, Some bytes) ≡ true
+long_counts number bytes long = let small : nat_le (length bytes) 2100000 ≡ false = lt-leb (length bytes) 2100000 long in rw small (not_and (length bytes == 0 || slice_index bytes 0 == 35) (list_all (λ byte. nat_lt byte 128) bytes))
 
-pub stands_long : (line : ℕ × List ℕ) (running : Option Running) → 2100000 < length line.1 → StandsOn line running running 1 (fault_line line.0)
-stands_long line None long = stands_faulty line (long_counts line long) (inl long)
-stands_long line (Some running) long = stands_wrong line running (long_counts line long) (λ call is e. absurd (omega (arith, is.short, ap length e, long)))
+pub stands_long : (number : ℕ) (bytes : List ℕ) (running : Option Running) → 2100000 < length bytes → StandsOn (number, Some bytes) running running 1 (fault_line number)
+stands_long number bytes None long = stands_faulty (number, Some bytes) (long_counts number bytes long) (inl long)
+stands_long number bytes (Some running) long = stands_wrong (number, Some bytes) running (long_counts number bytes long) (λ call is e. absurd (omega (arith, is.short, ap length e, long)))
+
+-- a line that lacks its line feed counts, and says nothing
+pub stands_torn : (number : ℕ) (running : Option Running) → StandsOn (number, None) running running 1 (fault_line number)
+stands_torn number None = stands_faulty (number, None) refl tt
+stands_torn number (Some running) = stands_wrong (number, None) running refl tt
 
 kept_whole : (n m : ℕ) (whole : List ℕ) → m < n → length (take n whole) ≤ m → take n whole ≡ whole
 kept_whole n m whole more short = take_all n whole (omega (arith, length-take n whole))
@@ -318,32 +324,32 @@ is_whole line whole short is = is ∙ kept_whole 2100001 2100000 whole (omega ar
 
 -- and so is its answer
 pub whole_ok : (line : List ℕ) (number : ℕ) (old new : Option Running) (r : Result ℕ Refusal) (before after : Option (List ℕ)) → length line ≤ 2100000
-    → IfOk r (λ refused. (answer : List ℕ) × StandsOn (number, line) old new refused answer × Appends before after answer)
-    → IfOk r (λ refused. (whole : List ℕ) → line ≡ kept_of whole → (answer : List ℕ) × StandsOn (number, whole) old new refused answer × Appends before after answer)
+    → IfOk r (λ refused. (answer : List ℕ) × StandsOn (number, Some line) old new refused answer × Appends before after answer)
+    → IfOk r (λ refused. (whole : List ℕ) → line ≡ kept_of whole → (answer : List ℕ) × StandsOn (number, Some whole) old new refused answer × Appends before after answer)
 whole_ok line number old new (Ok refused) before after short h = λ whole is.
-    subst (λ (l : List ℕ). (answer : List ℕ) × StandsOn (number, l) old new refused answer × Appends before after answer) (is_whole line whole short is) h
+    subst (λ (l : List ℕ). (answer : List ℕ) × StandsOn (number, Some l) old new refused answer × Appends before after answer) (is_whole line whole short is) h
 whole_ok line number old new (Err refusal) before after short h = tt
 
 pub long_ok : (line : List ℕ) (number : ℕ) (running : Option Running) (r : Result ℕ Refusal) (before after : Option (List ℕ)) → 2100000 < length line
     → OnOk r (Appends before after (fault_line number)) → IfOk r (λ refused. refused ≡ 1)
-    → IfOk r (λ refused. (whole : List ℕ) → line ≡ kept_of whole → (answer : List ℕ) × StandsOn (number, whole) running running refused answer × Appends before after answer)
+    → IfOk r (λ refused. (whole : List ℕ) → line ≡ kept_of whole → (answer : List ℕ) × StandsOn (number, Some whole) running running refused answer × Appends before after answer)
 long_ok line number running (Ok refused) before after long out one = λ whole is. (
   fault_line number,
-  subst (λ (n : ℕ). StandsOn (number, whole) running running n (fault_line number)) (sym one)
-      (stands_long (number, whole) running (long_whole 2100001 2100000 whole (subst (λ (l : List ℕ). 2100000 < length l) is long))),
+  subst (λ (n : ℕ). StandsOn (number, Some whole) running running n (fault_line number)) (sym one)
+      (stands_long number whole running (long_whole 2100001 2100000 whole (subst (λ (l : List ℕ). 2100000 < length l) is long))),
   out,
 )
 long_ok line number running (Err refusal) before after long out one = tt
 
 pub whole_begun : (line whole : List ℕ) (number : ℕ) (old : Option Running) (before after : Option (List ℕ)) → length line ≤ 2100000 → line ≡ kept_of whole
-    → (new : Option Running) × (refused : ℕ) × (answer : List ℕ) × StandsOn (number, line) old new refused answer × AppendsFront before after answer
-    → (new : Option Running) × (refused : ℕ) × (answer : List ℕ) × StandsOn (number, whole) old new refused answer × AppendsFront before after answer
+    → (new : Option Running) × (refused : ℕ) × (answer : List ℕ) × StandsOn (number, Some line) old new refused answer × AppendsFront before after answer
+    → (new : Option Running) × (refused : ℕ) × (answer : List ℕ) × StandsOn (number, Some whole) old new refused answer × AppendsFront before after answer
 whole_begun line whole number old before after short is h =
-    (h.0, h.1, h.2, subst (λ (l : List ℕ). StandsOn (number, l) old h.0 h.1 h.2) (is_whole line whole short is) h.3, h.4)
+    (h.0, h.1, h.2, subst (λ (l : List ℕ). StandsOn (number, Some l) old h.0 h.1 h.2) (is_whole line whole short is) h.3, h.4)
 
 -- ---- the whole pipe
 
-module _ (keep : RunsKeepCount) (safe : RunsAreSafe) (odd : NoDeliveryIsRefusedOddly) (a b c old mid : Option (List ℕ)) (read : List (List ℕ)) (text : List ℕ) (answered : ℕ) (running : Option Running)
+module _ (keep : RunsKeepCount) (safe : RunsAreSafe) (odd : NoDeliveryIsRefusedOddly) (a b c old mid : Option (List ℕ)) (read : List (Option (List ℕ))) (text : List ℕ) (answered : ℕ) (running : Option Running)
     (r : Reads a b read) (s : Stands (counted_in read) text answered running) (w : Appends old mid text) where
   -- all lines have been answered
   pub pipes_to : IsAtEnd b → PipesTo a old mid (record { refused = answered; logs = logs_of running })
@@ -380,7 +386,7 @@ module _ (keep : RunsKeepCount) (safe : RunsAreSafe) (odd : NoDeliveryIsRefusedO
     ended = record { refused = answered + f.refused; logs = logs_of f.new };
     piped =
         is_piped keep safe odd (counted_in (read ++ f.line ∷ [])) (text ++ f.answer) (answered + f.refused) f.new
-        (subst (λ (all : List (ℕ × List ℕ)). Stands all (text ++ f.answer) (answered + f.refused) f.new) (sym (counted_push read f.line number is)) (f.stands (counted_in read) text answered s));
+        (subst (λ (all : List (ℕ × Option (List ℕ))). Stands all (text ++ f.answer) (answered + f.refused) f.new) (sym (counted_push read f.line number is)) (f.stands (counted_in read) text answered s));
     earlier = record { refused = answered; logs = logs_of running };
     before = is_piped keep safe odd (counted_in read) text answered running s;
     n = f.begun.0;
@@ -388,10 +394,10 @@ module _ (keep : RunsKeepCount) (safe : RunsAreSafe) (odd : NoDeliveryIsRefusedO
   }
 
 -- the nodes are as many as a header says
-pub some_nodes : (all : List (ℕ × List ℕ)) (text : List ℕ) (answered : ℕ) (running : Option Running) → Stands all text answered running → IfSome running (λ nodes. 0 < nodes.count)
+pub some_nodes : (all : List (ℕ × Option (List ℕ))) (text : List ℕ) (answered : ℕ) (running : Option Running) → Stands all text answered running → IfSome running (λ nodes. 0 < nodes.count)
 some_nodes all text answered None s = tt
 some_nodes all text answered (Some running) s = let least = s.heard.spelled.0.least_count in omega (arith, least, s.count_is)
 
-pub most_nodes : (all : List (ℕ × List ℕ)) (text : List ℕ) (answered : ℕ) (running : Option Running) → Stands all text answered running → IfSome running (λ nodes. nodes.count ≤ 7)
+pub most_nodes : (all : List (ℕ × Option (List ℕ))) (text : List ℕ) (answered : ℕ) (running : Option Running) → Stands all text answered running → IfSome running (λ nodes. nodes.count ≤ 7)
 most_nodes all text answered None s = tt
 most_nodes all text answered (Some running) s = let greatest = s.heard.spelled.0.greatest_count in omega (arith, greatest, s.count_is)

@@ -9,11 +9,11 @@ use Rattle.std.proofs.KnownBytes.{Consumes-trans}
 use Rattle.std.proofs.Math.Seq.{take-append-add}
 use Rattle.std.proofs.lemmas.List.{length-take}
 use Rattle.kp_types.proofs.Fronts.{trimmed}
-use Rattle.kp_script.specs.Lines.{lines}
+use Rattle.kp_script.specs.Lines.{sent_lines}
 use Rattle.kp_script.specs.Read.{Lacks}
 use Rattle.kp_script.specs.Reads.{Gives, Reads, ReadsInto}
 use Rattle.kp_script.specs.declared.reader.Piece.{Piece}
-use Rattle.kp_script.proofs.LineLaws.{lines_first, lines_last}
+use Rattle.kp_script.proofs.LineLaws.{sent_first, sent_last}
 
 -- a list takes as much of more bytes as it has room for
 pub filled : (n : ℕ) (was part : List ℕ) → length was ≤ n → was ++ take (min (length part) (n - length was)) part ≡ take n (was ++ part)
@@ -56,26 +56,26 @@ at_end (Some xs) shown h e = h e
 
 -- ---- what has been read of the known bytes
 
-pub reads_line : (a b : Option (List ℕ)) (line : List ℕ) → Lacks 10 line → Consumes a b (line ++ 10 ∷ []) → Reads a b (line ∷ [])
+pub reads_line : (a b : Option (List ℕ)) (line : List ℕ) → Lacks 10 line → Consumes a b (line ++ 10 ∷ []) → Reads a b (Some line ∷ [])
 reads_line None b line lacks p = tt
 reads_line (Some xs) None line lacks p = absurd p
-reads_line (Some xs) (Some ys) line lacks p = ap lines (p ∙ append_assoc line (10 ∷ []) ys) ∙ lines_first line ys lacks
+reads_line (Some xs) (Some ys) line lacks p = ap sent_lines (p ∙ append_assoc line (10 ∷ []) ys) ∙ sent_first line ys lacks
 
 -- a last line, without a line feed
-pub reads_last : (a b c : Option (List ℕ)) (line part : List ℕ) → Lacks 10 line → 0 < length line → Consumes a b line → Consumes b c part → IsAtEnd b → part ≡ [] → Reads a c (line ∷ [])
+pub reads_last : (a b c : Option (List ℕ)) (line part : List ℕ) → Lacks 10 line → 0 < length line → Consumes a b line → Consumes b c part → IsAtEnd b → part ≡ [] → Reads a c (None ∷ [])
 reads_last None b c line part lacks some p q end none = tt
 reads_last (Some xs) None c line part lacks some p q end none = absurd p
 reads_last (Some xs) (Some ys) None line part lacks some p q end none = absurd q
 reads_last (Some xs) (Some ys) (Some zs) line part lacks some p q end none =
     let left : zs ≡ [] = ap (λ (l : List ℕ). l ++ zs) (sym none) ∙ sym q ∙ end in
-    ap lines (p ∙ ap (λ (l : List ℕ). line ++ l) end ∙ append-nil line) ∙ lines_last line lacks some ∙ ap (λ (l : List ℕ). line ∷ lines l) (sym left)
+    ap sent_lines (p ∙ ap (λ (l : List ℕ). line ++ l) end ∙ append-nil line) ∙ sent_last line lacks some ∙ ap (λ (l : List ℕ). None ∷ sent_lines l) (sym left)
 
 pub reads_none : (a b c : Option (List ℕ)) (line part : List ℕ) → line ≡ [] → Consumes a b line → Consumes b c part → part ≡ [] → Reads a c []
 reads_none None b c line part e p q none = tt
 reads_none (Some xs) None c line part e p q none = absurd p
 reads_none (Some xs) (Some ys) None line part e p q none = absurd q
 reads_none (Some xs) (Some ys) (Some zs) line part e p q none =
-    ap lines (p ∙ ap (λ (l : List ℕ). l ++ ys) e ∙ q ∙ ap (λ (l : List ℕ). l ++ zs) none)
+    ap sent_lines (p ∙ ap (λ (l : List ℕ). l ++ ys) e ∙ q ∙ ap (λ (l : List ℕ). l ++ zs) none)
 
 pub ended_before : (a b : Option (List ℕ)) (line : List ℕ) → line ≡ [] → Consumes a b line → IsAtEnd b → IsAtEnd a
 ended_before None b line e p end = tt
@@ -85,7 +85,7 @@ ended_before (Some xs) (Some ys) line e p end = p ∙ ap (λ (l : List ℕ). l +
 pub reads_into : (a b : Option (List ℕ)) (begun : List ℕ) → Lacks 10 begun → Consumes a b begun → ReadsInto a b []
 reads_into None b begun lacks p = tt
 reads_into (Some xs) None begun lacks p = absurd p
-reads_into (Some xs) (Some ys) begun lacks p = (begun, lacks, ap lines p)
+reads_into (Some xs) (Some ys) begun lacks p = (begun, lacks, ap sent_lines p)
 
 -- a line's end, or a part of it, behind what was taken
 pub took_last : (a b c : Option (List ℕ)) (taken part : List ℕ) → Consumes a b taken → Consumes b c (part ++ 10 ∷ []) → Consumes a c ((taken ++ part) ++ 10 ∷ [])

@@ -1,6 +1,7 @@
 -- The answers to a script whose lines come one by one (own rule).
-use Rattle.std.specs.Prelude.{◌≡◌, ◌⊎◌, ℕ, ◌+◌, ◌<◌, Bool, not, List, [], ◌∷◌, ◌++◌, length, take, filter, count_by, is_none, Option, None, Some, IfSome}
+use Rattle.std.specs.Prelude.{◌≡◌, ◌⊎◌, ℕ, ◌+◌, ◌<◌, Bool, false, not, List, [], ◌∷◌, ◌++◌, length, take, filter, count_by, is_none, Option, None, Some, IfSome, IsSomeAnd}
 use Rattle.std.specs.List.{AllByRecursion, enumerate_from, flat_map}
+use Rattle.std.specs.Fmt.{decimal}
 use Rattle.std.specs.Io.KnownBytes.{Appends}
 use Rattle.kp_types.specs.Texts.{refusal_text}
 use Rattle.kp_types.specs.declared.refusal.Refusal.TheVariants.{BadScript}
@@ -8,49 +9,58 @@ use Rattle.kp_model.specs.Event.{Outcome}
 use Rattle.kp_model.specs.Run.{last}
 use Rattle.kp_script.specs.Call.{Call, Header, node_of, IsHeaderText, IsCallText, SpellsNoHeader, SpellsNoCall}
 use Rattle.kp_script.specs.Ended.{RunEnd, logs_in}
-use Rattle.kp_script.specs.Lines.{lines, is_passed_over}
+use Rattle.kp_script.specs.Lines.{sent_lines, is_passed_over}
 use Rattle.kp_script.specs.Reads.{Reads, ReadsInto}
 use Rattle.kp_script.specs.Trace.{trace_line}
 use Rattle.kp_script.specs.Transcript.{IsTraceOf}
 
-abbrev pub counts : ℕ × List ℕ → Bool
-counts line = not (is_passed_over line.1)
+-- A line that has its line feed is passed over without an answer where it is empty or a comment. One that lacks it is not, whatever
+-- stands in it (own rule).
+abbrev pub is_quiet : Option (List ℕ) → Bool
+is_quiet None = false
+is_quiet (Some line) = is_passed_over line
+
+abbrev pub counts : ℕ × Option (List ℕ) → Bool
+counts line = not (is_quiet line.1)
 
 -- the lines that count among these, each with its number from 1
-abbrev pub counted_in : List (List ℕ) → List (ℕ × List ℕ)
+abbrev pub counted_in : List (Option (List ℕ)) → List (ℕ × Option (List ℕ))
 counted_in read = filter counts (enumerate_from 1 read)
 
--- what is answered to the line of this number where it can't stand where it stands
+-- What is answered to the line of this number where it can't stand where it stands: as to an event the number, a space, the refusal, and
+-- a line feed.
 abbrev pub fault_line : ℕ → List ℕ
-fault_line number = refusal_text (BadScript number) ++ 10 ∷ []
+fault_line number = decimal number ++ 32 ∷ refusal_text (BadScript number) ++ 10 ∷ []
 
-abbrev pub fault_lines : List (ℕ × List ℕ) → List ℕ
+abbrev pub fault_lines : List (ℕ × Option (List ℕ)) → List ℕ
 fault_lines faulty = flat_map (λ line. fault_line line.0) faulty
 
--- The line is too long, or isn't the text of a header in range.
-abbrev pub IsNoHeader : ℕ × List ℕ → Type 0
-IsNoHeader line = (2100000 < length line.1) ⊎ SpellsNoHeader line.1
+-- The line lacks its line feed, is too long, or isn't the text of a header in range.
+abbrev pub IsNoHeader : ℕ × Option (List ℕ) → Type 0
+IsNoHeader line = IfSome line.1 (λ bytes. (2100000 < length bytes) ⊎ SpellsNoHeader bytes)
 
--- what a line behind the header says: a call, or none
-abbrev pub Says : (count : ℕ) → (line : ℕ × List ℕ) → (said : ℕ × Option Call) → Type 0
-Says count line (number, None) = (number ≡ line.0) × SpellsNoCall count line.1
-Says count line (number, Some call) = (number ≡ line.0) × IsCallText count line.1 call
+-- What a line behind the header says: a call, which has its line feed, or none, as each that lacks it.
+abbrev pub Says : (count : ℕ) → (line : ℕ × Option (List ℕ)) → (said : ℕ × Option Call) → Type 0
+Says count line (number, None) = (number ≡ line.0) × IfSome line.1 (λ bytes. SpellsNoCall count bytes)
+Says count line (number, Some call) = (number ≡ line.0) × IsSomeAnd line.1 (λ bytes. IsCallText count bytes call)
 
-abbrev pub AreSaid : (count : ℕ) → List (ℕ × List ℕ) → List (ℕ × Option Call) → Type 0
+abbrev pub AreSaid : (count : ℕ) → List (ℕ × Option (List ℕ)) → List (ℕ × Option Call) → Type 0
 AreSaid count [] [] = Unit {0}
 AreSaid count [] (said ∷ others) = ⊥
 AreSaid count (line ∷ rest) [] = ⊥
 AreSaid count (line ∷ rest) (said ∷ others) = Says count line said × AreSaid count rest others
 
--- The first of these lines that is the text of a header in range is the header, and each line behind it says a call or none.
-pub record Heard (all : List (ℕ × List ℕ)) : Type 0 where
-  pub before : List (ℕ × List ℕ)
-  pub first : ℕ × List ℕ
-  pub rest : List (ℕ × List ℕ)
-  pub whole : all ≡ before ++ first ∷ rest
+-- The first of these lines that is the text of a header in range, with its line feed, is the header, and each line behind it says a call or
+-- none.
+pub record Heard (all : List (ℕ × Option (List ℕ))) : Type 0 where
+  pub before : List (ℕ × Option (List ℕ))
+  pub number : ℕ
+  pub first : List ℕ
+  pub rest : List (ℕ × Option (List ℕ))
+  pub whole : all ≡ before ++ (number, Some first) ∷ rest
   pub no_header : AllByRecursion IsNoHeader before
   pub header : Header
-  pub spelled : IsHeaderText first.1 header
+  pub spelled : IsHeaderText first header
   pub said : List (ℕ × Option Call)
   pub are : AreSaid header.count rest said
 
@@ -72,14 +82,14 @@ answers_text ((number, Some call) ∷ said) [] = []
 answers_text ((number, Some call) ∷ said) (outcome ∷ outcomes) = trace_line number (node_of call) outcome ++ answers_text said outcomes
 
 -- No header has come: each line is answered by its fault, and there are no nodes.
-pub record IsHeadless (all : List (ℕ × List ℕ)) (text : List ℕ) (ended : RunEnd) : Type 0 where
+pub record IsHeadless (all : List (ℕ × Option (List ℕ))) (text : List ℕ) (ended : RunEnd) : Type 0 where
   pub no_header : AllByRecursion IsNoHeader all
   pub text_is : text ≡ fault_lines all
   pub refused_is : ended.refused ≡ length all
   pub logs_are : ended.logs ≡ []
 
 -- The header has come: the calls have a trace, and the answers are its lines, with the faults of the other lines between them.
-pub record IsHeaded (all : List (ℕ × List ℕ)) (text : List ℕ) (ended : RunEnd) : Type 0 where
+pub record IsHeaded (all : List (ℕ × Option (List ℕ))) (text : List ℕ) (ended : RunEnd) : Type 0 where
   pub heard : Heard all
   pub plain : List ℕ
   pub refused : ℕ
@@ -89,21 +99,21 @@ pub record IsHeaded (all : List (ℕ × List ℕ)) (text : List ℕ) (ended : Ru
   pub logs_are : ended.logs ≡ logs_in heard.header (last trace.played.run)
 
 -- The text answers these lines that count, so many answers are refusals, and the run of the calls leaves these logs.
-abbrev pub IsPiped : (all : List (ℕ × List ℕ)) → (text : List ℕ) → RunEnd → Type 0
+abbrev pub IsPiped : (all : List (ℕ × Option (List ℕ))) → (text : List ℕ) → RunEnd → Type 0
 IsPiped all text ended = IsHeadless all text ended ⊎ IsHeaded all text ended
 
 -- All lines have been read, and the known bytes grew by the answers to all of them.
 pub record PipesTo (input old new : Option (List ℕ)) (ended : RunEnd) : Type 0 where
-  pub read : List (List ℕ)
-  pub all : IfSome input (λ bytes. lines bytes ≡ read)
+  pub read : List (Option (List ℕ))
+  pub all : IfSome input (λ bytes. sent_lines bytes ≡ read)
   pub text : List ℕ
   pub piped : IsPiped (counted_in read) text ended
   pub written : Appends old new text
 
 -- Lines have been read, and the known bytes grew by the answers to all of them: but for one, the last, at most.
 pub record PipesFirst (input left old new : Option (List ℕ)) : Type 0 where
-  pub read : List (List ℕ)
-  pub last_read : ReadsInto input left read ⊎ ((line : List ℕ) × Reads input left (read ++ line ∷ []))
+  pub read : List (Option (List ℕ))
+  pub last_read : ReadsInto input left read ⊎ ((line : Option (List ℕ)) × Reads input left (read ++ line ∷ []))
   pub text : List ℕ
   pub ended : RunEnd
   pub piped : IsPiped (counted_in read) text ended
@@ -111,8 +121,8 @@ pub record PipesFirst (input left old new : Option (List ℕ)) : Type 0 where
 
 -- Lines have been read, and the known bytes grew by the answers to all of them, of the last one's by a beginning alone.
 pub record PipesFront (input left old new : Option (List ℕ)) : Type 0 where
-  pub read : List (List ℕ)
-  pub line : List ℕ
+  pub read : List (Option (List ℕ))
+  pub line : Option (List ℕ)
   pub last_read : Reads input left (read ++ line ∷ [])
   pub text : List ℕ
   pub answer : List ℕ

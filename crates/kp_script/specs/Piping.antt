@@ -11,7 +11,7 @@ use Rattle.kp_script.specs.Reads.{Reads, ReadsInto}
 use Rattle.kp_script.specs.declared.pipe.Running.{Running}
 
 -- These lines have been answered by this text, so many times by a refusal, and their calls have led from the start to this stage.
-pub record Headed (all : List (ℕ × List ℕ)) (text : List ℕ) (answered : ℕ) (count : ℕ) (stage : Stage) : Type 0 where
+pub record Headed (all : List (ℕ × Option (List ℕ))) (text : List ℕ) (answered : ℕ) (count : ℕ) (stage : Stage) : Type 0 where
   pub heard : Heard all
   pub count_is : heard.header.count ≡ count
   pub refused : ℕ
@@ -20,14 +20,14 @@ pub record Headed (all : List (ℕ × List ℕ)) (text : List ℕ) (answered : �
   pub answered_is : answered ≡ (length heard.before + faults_among heard.said) + refused
 
 -- Before the header there are no nodes, and each line has been answered by its fault.
-abbrev pub Stands : (all : List (ℕ × List ℕ)) → (text : List ℕ) → (answered : ℕ) → Option Running → Type 0
+abbrev pub Stands : (all : List (ℕ × Option (List ℕ))) → (text : List ℕ) → (answered : ℕ) → Option Running → Type 0
 Stands all text answered None = AllByRecursion IsNoHeader all × (text ≡ fault_lines all) × (answered ≡ length all)
 Stands all text answered (Some running) = Headed all text answered running.count running.world
 
 -- The line is answered by this text, so many times by a refusal, and is among the lines where it counts.
-abbrev pub StandsOn : (line : ℕ × List ℕ) → (old new : Option Running) → (refused : ℕ) → (answer : List ℕ) → Type 0
+abbrev pub StandsOn : (line : ℕ × Option (List ℕ)) → (old new : Option Running) → (refused : ℕ) → (answer : List ℕ) → Type 0
 StandsOn line old new refused answer =
-    (all : List (ℕ × List ℕ)) (text : List ℕ) (answered : ℕ) → Stands all text answered old
+    (all : List (ℕ × Option (List ℕ))) (text : List ℕ) (answered : ℕ) → Stands all text answered old
     → Stands (all ++ filter counts (line ∷ [])) (text ++ answer) (answered + refused) new
 
 -- as many nodes as are counted
@@ -41,11 +41,11 @@ logs_of (Some running) = map log_of running.world.nodes
 
 -- The next line has not been answered: it wasn't read whole, or it was.
 abbrev pub Unanswered : (old new : Option (List ℕ)) → Type 0
-Unanswered old new = ReadsInto old new [] ⊎ ((line : List ℕ) × Reads old new (line ∷ []))
+Unanswered old new = ReadsInto old new [] ⊎ ((line : Option (List ℕ)) × Reads old new (line ∷ []))
 
 -- Of the answer to the next line, which has this number, a beginning is out.
 pub record AnswersFront (number : ℕ) (left left_new : Option (List ℕ)) (old : Option Running) (known known_new : Option (List ℕ)) : Type 0 where
-  pub line : List ℕ
+  pub line : Option (List ℕ)
   pub read : Reads left left_new (line ∷ [])
   pub new : Option Running
   pub refused : ℕ

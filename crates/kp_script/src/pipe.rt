@@ -17,10 +17,10 @@ ghost use Rattle.kp_script.specs.declared.pipe.Running.{Running as SomeRunning};
 use crate::call::{Header, call_of, header_of};
 use crate::ended::Ended;
 use crate::lines::{LONGEST_LINE, is_passed_over};
-use crate::reader::LineReader;
+use crate::reader::{LineReader, Next};
 use crate::run::{Work, limits_of, play_line};
 use crate::script::Line;
-use crate::trace::push_refusal;
+use crate::trace::push_fault;
 use kp_batch::Speller;
 use kp_types::{Counted, Folder, NodeId, Refusal};
 use kp_world::World;
@@ -120,8 +120,7 @@ fn refuse_line<W: Write>(
     ensures counted { CountsFaults result (faults_of writer.old) (faults_of writer.new) }
 {
     work.text.clear();
-    push_refusal(&mut work.text, &Refusal::BadScript(number))?;
-    work.text.push(b'\n')?;
+    push_fault(&mut work.text, number)?;
     writer.write_all(&work.text)?;
     Ok(1)
 }
@@ -136,13 +135,13 @@ fn answer_event<W: Write>(
     writer: &mut Counted<W>,
 ) -> Result<u64, Refusal>
     requires nodes { HasNodes (Some running.old) }
-    requires counts { counts (number, line.now) ≡ true }
+    requires counts { counts (number, Some line.now) ≡ true }
     requires writes { faults_of writer.old + 1 < 2 ^ 64 }
     ensures ok { IfOk result (λ refused. (answer : List ℕ)
-        × StandsOn (number, line.now) (Some running.old) (Some running.new) refused answer
+        × StandsOn (number, Some line.now) (Some running.old) (Some running.new) refused answer
         × Appends (W.contents (device_of writer.old)) (W.contents (device_of writer.new)) answer) }
     ensures begun { result ≡ Err DeviceFault → (new : Option SomeRunning) × (refused : ℕ) × (answer : List ℕ)
-        × StandsOn (number, line.now) (Some running.old) new refused answer
+        × StandsOn (number, Some line.now) (Some running.old) new refused answer
         × AppendsFront (W.contents (device_of writer.old)) (W.contents (device_of writer.new)) answer }
     ensures untouched { result ≡ Err WantOfMemory → writer.new ≡ writer.old }
     ensures nodes { HasNodes (Some running.new) }
@@ -180,13 +179,13 @@ fn answer_first<W: Write>(
     writer: &mut Counted<W>,
 ) -> Result<u64, Refusal>
     requires none { running.old ≡ None }
-    requires counts { counts (number, line.now) ≡ true }
+    requires counts { counts (number, Some line.now) ≡ true }
     requires writes { faults_of writer.old + 1 < 2 ^ 64 }
     ensures ok { IfOk result (λ refused. (answer : List ℕ)
-        × StandsOn (number, line.now) None running.new refused answer
+        × StandsOn (number, Some line.now) None running.new refused answer
         × Appends (W.contents (device_of writer.old)) (W.contents (device_of writer.new)) answer) }
     ensures begun { result ≡ Err DeviceFault → (new : Option SomeRunning) × (refused : ℕ) × (answer : List ℕ)
-        × StandsOn (number, line.now) None new refused answer
+        × StandsOn (number, Some line.now) None new refused answer
         × AppendsFront (W.contents (device_of writer.old)) (W.contents (device_of writer.new)) answer }
     ensures untouched { result ≡ Err WantOfMemory → writer.new ≡ writer.old }
     ensures nodes { HasNodes running.new }
@@ -218,11 +217,11 @@ fn answer_line<W: Write>(
     requires nodes { HasNodes running.old }
     requires writes { faults_of writer.old + 1 < 2 ^ 64 }
     ensures ok { IfOk result (λ refused. (whole : List ℕ) → line.now ≡ kept_of whole → (answer : List ℕ)
-        × StandsOn (number, whole) running.old running.new refused answer
+        × StandsOn (number, Some whole) running.old running.new refused answer
         × Appends (W.contents (device_of writer.old)) (W.contents (device_of writer.new)) answer) }
     ensures begun { result ≡ Err DeviceFault → (whole : List ℕ) → line.now ≡ kept_of whole
         → (new : Option SomeRunning) × (refused : ℕ) × (answer : List ℕ)
-        × StandsOn (number, whole) running.old new refused answer
+        × StandsOn (number, Some whole) running.old new refused answer
         × AppendsFront (W.contents (device_of writer.old)) (W.contents (device_of writer.new)) answer }
     ensures untouched { result ≡ Err WantOfMemory → writer.new ≡ writer.old }
     ensures nodes { HasNodes running.new }
@@ -254,7 +253,7 @@ fn answer_next<R: BufRead, W: Write>(
     requires nodes { HasNodes running.old }
     requires reads { read_faults reader.old + 1 < 2 ^ 64 }
     requires writes { faults_of writer.old + 1 < 2 ^ 64 }
-    ensures more { IfOk result (λ found. IfSome found (λ refused. (line : List ℕ) × (answer : List ℕ)
+    ensures more { IfOk result (λ found. IfSome found (λ refused. (line : Option (List ℕ)) × (answer : List ℕ)
         × Reads (R.remaining (reader_of reader.old)) (R.remaining (reader_of reader.new)) (line ∷ [])
         × StandsOn (number, line) running.old running.new refused answer
         × Appends (W.contents (device_of writer.old)) (W.contents (device_of writer.new)) answer)) }
@@ -272,11 +271,17 @@ fn answer_next<R: BufRead, W: Write>(
     ensures counted { CountsOne result (read_faults reader.old) (read_faults reader.new)
         (faults_of writer.old) (faults_of writer.new) }
 {
-    if !reader.next_line()? {
-        return Ok(None);
+    match reader.next_line()? {
+        Next::Nothing => Ok(None),
+        Next::Torn => {
+            let refused = refuse_line(number, work, writer)?;
+            Ok(Some(refused))
+        }
+        Next::Whole => {
+            let refused = answer_line(alloc, number, reader.line(), running, work, writer)?;
+            Ok(Some(refused))
+        }
     }
-    let refused = answer_line(alloc, number, reader.line(), running, work, writer)?;
-    Ok(Some(refused))
 }
 
 /// What is left of a pipe.
@@ -295,7 +300,7 @@ fn left(refused: u64, running: Option<Running>) -> Piped
 
 /// Plays a script whose lines come one by one: each is answered before the next one is read, by what `run` prints of an event, by
 /// nothing where it is the header, a comment or empty, and by F31 and its number where it can't stand where it stands; then it is
-/// passed over. It has any number of events. Answers at the reader's end how many answers were refusals, and the nodes with their logs
+/// passed over. So is a last line that isn't empty and lacks its line feed, whatever stands in it. It has any number of events. Answers at the reader's end how many answers were refusals, and the nodes with their logs
 /// as they are then. F32 where a device failed, F33 where memory was refused, and after 2^64 - 1 lines: then what was read before is
 /// answered, but for the last line. Takes time proportional to the script, its trace and the batches that messages carry, and memory to
 /// its longest line, to what the nodes' logs keep of it and to all messages.

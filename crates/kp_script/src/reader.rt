@@ -1,10 +1,11 @@
 //! Lines of a reader, one after another.
 
-ghost use Rattle.std.specs.Prelude.{◌≡◌, ◌+◌, ◌<◌, ◌≤◌, ◌^◌, ◌++◌, ℕ, List, [], ◌∷◌, length, IfOk, IfErr, IfSome, OnErr, Ok, true, false};
+ghost use Rattle.std.specs.Prelude.{◌≡◌, ◌+◌, ◌<◌, ◌≤◌, ◌^◌, ◌++◌, ℕ, List, [], ◌∷◌, Some, None, length, IfOk, IfErr, IfSome, OnErr, Ok};
 ghost use Rattle.std.specs.Io.KnownBytes.{IsAtEnd, Keeps};
 ghost use Rattle.kp_types.specs.declared.refusal.Refusal.TheVariants.{Device as DeviceFault};
 ghost use Rattle.kp_types.specs.Devices.{CountsFaults, IsDeviceFault};
 ghost use Rattle.kp_script.specs.Read.{Lacks};
+ghost use Rattle.kp_script.specs.declared.reader.Next.TheVariants.{Nothing, Torn, Whole};
 ghost use Rattle.kp_script.specs.Reads.{Gives, Reads, ReadsInto, kept_of, read_faults, reader_of};
 
 use crate::lines::LONGEST_LINE;
@@ -25,6 +26,17 @@ enum Piece {
     Last,
     /// Nothing: no byte is left.
     End,
+}
+
+/// What a reader's next line is.
+#[derive(Clone, Copy)]
+pub(crate) enum Next {
+    /// A line with its line feed.
+    Whole,
+    /// A last one that lacks it.
+    Torn,
+    /// No line: no byte is left.
+    Nothing,
 }
 
 /// Lines of a reader, one after another, with the count of the reader's calls that failed. A line ends with a line feed, or where the
@@ -100,15 +112,16 @@ impl<R: BufRead> LineReader<R> {
         }
     }
 
-    /// Reads the next line, and answers whether there was one. F32 where the reader failed, and the count rises by one; F33 where
+    /// Reads the next line, and answers whether it has its line feed, lacks it, or isn't there. F32 where the reader failed, and the count rises by one; F33 where
     /// memory was refused; a beginning of the line has been read then. Reads that were interrupted are tried again. O(n) in the line,
     /// and memory for at most [`LONGEST_LINE`] + 1 bytes.
-    pub(crate) fn next_line(&mut self) -> Result<bool, Refusal>
+    pub(crate) fn next_line(&mut self) -> Result<Next, Refusal>
         requires { read_faults self.old + 1 < 2 ^ 64 }
-        ensures found { result ≡ Ok true → (line : List ℕ) × (self.new.line.items ≡ kept_of line)
-            × Reads (R.remaining (reader_of self.old)) (R.remaining (reader_of self.new)) (line ∷ []) }
-        ensures end { result ≡ Ok false → IsAtEnd (R.remaining (reader_of self.old)) }
-        ensures rest { result ≡ Ok false → Reads (R.remaining (reader_of self.old)) (R.remaining (reader_of self.new)) [] }
+        ensures found { result ≡ Ok Whole → (line : List ℕ) × (self.new.line.items ≡ kept_of line)
+            × Reads (R.remaining (reader_of self.old)) (R.remaining (reader_of self.new)) (Some line ∷ []) }
+        ensures torn { result ≡ Ok Torn → Reads (R.remaining (reader_of self.old)) (R.remaining (reader_of self.new)) (None ∷ []) }
+        ensures end { result ≡ Ok Nothing → IsAtEnd (R.remaining (reader_of self.old)) }
+        ensures rest { result ≡ Ok Nothing → Reads (R.remaining (reader_of self.old)) (R.remaining (reader_of self.new)) [] }
         ensures begun { OnErr result (ReadsInto (R.remaining (reader_of self.old)) (R.remaining (reader_of self.new)) []) }
         ensures only { IfErr result IsDeviceFault }
         ensures counted { CountsFaults result (read_faults self.old) (read_faults self.new) }
@@ -117,9 +130,9 @@ impl<R: BufRead> LineReader<R> {
         for _ in 0..u64::MAX {
             match take_piece(&mut self.inner, &mut self.line) {
                 Ok(Piece::Part) => {}
-                Ok(Piece::Last) => return Ok(true),
-                Ok(Piece::End) if self.line.is_empty() => return Ok(false),
-                Ok(Piece::End) => return Ok(true),
+                Ok(Piece::Last) => return Ok(Next::Whole),
+                Ok(Piece::End) if self.line.is_empty() => return Ok(Next::Nothing),
+                Ok(Piece::End) => return Ok(Next::Torn),
                 Err(Refusal::Memory) => return Err(Refusal::Memory),
                 Err(_) => return Err(self.fail()),
             }

@@ -10,6 +10,7 @@ ghost use Rattle.kp_replica.specs.Replies.{role_reply, receipt_reply, shown_repl
 ghost use Rattle.kp_visible.specs.Lines.{line_of};
 ghost use Rattle.kp_world.specs.Answers.{appended, number_in, outcome_of, told_reply};
 ghost use Rattle.kp_script.specs.Call.{node_of};
+ghost use Rattle.kp_script.specs.Piped.{fault_line};
 ghost use Rattle.kp_script.specs.Seen.{seen_call};
 ghost use Rattle.kp_script.specs.Trace.{end_text, epoch_text, isr_text, leader_text, life_text, line_text, lines_text, nodes_text, record_text, reply_text, outcome_text, trace_line, trace_text};
 
@@ -258,7 +259,7 @@ fn push_told(text: &mut Vec<u8>, node: NodeId, told: &EventAnswer) -> Result<(),
 }
 
 /// Appends why an event was refused.
-pub(crate) fn push_refusal(text: &mut Vec<u8>, refusal: &Refusal) -> Result<(), AllocError>
+fn push_refusal(text: &mut Vec<u8>, refusal: &Refusal) -> Result<(), AllocError>
     ensures { OnOk result (text.new.items ≡ text.old.items ++ refusal_text refusal.now) }
 {
     text.extend_from_slice(refusal.name().as_bytes())?;
@@ -335,6 +336,17 @@ pub(crate) fn push_event(
     push_number(text, number)?;
     push_byte(text, b' ')?;
     push_outcome(text, node, outcome)?;
+    push_byte(text, b'\n')
+}
+
+/// Appends the answer to a line of a pipe that can't stand where it stands: its number, and F31 with that number. Fails where memory runs
+/// out.
+pub(crate) fn push_fault(text: &mut Vec<u8>, number: u64) -> Result<(), AllocError>
+    ensures { OnOk result (text.new.items ≡ text.old.items ++ fault_line number) }
+{
+    push_number(text, number)?;
+    push_byte(text, b' ')?;
+    push_refusal(text, &Refusal::BadScript(number))?;
     push_byte(text, b'\n')
 }
 

@@ -13,9 +13,10 @@ use std::fs::{self, File};
 use std::io::{self, ErrorKind};
 use std::process::ExitCode;
 
-/// Opens the empty device, which takes the lowest descriptor that is free: three of them leave no standard one closed.
+/// Opens the root folder, which can be neither read nor written as a file and takes the lowest descriptor that is free: three of them
+/// leave no standard one closed, and one that was closed still fails.
 fn nothing(rt: &HostRuntime) -> io::Result<File> {
-    fs::open(rt, "/dev/null")
+    fs::open(rt, "/")
 }
 
 /// The words of the command line, the first of which is the program's name.

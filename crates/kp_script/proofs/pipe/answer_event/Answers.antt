@@ -67,8 +67,8 @@ returns-in_err-write_all-in-Some-clause-counted g c =
 
 pub returns-in-None-clause-ok : goal.returns-in-None-clause-ok
 returns-in-None-clause-ok g c =
-    let stands = stands_wrong (c.args.number, c.args.line.now) c.args.running.now c.requires.counts c.in-None.ensures.none in
-    wrong_answered c.args.number c.args.line.now (Some c.args.running.now) (Some c.args.running.now) c.refuse_line.result (g.W.Write.contents (device_of c.args.writer.now)) (g.W.Write.contents (device_of c.refuse_line.new.writer)) stands
+    let stands = stands_wrong (c.args.number, Some c.args.line.now) c.args.running.now c.requires.counts c.in-None.ensures.none in
+    wrong_answered c.args.number (Some c.args.line.now) (Some c.args.running.now) (Some c.args.running.now) c.refuse_line.result (g.W.Write.contents (device_of c.args.writer.now)) (g.W.Write.contents (device_of c.refuse_line.new.writer)) stands
     c.refuse_line.ensures.ok c.refuse_line.ensures.one
 
 pub returns-in-None-clause-begun : goal.returns-in-None-clause-begun
@@ -76,6 +76,6 @@ returns-in-None-clause-begun g c = λ e. (
   Some c.args.running.now,
   1,
   fault_line c.args.number,
-  stands_wrong (c.args.number, c.args.line.now) c.args.running.now c.requires.counts c.in-None.ensures.none,
+  stands_wrong (c.args.number, Some c.args.line.now) c.args.running.now c.requires.counts c.in-None.ensures.none,
   c.refuse_line.ensures.begun e,
 )

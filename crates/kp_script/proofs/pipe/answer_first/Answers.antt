@@ -1,4 +1,4 @@
-use Rattle.std.proofs.Common.{ℕ, List, [], None, Option, sym, subst, inr}
+use Rattle.std.proofs.Common.{ℕ, List, [], None, Some, Option, sym, subst, inr}
 use Rattle.std.specs.Prelude.{IfOk}
 use Rattle.std.specs.Io.KnownBytes.{Appends}
 use Rattle.std.proofs.KnownBytes.{Appends-nil}
@@ -13,24 +13,24 @@ use Rattle.kp_script.proofs.pipe.answer_first.Goals as goal
 pub returns-in-Ok-clause-ok : goal.returns-in-Ok-clause-ok
 returns-in-Ok-clause-ok g c = (
   [],
-  stands_header (c.args.number, c.args.line.now) (seen_header c.in-Some.header) c.in-Ok.nodes c.requires.counts c.in-Some.ensures.found c.in-Ok.ensures.count c.in-Ok.ensures.shown,
+  stands_header c.args.number c.args.line.now (seen_header c.in-Some.header) c.in-Ok.nodes c.requires.counts c.in-Some.ensures.found c.in-Ok.ensures.count c.in-Ok.ensures.shown,
   Appends-nil _,
 )
 
 pub returns-in-None-clause-ok : goal.returns-in-None-clause-ok
 returns-in-None-clause-ok g c =
-    let stands = stands_faulty (c.args.number, c.args.line.now) c.requires.counts (inr c.in-None.ensures.none) in
+    let stands = stands_faulty (c.args.number, Some c.args.line.now) c.requires.counts (inr c.in-None.ensures.none) in
     let before = g.W.Write.contents (device_of c.args.writer.now) in
     let after = g.W.Write.contents (device_of c.refuse_line.new.writer) in
     subst (λ (running : Option Running). IfOk c.refuse_line.result (λ refused. (answer : List ℕ)
-    × StandsOn (c.args.number, c.args.line.now) None running refused answer × Appends before after answer)) (sym c.requires.none)
-    (wrong_answered c.args.number c.args.line.now None None c.refuse_line.result before after stands c.refuse_line.ensures.ok c.refuse_line.ensures.one)
+    × StandsOn (c.args.number, Some c.args.line.now) None running refused answer × Appends before after answer)) (sym c.requires.none)
+    (wrong_answered c.args.number (Some c.args.line.now) None None c.refuse_line.result before after stands c.refuse_line.ensures.ok c.refuse_line.ensures.one)
 
 pub returns-in-None-clause-begun : goal.returns-in-None-clause-begun
 returns-in-None-clause-begun g c = λ e. (
   None,
   1,
   fault_line c.args.number,
-  stands_faulty (c.args.number, c.args.line.now) c.requires.counts (inr c.in-None.ensures.none),
+  stands_faulty (c.args.number, Some c.args.line.now) c.requires.counts (inr c.in-None.ensures.none),
   c.refuse_line.ensures.begun e,
 )

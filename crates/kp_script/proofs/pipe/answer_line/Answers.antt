@@ -20,16 +20,16 @@ returns-then-line-gt-LONGEST_LINE-clause-begun g c = λ e whole is. (
   c.args.running.now,
   1,
   fault_line c.args.number,
-  stands_long (c.args.number, whole) c.args.running.now (long_whole 2100001 2100000 whole (subst (λ (l : List ℕ). 2100000 < length l) is c.if-line-gt-LONGEST_LINE.true)),
+  stands_long c.args.number whole c.args.running.now (long_whole 2100001 2100000 whole (subst (λ (l : List ℕ). 2100000 < length l) is c.if-line-gt-LONGEST_LINE.true)),
   c.refuse_line.ensures.begun e,
 )
 
 pub returns-then-is_passed_over-clause-ok : goal.returns-then-is_passed_over-clause-ok
 returns-then-is_passed_over-clause-ok g c = λ whole is.
-    let quiet : counts (c.args.number, c.args.line.now) ≡ false = ap not (sym c.is_passed_over.ensures ∙ c.if-is_passed_over.true) in (
+    let quiet : counts (c.args.number, Some c.args.line.now) ≡ false = ap not (sym c.is_passed_over.ensures ∙ c.if-is_passed_over.true) in (
       [],
-      subst (λ (l : List ℕ). StandsOn (c.args.number, l) c.args.running.now c.args.running.now 0 []) (is_whole c.args.line.now whole c.if-line-gt-LONGEST_LINE.false is)
-          (stands_quiet (c.args.number, c.args.line.now) c.args.running.now quiet),
+      subst (λ (l : List ℕ). StandsOn (c.args.number, Some l) c.args.running.now c.args.running.now 0 []) (is_whole c.args.line.now whole c.if-line-gt-LONGEST_LINE.false is)
+          (stands_quiet (c.args.number, Some c.args.line.now) c.args.running.now quiet),
       Appends-nil _,
     )
 
@@ -39,14 +39,14 @@ returns-in-Some-clause-ok g c =
     let after = g.W.Write.contents (device_of c.answer_event.new.writer) in
     let new : Option Running = Some c.answer_event.new.running in
     subst (λ (old : Option Running). IfOk c.answer_event.result (λ refused. (whole : List ℕ) → c.args.line.now ≡ kept_of whole → (answer : List ℕ)
-    × StandsOn (c.args.number, whole) old new refused answer × Appends before after answer)) (sym c.in-Some.is)
+    × StandsOn (c.args.number, Some whole) old new refused answer × Appends before after answer)) (sym c.in-Some.is)
     (whole_ok c.args.line.now c.args.number (Some c.in-Some.nodes) new c.answer_event.result before after c.if-line-gt-LONGEST_LINE.false c.answer_event.ensures.ok)
 
 pub returns-in-Some-clause-begun : goal.returns-in-Some-clause-begun
 returns-in-Some-clause-begun g c = λ e whole is.
     let before = g.W.Write.contents (device_of c.args.writer.now) in
     let after = g.W.Write.contents (device_of c.answer_event.new.writer) in
-    subst (λ (old : Option Running). (new : Option Running) × (refused : ℕ) × (answer : List ℕ) × StandsOn (c.args.number, whole) old new refused answer × AppendsFront before after answer) (sym c.in-Some.is)
+    subst (λ (old : Option Running). (new : Option Running) × (refused : ℕ) × (answer : List ℕ) × StandsOn (c.args.number, Some whole) old new refused answer × AppendsFront before after answer) (sym c.in-Some.is)
     (whole_begun c.args.line.now whole c.args.number (Some c.in-Some.nodes) before after c.if-line-gt-LONGEST_LINE.false is (c.answer_event.ensures.begun e))
 
 pub returns-in-None-clause-ok : goal.returns-in-None-clause-ok
@@ -54,12 +54,12 @@ returns-in-None-clause-ok g c =
     let before = g.W.Write.contents (device_of c.args.writer.now) in
     let after = g.W.Write.contents (device_of c.answer_first.new.writer) in
     subst (λ (old : Option Running). IfOk c.answer_first.result (λ refused. (whole : List ℕ) → c.args.line.now ≡ kept_of whole → (answer : List ℕ)
-    × StandsOn (c.args.number, whole) old c.answer_first.new.running refused answer × Appends before after answer)) (sym c.in-None.is)
+    × StandsOn (c.args.number, Some whole) old c.answer_first.new.running refused answer × Appends before after answer)) (sym c.in-None.is)
     (whole_ok c.args.line.now c.args.number None c.answer_first.new.running c.answer_first.result before after c.if-line-gt-LONGEST_LINE.false c.answer_first.ensures.ok)
 
 pub returns-in-None-clause-begun : goal.returns-in-None-clause-begun
 returns-in-None-clause-begun g c = λ e whole is.
     let before = g.W.Write.contents (device_of c.args.writer.now) in
     let after = g.W.Write.contents (device_of c.answer_first.new.writer) in
-    subst (λ (old : Option Running). (new : Option Running) × (refused : ℕ) × (answer : List ℕ) × StandsOn (c.args.number, whole) old new refused answer × AppendsFront before after answer) (sym c.in-None.is)
+    subst (λ (old : Option Running). (new : Option Running) × (refused : ℕ) × (answer : List ℕ) × StandsOn (c.args.number, Some whole) old new refused answer × AppendsFront before after answer) (sym c.in-None.is)
     (whole_begun c.args.line.now whole c.args.number None before after c.if-line-gt-LONGEST_LINE.false is (c.answer_first.ensures.begun e))

@@ -90,8 +90,8 @@ loop-read-preserved g c =
     let mid = g.W.Write.contents (device_of c.loop-read.writer) in
     let now = g.W.Write.contents (device_of c.answer_next.new.writer) in
     let new = c.answer_next.new.running in
-    let next : (line : List ℕ) × (answer : List ℕ) × Reads b left (line ∷ []) × StandsOn (c.loop-read.read + 1, line) c.loop-read.running new c.in-Ok-Some.more answer × Appends mid now answer =
-    subst (λ (o : Option ℕ). IfSome o (λ refused. (line : List ℕ) × (answer : List ℕ) × Reads b left (line ∷ []) × StandsOn (c.loop-read.read + 1, line) c.loop-read.running new refused answer
+    let next : (line : Option (List ℕ)) × (answer : List ℕ) × Reads b left (line ∷ []) × StandsOn (c.loop-read.read + 1, line) c.loop-read.running new c.in-Ok-Some.more answer × Appends mid now answer =
+    subst (λ (o : Option ℕ). IfSome o (λ refused. (line : Option (List ℕ)) × (answer : List ℕ) × Reads b left (line ∷ []) × StandsOn (c.loop-read.read + 1, line) c.loop-read.running new refused answer
     × Appends mid now answer)) c.in-Ok-Some.field-0-is c.in-Ok-Some.ensures.more in
     let one : c.in-Ok-Some.more ≤ 1 = subst (λ (o : Option ℕ). IfSome o (λ refused. refused ≤ 1)) c.in-Ok-Some.field-0-is c.in-Ok-Some.ensures.few in
     let number : c.loop-read.read + 1 ≡ length t.0 + 1 = omega (arith, t.2) in
@@ -102,7 +102,7 @@ loop-read-preserved g c =
         t.1 ++ next.1,
         omega (arith, length-append t.0 (next.0 ∷ []), t.2),
         reads_more _ b left t.0 (next.0 ∷ []) t.3 next.2,
-        subst (λ (all : List (ℕ × List ℕ)). Stands all (t.1 ++ next.1) refused new) (sym (counted_push t.0 next.0 (c.loop-read.read + 1) number))
+        subst (λ (all : List (ℕ × Option (List ℕ))). Stands all (t.1 ++ next.1) refused new) (sym (counted_push t.0 next.0 (c.loop-read.read + 1) number))
             (next.3 (counted_in t.0) t.1 c.loop-read.refused t.4),
         Appends-trans old mid now t.1 next.1 t.5 next.4,
       );

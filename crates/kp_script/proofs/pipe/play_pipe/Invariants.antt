@@ -1,4 +1,4 @@
-use Rattle.std.proofs.Common.{◌≡◌, ◌≤◌, ℕ, List, length}
+use Rattle.std.proofs.Common.{◌≡◌, ◌≤◌, ℕ, List, Option, length}
 use Rattle.std.specs.Io.KnownBytes.{Appends}
 use Rattle.kp_types.specs.Devices.{device_of, faults_of}
 use Rattle.kp_script.specs.Piped.{counted_in}
@@ -8,7 +8,7 @@ use Rattle.kp_script.proofs.pipe.play_pipe.Given as goal
 
 abbrev pub invariant-loop-read : goal.invariant-loop-read
 invariant-loop-read g l = record {
-  so_far : (lines : List (List ℕ)) × (text : List ℕ) × (length lines ≡ l.read)
+  so_far : (lines : List (Option (List ℕ))) × (text : List ℕ) × (length lines ≡ l.read)
       × Reads (g.R.Read.remaining (reader_of l.fn.reader)) (g.R.Read.remaining (reader_of l.reader)) lines
       × Stands (counted_in lines) text l.refused l.running
       × Appends (g.W.Write.contents (device_of l.fn.writer)) (g.W.Write.contents (device_of l.writer)) text;

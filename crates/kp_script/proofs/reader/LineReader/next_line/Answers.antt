@@ -3,7 +3,7 @@ use Rattle.std.proofs.lemmas.Bool.{eqb-false}
 use Rattle.std.proofs.KnownBytes.{Consumes-kept, Consumes-nil, Consumes-trans}
 use Rattle.kp_types.specs.Devices.{CountsFault, IsDeviceFault}
 use Rattle.kp_types.specs.declared.refusal.Refusal.{Refusal}
-use Rattle.kp_script.specs.Reads.{Gives, ReadsInto, kept_of, read_faults, reader_of}
+use Rattle.kp_script.specs.Reads.{Gives, ReadsInto, read_faults, reader_of}
 use Rattle.kp_script.specs.declared.reader.Piece.{Piece}
 use Rattle.kp_script.proofs.Pieces.{ended_before, kept_fits, kept_more, lacks_append, none_kept, reads_into, reads_last, reads_line, reads_none, some_kept, took_last}
 use Rattle.kp_script.proofs.reader.LineReader.next_line.Goals as goal
@@ -59,8 +59,8 @@ returns-in-Ok-End-clause-rest g c = λ e.
     let none = none_kept 2100001 (t.0 ++ p.0) (omega arith) (ap length (sym kept) ∙ zero) in
     reads_none _ _ _ t.0 p.0 (sym (append-nil t.0) ∙ ap (λ (l : List ℕ). t.0 ++ l) (sym gives.2) ∙ none) t.3 gives.0 gives.2
 
-pub returns-in-Ok-End-2-clause-found : goal.returns-in-Ok-End-2-clause-found
-returns-in-Ok-End-2-clause-found g c = λ e.
+pub returns-in-Ok-End-2-clause-torn : goal.returns-in-Ok-End-2-clause-torn
+returns-in-Ok-End-2-clause-torn g c = λ e.
     let t = c.loop.invariant.taken in
     let p = c.in-Ok-End.ensures.given in
     let gives = subst (λ (piece : Piece). Gives piece (g.R.Read.remaining c.loop.self.inner) (g.R.Read.remaining c.take_piece.new.reader) p.0) c.in-Ok-End.field-0-is p.2 in
@@ -68,11 +68,8 @@ returns-in-Ok-End-2-clause-found g c = λ e.
     let some : length c.take_piece.new.line.items ≢ 0 = λ none. long (omega (arith, none, c.take_piece.new.line.ok.0)) in
     let kept = kept_more 2100001 c.loop.self.line.items c.take_piece.new.line.items t.0 p.0 t.2 p.3 in
     let whole : t.0 ++ p.0 ≡ t.0 = ap (λ (l : List ℕ). t.0 ++ l) gives.2 ∙ append-nil t.0 in
-    let there = some_kept 2100001 (t.0 ++ p.0) (λ none. some (ap length kept ∙ none)) in (
-      t.0,
-      kept ∙ ap kept_of whole,
-      reads_last _ _ _ t.0 p.0 t.1 (subst (λ (l : List ℕ). 0 < length l) whole there) t.3 gives.0 gives.1 gives.2,
-    )
+    let there = some_kept 2100001 (t.0 ++ p.0) (λ none. some (ap length kept ∙ none)) in
+    reads_last _ _ _ t.0 p.0 t.1 (subst (λ (l : List ℕ). 0 < length l) whole there) t.3 gives.0 gives.1 gives.2
 
 pub returns-in-Err-Memory-clause-begun : goal.returns-in-Err-Memory-clause-begun
 returns-in-Err-Memory-clause-begun g c =
@@ -85,6 +82,7 @@ returns-in-Err g c =
     let a = g.R.Read.remaining (reader_of c.args.self.now) in
     record {
       found = search (rules, tests);
+      torn = search (rules, tests);
       end = search (rules, tests);
       rest = search (rules, tests);
       begun =
