@@ -14,7 +14,7 @@ use Rattle.kp_cli.specs.Faults.{refusal_of}
 use Rattle.kp_cli.specs.Line.{IsCallOf, file_of, is_pipe, keep_of, kpart}
 use Rattle.kp_cli.specs.Perform.{PerformsCall, RunsAndKeeps, Shelf, Streams}
 use Rattle.kp_cli.specs.Piped.{EndsPipe, PipesAndKeeps}
-use Rattle.kp_cli.specs.Told.{Prints, complaint, file_complaint, lone_reason}
+use Rattle.kp_cli.specs.Told.{Prints, complaint, file_complaint, lone_reason, tamed}
 use Rattle.kp_cli.specs.declared.call.Call.{Call}
 use Rattle.kp_cli.specs.declared.fault.Fault.{Fault}
 use Rattle.kp_cli.specs.declared.fault.Fault.TheVariants as faults
@@ -56,10 +56,11 @@ Explains held told kinds.OutOfMemory text out out_new err err_new status =
     (out_new ≡ out) × Tells told err err_new (complaint Memory) × (status ≡ 1)
 Explains held told _ text out out_new err err_new status = Blames told text out out_new err err_new status
 
--- What is told of a kind, by a text that is this one where it is known. Memory may run out before it is told.
+-- What is told of a kind, by a text that is this one where it is known, and is shown so that no terminal obeys what it quotes. Memory may run
+-- out before it is told.
 abbrev pub ExplainsBy : {W E : Type 0} → (W → Option (List ℕ)) → (E → Option (List ℕ)) → ErrorKind → (known : Option (List ℕ)) → (out out_new : Counted W) → (err err_new : Counted E) → ℕ → Type 0
 ExplainsBy held told kind known out out_new err err_new status =
-    ((text : List ℕ) × IfSome known (λ wanted. text ≡ wanted) × Explains held told kind text out out_new err err_new status)
+    ((text : List ℕ) × IfSome known (λ wanted. text ≡ wanted) × Explains held told kind (tamed text) out out_new err err_new status)
     ⊎ Explains held told kinds.OutOfMemory [] out out_new err err_new status
 
 -- what is known of the file, the folder and the two outputs, and besides which answers opening a path, taking the folder at a path,

@@ -1,5 +1,5 @@
 -- What is said on standard error (own rule).
-use Rattle.std.specs.Prelude.{◌≡◌, ◌⊎◌, ℕ, ◌+◌, ◌/◌, ◌%◌, ◌==◌, Bool, not, ◌&&◌, nat_lt, List, [], ◌∷◌, ◌++◌, Option, take, length, codes, if◌then◌else◌}
+use Rattle.std.specs.Prelude.{◌≡◌, ◌⊎◌, ℕ, ◌+◌, ◌/◌, ◌%◌, ◌==◌, Bool, not, ◌&&◌, ◌||◌, nat_lt, List, [], ◌∷◌, ◌++◌, Option, take, length, codes, if◌then◌else◌}
 use Rattle.kp_types.specs.declared.counted.Counted.{Counted}
 use Rattle.kp_types.specs.declared.refusal.Refusal.{Refusal}
 use Rattle.kp_types.specs.declared.refusal.Refusal.TheVariants as refusals
@@ -35,6 +35,19 @@ shown_bytes before (byte ∷ rest) = shown_byte before byte ++ shown_bytes byte 
 abbrev pub shown : List ℕ → List ℕ
 shown path =
     if nat_lt 1024 (length path) then shown_bytes 0 (take 1024 path) ++ codes "..." else shown_bytes 0 path
+
+-- How a byte of a text of several lines is shown behind this one: as a path's, but that a line feed ends a line.
+abbrev pub tame_byte : (before byte : ℕ) → List ℕ
+tame_byte before byte = if byte == 10 || is_plain before byte then byte ∷ [] else escaped byte
+
+-- how the bytes of such a text are shown behind this one
+abbrev pub tame_bytes : (before : ℕ) → List ℕ → List ℕ
+tame_bytes before [] = []
+tame_bytes before (byte ∷ rest) = tame_byte before byte ++ tame_bytes byte rest
+
+-- How such a text is shown, so that no terminal obeys a word that it quotes.
+abbrev pub tamed : List ℕ → List ℕ
+tamed text = tame_bytes 0 text
 
 -- what stands on standard error for a refusal
 abbrev pub complaint : Refusal → List ℕ

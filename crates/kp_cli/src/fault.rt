@@ -1,13 +1,21 @@
 //! Why a file or a folder can't be had.
 
 ghost use Rattle.std.specs.Prelude.{◌≡◌, Some};
-ghost use Rattle.std.specs.IoError.{error_kind};
-ghost use Rattle.kp_cli.specs.Faults.{fault_of, fault_text, folder_fault_of, refusal_of};
+ghost use Rattle.kp_cli.specs.Faults.{fault_of, fault_text, folder_fault_of, kind_fault, number_fault, refusal_of, standing_fault_of};
 
 use kp_types::Refusal;
 use std::fmt;
 use std::io::{self, ErrorKind};
 use thiserror::Error;
+
+/// Linux's EIO.
+const DEVICE_FAILED: i32 = 5;
+
+/// Linux's ENFILE: the system has as many files open as it may.
+const SYSTEM_FULL: i32 = 23;
+
+/// Linux's EMFILE: the program has.
+const PROGRAM_FULL: i32 = 24;
 
 /// Why a file can't be opened or read, or a folder not be taken or written, or the words not be read.
 #[derive(Clone, Copy, Debug, PartialEq, Eq, Error)]
@@ -40,6 +48,12 @@ pub enum Fault {
     TooLarge,
     /// A name of the path is too long.
     NameTooLong,
+    /// What stands at a folder's path is a link, and nothing stands where it leads.
+    DanglingLink,
+    /// The program or the system has as many files open as it may.
+    TooManyFiles,
+    /// The device that it lies on failed.
+    DeviceFailed,
     /// Memory ran out.
     OutOfMemory,
     /// An argument of the command line isn't UTF-8.
@@ -48,12 +62,36 @@ pub enum Fault {
     Other,
 }
 
+/// The reason of an error number that has no kind of its own.
+fn numbered(code: Option<i32>) -> Option<Fault>
+    ensures { result ≡ number_fault code }
+{
+    let code = code?;
+    if code == DEVICE_FAILED {
+        Some(Fault::DeviceFailed)
+    } else if code == SYSTEM_FULL || code == PROGRAM_FULL {
+        Some(Fault::TooManyFiles)
+    } else {
+        None
+    }
+}
+
 impl Fault {
     /// The reason that an error of the system is of a file. O(1).
     pub fn of(error: &io::Error) -> Fault
-        ensures { result ≡ fault_of (error_kind error.now) }
+        ensures { result ≡ fault_of error.now }
     {
-        match error.kind() {
+        match numbered(error.raw_os_error()) {
+            Some(fault) => fault,
+            None => Fault::of_kind(error.kind()),
+        }
+    }
+
+    /// The reason that a kind of the system's errors is of a file.
+    fn of_kind(kind: ErrorKind) -> Fault
+        ensures { result ≡ kind_fault kind }
+    {
+        match kind {
             ErrorKind::NotFound => Fault::NoSuchFile,
             ErrorKind::PermissionDenied => Fault::NoPermission,
             ErrorKind::AlreadyExists => Fault::AlreadyThere,
@@ -73,12 +111,22 @@ impl Fault {
 
     /// The reason that an error of the system is of a folder that is to be made or looked into. O(1).
     pub fn of_folder(error: &io::Error) -> Fault
-        ensures { result ≡ folder_fault_of (error_kind error.now) }
+        ensures { result ≡ folder_fault_of error.now }
     {
         match error.kind() {
             ErrorKind::NotFound => Fault::NoFolderAbove,
             ErrorKind::NotADirectory => Fault::IsNoFolder,
             _ => Fault::of(error),
+        }
+    }
+
+    /// The reason that an error of the system is of what stands at a folder's path, and is looked into. O(1).
+    pub fn of_standing(error: &io::Error) -> Fault
+        ensures { result ≡ standing_fault_of error.now }
+    {
+        match error.kind() {
+            ErrorKind::NotFound => Fault::DanglingLink,
+            _ => Fault::of_folder(error),
         }
     }
 
@@ -111,6 +159,9 @@ impl Fault {
             Fault::QuotaUsed => "the quota of the disk is used up",
             Fault::TooLarge => "the file would be too large",
             Fault::NameTooLong => "its name is too long",
+            Fault::DanglingLink => "it is a link that leads nowhere",
+            Fault::TooManyFiles => "too many files are open",
+            Fault::DeviceFailed => "its device failed",
             Fault::OutOfMemory => "out of memory",
             Fault::NotText => "an argument isn't UTF-8",
             Fault::Other => "the system gave no reason that is known here",

@@ -125,7 +125,7 @@ impl KeptFolder for HostFolder<'_> {
     }
 }
 
-/// Whether nothing stands in the folder.
+/// Whether nothing stands in the folder at this path, at which something stands.
 fn see_empty(rt: &HostRuntime, path: &str) -> Result<(), Fault> {
     match fs::read_dir(rt, path) {
         Ok(mut entries) => match entries.next() {
@@ -133,7 +133,7 @@ fn see_empty(rt: &HostRuntime, path: &str) -> Result<(), Fault> {
             Some(Ok(_)) => Err(Fault::NotEmpty),
             Some(Err(error)) => Err(Fault::of_folder(&error)),
         },
-        Err(error) => Err(Fault::of_folder(&error)),
+        Err(error) => Err(Fault::of_standing(&error)),
     }
 }
 

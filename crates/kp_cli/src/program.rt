@@ -8,7 +8,7 @@ ghost use Rattle.kp_race.specs.declared.outcome.Plan.{Plan as SomePlan};
 ghost use Rattle.kp_cli.specs.declared.call.Call.TheVariants.{Race};
 ghost use Rattle.kp_cli.specs.Line.{file_of, is_pipe};
 ghost use Rattle.kp_cli.specs.Perform.{PerformsCall};
-ghost use Rattle.kp_cli.specs.Program.{Asked, Ends, EndsAsked, ExplainsBy, IsAsked, IsLeft, LeavesPipe};
+ghost use Rattle.kp_cli.specs.Program.{Asked, Ends, EndsAsked, Explains, ExplainsBy, IsAsked, IsLeft, LeavesPipe};
 
 use crate::Call;
 use crate::devices::{KeptFolder, Source};
@@ -16,7 +16,7 @@ use crate::fault::Fault;
 use crate::line::call_of;
 use crate::piping::{pipe, pipe_and_keep};
 use crate::running::{perform, run_and_keep};
-use crate::telling::{refuse, refuse_path, refuse_words};
+use crate::telling::{refuse, refuse_path, refuse_words, tame};
 use clap::error::ErrorKind;
 use kp_race::{Outcome, Plan};
 use kp_types::{Counted, NodeId, Refusal};
@@ -36,9 +36,33 @@ pub struct Left<F, K> {
     pub folder: Counted<K>,
 }
 
+/// Says what clap says, by its kind and a text that is shown as it is, and answers the exit status.
+fn say<W: Write, E: Write>(
+    kind: ErrorKind,
+    text: &[u8],
+    out: &mut Counted<W>,
+    err: &mut Counted<E>,
+) -> u8
+    requires writes { faults_of out.old + 1 < 2 ^ 64 }
+    requires complaints { faults_of err.old + 1 < 2 ^ 64 }
+    ensures { Explains W.contents E.contents kind text.now out.old out.new err.old err.new result }
+{
+    match kind {
+        ErrorKind::OutOfMemory => refuse(err, Refusal::Memory),
+        ErrorKind::DisplayHelp | ErrorKind::DisplayVersion => match out.write_all(text) {
+            Ok(()) => 0,
+            Err(refusal) => refuse(err, refusal),
+        },
+        _ => match err.write_all(text) {
+            Ok(()) => 2,
+            Err(_) => 1,
+        },
+    }
+}
+
 /// Says why words are no call, or what was asked for instead of one, by clap's kind of it and its text, and answers the exit status:
 /// 0 for help and the version, which go to standard output, 2 for a mistake, which goes to standard error, and 1 where one of
-/// them failed or memory ran out. O(n) in the text.
+/// them failed or memory ran out. The text quotes words, so what a terminal would obey in it stands as `\xHH`. O(n) in the text.
 pub fn explain<D: Display, W: Write, E: Write>(
     alloc: Global,
     kind: ErrorKind,
@@ -53,16 +77,9 @@ pub fn explain<D: Display, W: Write, E: Write>(
     let Ok(text) = text.to_string(alloc) else {
         return refuse(err, Refusal::Memory);
     };
-    match kind {
-        ErrorKind::OutOfMemory => refuse(err, Refusal::Memory),
-        ErrorKind::DisplayHelp | ErrorKind::DisplayVersion => match out.write_all(text.as_bytes()) {
-            Ok(()) => 0,
-            Err(refusal) => refuse(err, refusal),
-        },
-        _ => match err.write_all(text.as_bytes()) {
-            Ok(()) => 2,
-            Err(_) => 1,
-        },
+    match tame(alloc, text.as_bytes()) {
+        Ok(tame) => say(kind, tame.as_slice(), out, err),
+        Err(_) => refuse(err, Refusal::Memory),
     }
 }
 

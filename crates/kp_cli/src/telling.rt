@@ -1,11 +1,11 @@
 //! What is said on standard error.
 
-ghost use Rattle.std.specs.Prelude.{◌≡◌, ◌+◌, ◌<◌, ◌≤◌, ◌^◌, ◌++◌, length, OnOk, OnErr};
+ghost use Rattle.std.specs.Prelude.{◌≡◌, ◌+◌, ◌<◌, ◌≤◌, ◌^◌, ◌++◌, length, IfOk, OnOk, OnErr};
 ghost use Rattle.arrayvec.specs.ArrayVec.{array_vec_len};
 ghost use Rattle.kp_types.specs.Devices.{IsBegun, IsOut, Tells, faults_of};
 ghost use Rattle.kp_types.specs.Texts.{place_of, place_text};
 ghost use Rattle.kp_cli.specs.Program.{words_complaint, words_status};
-ghost use Rattle.kp_cli.specs.Told.{complaint, file_complaint, hex_digit, is_plain, lone_reason, reason, reason_of, shown, shown_byte, shown_bytes};
+ghost use Rattle.kp_cli.specs.Told.{complaint, file_complaint, hex_digit, is_plain, lone_reason, reason, reason_of, shown, shown_byte, shown_bytes, tame_byte, tamed};
 ghost use Rattle.kp_cli.specs.Told.{status_of_refusal};
 
 use crate::devices::Explained;
@@ -13,6 +13,7 @@ use crate::fault::Fault;
 use arrayvec::ArrayVec;
 use itoa::Buffer;
 use kp_types::{Counted, Refusal};
+use std::alloc::{AllocError, Global};
 use std::io::Write;
 
 /// How many bytes of a path are shown.
@@ -79,6 +80,35 @@ fn show(path: &str) -> ArrayVec<u8, SHOWN>
     shown.push(b'.');
     shown.push(b'.');
     shown
+}
+
+/// Puts one byte of a text of several lines behind those that are shown.
+fn push_tame(tame: &mut Vec<u8>, before: u8, byte: u8) -> Result<(), AllocError>
+    ensures { OnOk result (tame.new.items ≡ tame.old.items ++ tame_byte before byte) }
+{
+    if byte == b'\n' || is_plain(before, byte) {
+        tame.push(byte)?;
+    } else {
+        tame.push(b'\\')?;
+        tame.push(b'x')?;
+        tame.push(hex_digit(byte / 16))?;
+        tame.push(hex_digit(byte % 16))?;
+    }
+    Ok(())
+}
+
+/// How a text of several lines that may quote words is shown, so that no terminal obeys it: as [`show`] shows a path, but with its line
+/// feeds, and whole. Own rule. O(n) in the text.
+pub(crate) fn tame(alloc: Global, text: &[u8]) -> Result<Vec<u8>, AllocError>
+    ensures { IfOk result (λ tame. tame.items ≡ tamed text.now) }
+{
+    let mut tame = Vec::new(alloc);
+    let mut before = 0;
+    for byte in text {
+        push_tame(&mut tame, before, *byte)?;
+        before = *byte;
+    }
+    Ok(tame)
 }
 
 /// The blank and the place that stand behind a refusal's name, where it has a place.
