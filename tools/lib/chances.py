@@ -22,6 +22,8 @@ def lines(texts):
 class Chance:
     """Makes a script of one node: producers that repeat themselves, skip, come back with old epochs, and their markers."""
 
+    producers = (5, 6, 9)
+
     def __init__(self, seed):
         self.n = Numbers(seed)
         self.next, self.sent = {}, []
@@ -37,7 +39,7 @@ class Chance:
     def sender(self):
         """Producer, its epoch and its next sequence, which are right more often than not."""
         n = self.n
-        pid = n.one_of([5, 6, 9])
+        pid = n.one_of(self.producers)
         epoch, sequence = self.known(pid)
         if n.once_in(9):
             epoch, sequence = epoch + 1, 0
@@ -392,3 +394,29 @@ class Replicas(Chance):
             self.play(f"restart {n}")
         return lines([f"nodes {self.count} segment {1024 + self.n.below(500)} interval {self.n.below(900)}",
                       *self.events, *shown])
+
+
+# Producers
+
+def kit_hash(pid):
+    """The hash by which a hash map of the kit's std finds a number: eight bytes folded to 64 bits by a multiplication, and these to 32."""
+    product = (0x243f_6a88_85a3_08d3 ^ pid) * (0x9e37_79b9_7f4a_7c15 ^ 16)
+    folded = product % 2 ** 64 ^ product >> 64
+    return (folded ^ folded >> 32) % 2 ** 32
+
+
+ONE_HASH = (9, 4165640953, 5233959828, 6429363679, 6857822124, 11075760734, 12315619785, 16128205096, 19771155950,
+            20541540388, 21996609089, 27974094876)
+LOW_BITS = tuple(place << 40 for place in range(12))  # they have their low 40 bits in common
+HIGH_BITS = tuple(2 ** 63 - 1 - place for place in range(12))
+POOLS = (ONE_HASH, ONE_HASH, LOW_BITS, HIGH_BITS, range(12), ONE_HASH + LOW_BITS + HIGH_BITS)
+assert len({kit_hash(pid) for pid in ONE_HASH}) == 1, "they have one hash"
+
+
+class Colliding(Replicas):
+    """Makes a script of a cluster with up to eleven producers, whose numbers have much in common."""
+
+    def __init__(self, seed):
+        super().__init__(seed)
+        pool = POOLS[seed % len(POOLS)]
+        self.producers = [self.n.one_of(pool) for _ in range(3 + self.n.below(9))]

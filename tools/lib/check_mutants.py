@@ -1,7 +1,7 @@
 """Makes broken logs and scripts by chance, and compares what the program leaves of each with what the rules say.
 
 A lawful log or script is made (logs.py, chances.py) and broken in one to three places (mutations.py). The evaluator of the rules
-(decoder.py, scripts.py) says what `kpart inspect` or `kpart run` has to leave, and each byte of it has to be so.
+(decoder.py, scripts.py) says what `kpart inspect`, or `kpart run` and `kpart pipe`, have to leave, and each byte of it has to be so.
 """
 import hashlib
 import itertools
@@ -79,6 +79,12 @@ def wanted(found):
     return "".join(f"{line}\n" for line in lines), "", status
 
 
+def wanted_of_pipe(data):
+    """The same of a pipe that gets the file."""
+    answers, status = scripts.piped(data)
+    return "".join(answers), "", status
+
+
 # What comes of files
 
 def outcomes(found):
@@ -104,6 +110,13 @@ def difference(got, rules):
     return "; ".join(f"{name} is {one!r:.200}, and not {other!r:.200}" for name, one, other in pairs)
 
 
+def calls(program, path, found):
+    """What each call over the file leaves, and what it has to: of a script there are two, as it may also come line by line."""
+    yield "", called(program, *found.words(path)), wanted(found)
+    if found.verb == "run":
+        yield "kpart pipe <FILE: ", called(program, "pipe", given=path), wanted_of_pipe(found.data)
+
+
 def compared(program, path, seed):
     """What differs in the file of a seed, None for nothing. Whatever fails here is told with its seed."""
     found = "no file"
@@ -111,12 +124,12 @@ def compared(program, path, seed):
         found = mutant(seed)
         with open(path, "wb") as file:
             file.write(found.data)
-        got, rules = called(program, *found.words(path)), wanted(found)
+        differ = [f"{call}{difference(got, rules)}" for call, got, rules in calls(program, path, found) if got != rules]
     except Differs as why:
         return f"{found}: {why}"
     except Exception as why:  # the evaluator asserts that runs are safe
         return f"{found}: the maker or the evaluator fails, {why!r:.200}"
-    return None if got == rules else f"{found}: {difference(got, rules)}"
+    return f"{found}: {'; '.join(differ)}" if differ else None
 
 
 # In each process of the pool

@@ -23,9 +23,9 @@ def difference(script, wanted, got):
 
 
 def check_seed(program, room, subject):
-    """The script of a seed, of so many events."""
-    seed, events = subject
-    script, path = Replicas(seed).script(events).encode(), f"{room}/script"
+    """The script of a seed, of so many events, that this class makes."""
+    maker, seed, events = subject
+    script, path = maker(seed).script(events).encode(), f"{room}/script"
     with open(path, "wb") as file:
         file.write(script)
     why = difference(script, scripts.run(script), called(program, "run", path))
@@ -34,8 +34,8 @@ def check_seed(program, room, subject):
     return Counter(seeds=1)
 
 
-def check(program, first=1, count=1000, events=1000):
+def check(program, first=1, count=1000, events=1000, maker=Replicas):
     """How many of so many seeds differ, from the first one on."""
-    _, differ = compare_all(program, [Check(f"seed {seed}", check_seed, (seed, events)) for seed in range(first, first + count)])
+    _, differ = compare_all(program, [Check(f"seed {seed}", check_seed, (maker, seed, events)) for seed in range(first, first + count)])
     print(f"{count} seeds, {differ} differ")
     return differ

@@ -39,10 +39,11 @@ def same_lines(where, got, wanted):
         same(f"{where}, line {place}", one, other)
 
 
-def called(program, *words):
-    """What the program leaves: output, complaint, exit status."""
+def called(program, *words, given=os.devnull):
+    """What the program leaves, with this file as its standard input: output, complaint, exit status."""
     try:
-        done = subprocess.run([program, *words], stdin=subprocess.DEVNULL, capture_output=True, timeout=SECONDS)
+        with open(given, "rb") as file:
+            done = subprocess.run([program, *words], stdin=file, capture_output=True, timeout=SECONDS)
     except subprocess.TimeoutExpired:
         raise Differs(f"no end within {SECONDS} seconds") from None
     return done.stdout.decode("latin-1"), done.stderr.decode("latin-1"), done.returncode

@@ -147,13 +147,16 @@ def not_provided(*options):
     return mistake("the following required arguments were not provided:" + "".join(f"\n  {it}" for it in options), RACE)
 
 
-# Words that are no call, the kind that clap gives their refusal, and its text.
+# Words that are no call, the kind that clap gives their refusal, and its text as it is shown.
 NO_CALL = {f"kpart{' ' if words else ''}{words}": (kind, text) for words, kind, text in (
     ("", "MissingSubcommand", mistake("'kpart' requires a subcommand but one was not provided\n  [subcommands: run, inspect, race, pipe, help]", "<COMMAND>")),
     ("walk x.script", "InvalidSubcommand", mistake("unrecognized subcommand 'walk'", "<COMMAND>")),
     ("run", MISSING, mistake("the following required arguments were not provided:\n  <FILE>", "run <FILE>")),
     ("run a b", UNKNOWN, unexpected("b", RUN)),
     ("--loud", UNKNOWN, mistake("unexpected argument '--loud' found", "<COMMAND>")),
+    ("run a b\x1b]0;owned\x07\u009b", UNKNOWN, unexpected("b\\x1b]0;owned\\x07\\xc2\\x9b", RUN)),
+    ("ru\x1bn\\x a", "InvalidSubcommand", mistake("unrecognized subcommand 'ru\\x1bn\\x5cx'", "<COMMAND>")),
+    ("inspect x --segment \x1b[31m1", VALUE, invalid("\\x1b[31m1", "segment <S>", NUMBER)),
     ("--help", "DisplayHelp", HELP),
     ("--version", "DisplayVersion", VERSION),
     ("-V", "DisplayVersion", VERSION),

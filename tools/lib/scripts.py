@@ -109,6 +109,18 @@ def read_header(line):
     return int(words[1])
 
 
+def read_line(line, count):
+    """The count of nodes, 0 before the header, which tells it, and the event if the line is one; a ValueError where it can't stand
+    here."""
+    if len(line) > MAX_LINE or not line.isascii():
+        raise ValueError
+    if line == b"" or line.startswith(b"#"):
+        return count, None
+    if count == 0:
+        return read_header(line), None
+    return count, event_of(line, count)
+
+
 def parse(script):
     """The count of nodes, and the events with their lines. The first line that can't stand where it stands is the fault."""
     lines = script.split(b"\n")
@@ -117,14 +129,9 @@ def parse(script):
     count, events = 0, []
     for place, line in enumerate(lines, 1):
         try:
-            if len(line) > MAX_LINE or any(byte > 127 for byte in line):
-                raise ValueError
-            if line == b"" or line.startswith(b"#"):
-                continue
-            if count == 0:
-                count = read_header(line)
-                continue
-            events.append((place, event_of(line, count)))
+            count, event = read_line(line, count)
+            if event:
+                events.append((place, event))
             if len(events) > MAX_EVENTS:
                 raise ValueError
         except ValueError:
@@ -181,27 +188,28 @@ def ends(world, events, lines):
 
 
 def lawful(lines):
-    """A script of these lines, which come one by one: a comment stands for each that can't stand where it stands. And the numbers of
-    those; no script where no line is a header."""
-    lines, faulty = lines.split(b"\n"), []
-    count = len(lines) - (lines[-1] == b"")
-    while True:
+    """A script of these lines, which come one by one: a comment stands for each that can't stand where it stands, and for a last one
+    that has no line feed. And the numbers of those; no script where no line is a header."""
+    *lines, last = lines.split(b"\n")
+    count, faulty = 0, []
+    for place, line in enumerate(lines, 1):
         try:
-            parse(b"\n".join(lines))
-            return b"\n".join(lines), faulty
-        except Fault as fault:
-            place = fault.args[0]
-            if place > count:
-                return None, faulty
-            lines[place - 1] = b"#"
+            count, _ = read_line(line, count)
+        except ValueError:
             faulty.append(place)
+    if last:
+        lines.append(last)
+        faulty.append(len(lines))
+    for place in faulty:
+        lines[place - 1] = b"#"
+    return b"".join(line + b"\n" for line in lines) if count else None, faulty
 
 
 def piped(lines):
     """What a pipe answers to these lines, an answer for each that has one, and its exit status."""
     script, faulty = lawful(lines)
     trace, _, status = run(script) if script else ("", "", 0)
-    answers = {place: f"F31 BadScript {place}\n" for place in faulty}
+    answers = {place: f"{place} F31 BadScript {place}\n" for place in faulty}
     answers.update({int(line.split(" ")[0]): f"{line}\n" for line in trace.splitlines()})
     return [answers[place] for place in sorted(answers)], 1 if faulty else status
 
