@@ -22,7 +22,7 @@ use Rattle.kp_types.proofs.Elements.{all_weaker, none_found}
 
 -- ---- the list is cut
 
-all_taken : {X : Type 0} (P : X → Type 0) (xs : List X) (n : ℕ) → AllWithin P xs 0 n → AllByRecursion P (take n xs)
+pub all_taken : {X : Type 0} (P : X → Type 0) (xs : List X) (n : ℕ) → AllWithin P xs 0 n → AllByRecursion P (take n xs)
 all_taken P xs zero h = tt
 all_taken P [] (suc n) h = tt
 all_taken P (x ∷ xs) (suc n) h = (h 0 x (omega arith) (omega arith), all_taken P xs n (λ k d from upto. h (suc k) d (omega arith) (omega arith)))
@@ -92,14 +92,19 @@ place_ended list offset place rises within = λ k d from upto.
           subst (λ (a : Aborted). leb a.marker offset ≡ true) (get_or-drop start list (k - start) d ∙ ap (λ (n : ℕ). get_or list n d) at) passes
     ]
 
--- of a list that rises, the batches are shown that the whole list shows
+-- of a list that rises, a batch is shown by what stands from its place on as by the whole list
+pub shown_near : (list : List Aborted) (place : ℕ) (b : Batch) → IsNonDecreasingBy (λ a. a.marker) list → place ≤ length list → shows (drop (place_from list b.base place) list) b ≡ shows list b
+shown_near list place b rises within =
+    let next = place_from list b.base place in
+    shows_same (drop next list) list b (λ producer. cut_hides list b.base next producer (place_ended list b.base place rises within))
+
+-- so the batches are shown that the whole list shows
 pub shown_whole : (list : List Aborted) (place : ℕ) (batches : List Batch) → IsNonDecreasingBy (λ a. a.marker) list → place ≤ length list
     → shown_from list place batches ≡ filter (shows list) batches
 shown_whole list place [] rises within = refl
 shown_whole list place (b ∷ batches) rises within =
     let next = place_from list b.base place in
-    let same = shows_same (drop next list) list b (λ producer. cut_hides list b.base next producer (place_ended list b.base place rises within)) in
-    ap (λ (shown : Bool). cond shown (b ∷ shown_from list next batches) (shown_from list next batches)) same
+    ap (λ (shown : Bool). cond shown (b ∷ shown_from list next batches) (shown_from list next batches)) (shown_near list place b rises within)
     ∙ ap (λ (l : List Batch). cond (shows list b) (b ∷ l) l) (shown_whole list next batches rises (place_within list b.base place within))
 
 -- ---- a log's list rises

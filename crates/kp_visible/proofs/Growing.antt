@@ -1,6 +1,9 @@
 -- What a read-committed consumer was shown before: nothing that is aborted later, and nothing that is taken back.
 use Rattle.std.proofs.Common.{◌≡◌, ℕ, ◌<◌, ◌≤◌, Bool, true, false, cond, leb, ◌⊎◌, List, [], ◌∷◌, ◌++◌, Option, Some, None, refl, sym, ap, ◌∙◌, subst, arith, append_assoc, inl, inr}
-use Rattle.std.specs.Prelude.{Contains, map, min, not, unwrap_or}
+use Rattle.std.specs.Prelude.{zero, suc, Contains, drop, length, map, min, not, unwrap_or}
+use Rattle.std.proofs.lemmas.List.{append-nil, map-append}
+use Rattle.kp_visible.specs.Looked.{AreKnown, are_data, are_visible, chosen}
+use Rattle.kp_visible.proofs.Stretches.{chosen_filter}
 use Rattle.std.specs.List.{AllByRecursion, enumerate_from, filter, find, fold, reduce}
 use Rattle.std.specs.Option.{IsSomeAnd, option_and_then, option_map_or, option_or}
 use Rattle.std.proofs.lemmas.Bool.{cases_Bool, eq-eqb, eqb-true, le-leb, leb-false, leb-true, lt-leb}
@@ -12,7 +15,7 @@ use Rattle.kp_model.specs.Beginning.{Begins}
 use Rattle.kp_model.specs.Log.{Batch, IsLog, below, from_offset, next_offset}
 use Rattle.kp_model.specs.Producers.{content_of, producer_of}
 use Rattle.kp_model.specs.Transactions.{Open, is_abort, is_marker_of, is_some_number, is_transactional_of, open_of, open_in, opened_by, stable}
-use Rattle.kp_model.specs.Visible.{is_commit, is_visible, records_in, visible}
+use Rattle.kp_model.specs.Visible.{is_commit, is_data, is_visible, records_in, visible}
 use Rattle.kp_visible.specs.Laws.{IsAbortedIn, Spans, ending_of}
 use Rattle.kp_visible.proofs.Lists.{Splits, splits, all_filter_map, all_flat_map, all_here, filter_all, filter_none, none_passes}
 use Rattle.kp_visible.proofs.Places.{Apart, IsApart, all_from, all_take, apart_filter, around, each_apart, from_split, log_apart}
@@ -283,6 +286,20 @@ settled_is front more earlier b apart stands within = by_content (content_of b) 
         ∙ sym (ap (visible_at front b) is)
     by_content (Marker producer epoch coordinator commit) is = rw is refl
 
+apart_front : (low : ℕ) (xs ys : List Batch) → Apart low (xs ++ ys) → Apart low xs
+apart_front low [] ys h = tt
+apart_front low (x ∷ xs) ys h = (h.0, h.1, apart_front (next_offset x) xs ys h.2)
+
+map_agree_on : {X Y : Type 0} (P : X → Type 0) (f g : X → Y) → ((x : X) → P x → f x ≡ g x) → (xs : List X) → AllByRecursion P xs → map f xs ≡ map g xs
+map_agree_on P f g agree [] all = refl
+map_agree_on P f g agree (x ∷ xs) all = let here = agree x all.0 in let rest = map_agree_on P f g agree xs all.1 in cc
+
+-- the batches below the last stable offset, which stand in the log
+pub stand_below : (log : List Batch) (offset : ℕ) → AllByRecursion (λ x. Contains log x × (next_offset x ≤ offset)) (below offset log)
+stand_below log offset =
+    all_weaker _ (λ x. Contains log x × (next_offset x ≤ offset)) (λ x h. (h.0, leb-true (next_offset x) offset h.1)) (below offset log)
+    (all_filter (λ x. leb (next_offset x) offset) (Contains log) log (all_itself log))
+
 pub visible_stays : (front more : List Batch) (earlier later : ℕ) → IsLog (front ++ more) → earlier ≤ later → Begins (visible front earlier) (visible (front ++ more) later)
 unfolding visible
 visible_stays front more earlier later lawful le =
@@ -292,19 +309,106 @@ visible_stays front more earlier later lawful le =
     let known = below (stable front earlier) front in
     let placed : Batch → List (ℕ × Record) = λ x. enumerate_from x.base (records_of x.body) in
     let l = longer (stable front earlier) (stable whole later) front more apart (stays_below front more earlier later whole_apart apart le) in
-    let stand = all_weaker _ (λ x. Contains front x × (next_offset x ≤ stable front earlier)) (λ x h. (h.0, leb-true (next_offset x) (stable front earlier) h.1)) known
-    (all_filter (λ x. leb (next_offset x) (stable front earlier)) (Contains front) front (all_itself front)) in
-    let settled = filter_agree_on _ (is_visible whole) (is_visible front) (λ x h. settled_is front more earlier x apart h.0 h.1) known stand in
+    let settled = filter_agree_on _ (is_visible whole) (is_visible front) (λ x h. settled_is front more earlier x apart h.0 h.1) known (stand_below front (stable front earlier)) in
     let joined : filter (is_visible whole) (below (stable whole later) whole) ≡ filter (is_visible front) known ++ filter (is_visible whole) l.rest =
     ap (filter (is_visible whole)) l.is ∙ filter-append (is_visible whole) known l.rest ∙ ap (λ (k : List Batch). k ++ filter (is_visible whole) l.rest) settled in
     record {
       rest = records_in (filter (is_visible whole) l.rest);
       is = sym (ap records_in joined ∙ flat_map-append placed (filter (is_visible front) known) (filter (is_visible whole) l.rest));
     }
+
+-- ---- what is known of the first batches stays so
+
+begins_twice : {X : Type 0} (xs ys zs : List X) → Begins xs ys → Begins ys zs → Begins xs zs
+begins_twice {X = X} xs ys zs one two = record { rest = one.rest ++ two.rest; is = sym (append_assoc xs one.rest two.rest) ∙ ap (λ (l : List X). l ++ two.rest) one.is ∙ two.is }
+
+visible_known : (front more : List Batch) (earlier later : ℕ) → IsLog (front ++ more) → earlier ≤ later → Begins (are_visible front earlier) (are_visible (front ++ more) later)
+visible_known front more earlier later lawful le =
+    let whole = front ++ more in
+    let whole_apart = log_apart whole lawful in
+    let apart = apart_front 0 front more whole_apart in
+    let known = below (stable front earlier) front in
+    let l = longer (stable front earlier) (stable whole later) front more apart (stays_below front more earlier later whole_apart apart le) in
+    let settled = map_agree_on _ (is_visible whole) (is_visible front) (λ x h. settled_is front more earlier x apart h.0 h.1) known (stand_below front (stable front earlier)) in
+    record {
+      rest = map (is_visible whole) l.rest;
+      is = sym (ap (map (is_visible whole)) l.is ∙ map-append (is_visible whole) known l.rest ∙ ap (λ (k : List Bool). k ++ map (is_visible whole) l.rest) settled);
+    }
+
+data_known : (front more : List Batch) (earlier later : ℕ) → IsLog (front ++ more) → earlier ≤ later → Begins (are_data front earlier) (are_data (front ++ more) later)
+data_known front more earlier later lawful le =
+    let apart = apart_front 0 front more (log_apart (front ++ more) lawful) in
+    let l = longer earlier later front more apart (all_weaker (λ x. next_offset x ≤ earlier) (λ x. next_offset x ≤ later) (λ x ends. omega (arith, ends, le)) (below earlier front) (all_below earlier front)) in
+    record { rest = map is_data l.rest; is = sym (ap (map is_data) l.is ∙ map-append is_data (below earlier front) l.rest) }
+
+-- the log has grown, and the high watermark has risen
+pub known_grows : (front more : List Batch) (earlier later : ℕ) (uncommitted committed : List Bool) → IsLog (front ++ more) → earlier ≤ later
+    → AreKnown front earlier uncommitted committed → AreKnown (front ++ more) later uncommitted committed
+known_grows front more earlier later uncommitted committed lawful le known = record {
+  read_uncommitted = begins_twice uncommitted (are_data front earlier) (are_data (front ++ more) later) known.read_uncommitted (data_known front more earlier later lawful le);
+  read_committed = begins_twice committed (are_visible front earlier) (are_visible (front ++ more) later) known.read_committed (visible_known front more earlier later lawful le);
+}
+
+-- the high watermark has risen
+pub known_rises : (log : List Batch) (earlier later : ℕ) (uncommitted committed : List Bool) → IsLog log → earlier ≤ later → AreKnown log earlier uncommitted committed → AreKnown log later uncommitted committed
+known_rises log earlier later uncommitted committed lawful le known =
+    let same = append-nil log in
+    subst (λ (l : List Batch). AreKnown l later uncommitted committed) same
+    (known_grows log [] earlier later uncommitted committed (subst IsLog (sym same) lawful) le known)
+
+-- a batch that ends above the high watermark is taken back
+pub known_cut : (before : List Batch) (b : Batch) (high_watermark : ℕ) (uncommitted committed : List Bool) → IsLog (before ++ b ∷ []) → high_watermark < next_offset b
+    → AreKnown (before ++ b ∷ []) high_watermark uncommitted committed → AreKnown before high_watermark uncommitted committed
+known_cut before b high_watermark uncommitted committed lawful above known =
+    let test : Batch → Bool = λ x. leb (next_offset x) high_watermark in
+    let out : test b ≡ false = lt-leb (next_offset b) high_watermark above in
+    let one : filter test (b ∷ []) ≡ [] = rw out refl in
+    let same : below high_watermark (before ++ b ∷ []) ≡ below high_watermark before = filter-append test before (b ∷ []) ∙ ap (λ (l : List Batch). below high_watermark before ++ l) one ∙ append-nil (below high_watermark before) in
+    let told : are_visible (before ++ b ∷ []) high_watermark ≡ are_visible before high_watermark =
+    known_below (before ++ b ∷ []) high_watermark (log_apart (before ++ b ∷ []) lawful) ∙ ap (λ (l : List Batch). are_visible l high_watermark) same
+    ∙ sym (known_below before high_watermark (apart_front 0 before (b ∷ []) (log_apart (before ++ b ∷ []) lawful))) in
+    record {
+      read_uncommitted = subst (Begins uncommitted) (ap (map is_data) same) known.read_uncommitted;
+      read_committed = subst (Begins committed) told known.read_committed;
+    }
   where
-    apart_front : (low : ℕ) (xs ys : List Batch) → Apart low (xs ++ ys) → Apart low xs
-    apart_front low [] ys h = tt
-    apart_front low (x ∷ xs) ys h = (h.0, h.1, apart_front (next_offset x) xs ys h.2)
+    known_below : (log : List Batch) (high_watermark : ℕ) → Apart 0 log → are_visible log high_watermark ≡ are_visible (below high_watermark log) high_watermark
+    known_below log high_watermark apart =
+        let known = below high_watermark log in
+        let f = front_of 0 high_watermark log apart in
+        let known_apart = apart_filter (λ x. leb (next_offset x) high_watermark) 0 log apart in
+        let high = stable_within known high_watermark known_apart in
+        let held = stable_known log high_watermark in
+        let shown = below (stable known high_watermark) known in
+        let same : below (stable log high_watermark) log ≡ shown =
+        sym (below_twice (stable log high_watermark) high_watermark log (omega (arith, high, held))) ∙ ap (λ (offset : ℕ). below offset known) (sym held) in
+        let settled = map_agree_on _ (is_visible (known ++ f.rest)) (is_visible known) (λ x h. settled_is known f.rest high_watermark x known_apart h.0 h.1) shown (stand_below known (stable known high_watermark)) in
+        ap (map (is_visible log)) same ∙ ap (λ (l : List Batch). map (is_visible l) shown) f.is ∙ settled
+
+-- ---- more of them are looked at
+
+drop_begun : {X : Type 0} (xs ys : List X) → Begins xs ys → xs ++ drop (length xs) ys ≡ ys
+drop_begun [] ys b = refl
+drop_begun (x ∷ xs) [] b = let bad = b.is in absurd cc
+drop_begun (x ∷ xs) (y ∷ ys) b =
+    let whole : x ∷ (xs ++ b.rest) ≡ y ∷ ys = b.is in
+    let head : x ≡ y = cc in
+    let tail : xs ++ b.rest ≡ ys = cc in
+    let rest : xs ++ drop (length xs) ys ≡ ys = drop_begun xs ys (record { rest = b.rest; is = tail }) in
+    cc
+
+map_drop : {X Y : Type 0} (f : X → Y) (n : ℕ) (xs : List X) → map f (drop n xs) ≡ drop n (map f xs)
+map_drop f zero xs = refl
+map_drop f (suc n) [] = refl
+map_drop f (suc n) (x ∷ xs) = map_drop f n xs
+
+-- with those that come next they are all
+pub looked_all : (p : Batch → Bool) (known : List Batch) (verdicts : List Bool) → Begins verdicts (map p known) → verdicts ++ map p (drop (length verdicts) known) ≡ map p known
+looked_all p known verdicts begun = ap (λ (vs : List Bool). verdicts ++ vs) (map_drop p (length verdicts) known) ∙ drop_begun verdicts (map p known) begun
+
+-- and of those from a place on they choose the ones that pass
+pub chosen_from : (p : Batch → Bool) (known : List Batch) (place : ℕ) (verdicts : List Bool) → verdicts ≡ map p known → chosen (drop place verdicts) (drop place known) ≡ filter p (drop place known)
+chosen_from p known place verdicts is = ap (λ (vs : List Bool). chosen vs (drop place known)) (ap (drop place) is ∙ sym (map_drop p place known)) ∙ chosen_filter p (drop place known)
 
 -- ---- what lies above the high watermark counts for nothing
 
@@ -320,7 +424,5 @@ visible_below log high_watermark lawful =
     let shown = below (stable known high_watermark) known in
     let same : below (stable log high_watermark) log ≡ shown =
     sym (below_twice (stable log high_watermark) high_watermark log (omega (arith, high, held))) ∙ ap (λ (offset : ℕ). below offset known) (sym held) in
-    let stand = all_weaker _ (λ x. Contains known x × (next_offset x ≤ stable known high_watermark)) (λ x h. (h.0, leb-true (next_offset x) (stable known high_watermark) h.1)) shown
-    (all_filter (λ x. leb (next_offset x) (stable known high_watermark)) (Contains known) known (all_itself known)) in
-    let settled = filter_agree_on _ (is_visible (known ++ f.rest)) (is_visible known) (λ x h. settled_is known f.rest high_watermark x known_apart h.0 h.1) shown stand in
+    let settled = filter_agree_on _ (is_visible (known ++ f.rest)) (is_visible known) (λ x h. settled_is known f.rest high_watermark x known_apart h.0 h.1) shown (stand_below known (stable known high_watermark)) in
     ap records_in (ap (filter (is_visible log)) same ∙ ap (λ (l : List Batch). filter (is_visible l) shown) f.is ∙ settled)

@@ -17,3 +17,4 @@ pub mod Keys
 pub mod Needed
 pub mod LineLists
 pub mod Spans
+pub mod Stretches

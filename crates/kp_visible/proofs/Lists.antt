@@ -1,7 +1,7 @@
 -- Elements of lists: what is true of each, which are found first, and what stands in front of one and behind it.
-use Rattle.std.proofs.Common.{◌≡◌, ℕ, zero, suc, ◌<◌, Bool, true, false, List, [], ◌∷◌, ◌++◌, length, get_or, Option, Some, None, refl, sym, ap, ◌∙◌, subst, arith, inl, inr}
+use Rattle.std.proofs.Common.{◌≡◌, ℕ, zero, suc, ◌<◌, ◌≤◌, Bool, true, false, List, [], ◌∷◌, ◌++◌, length, get_or, Option, Some, None, refl, sym, ap, ◌∙◌, subst, arith, inl, inr}
 use Rattle.std.specs.Prelude.{Contains}
-use Rattle.std.specs.List.{AllByRecursion, filter, filter_map, find, flat_map}
+use Rattle.std.specs.List.{AllByRecursion, AllWithin, filter, filter_map, find, flat_map}
 use Rattle.std.proofs.lemmas.Bool.{cases_Bool}
 use Rattle.kp_types.proofs.Elements.{all_weaker, all_append, find-append, chosen_more}
 
@@ -106,3 +106,19 @@ all_splits {X = X} (x ∷ xs) = (
   record { front = []; back = xs; is = refl },
   all_weaker (Splits xs) (Splits (x ∷ xs)) (λ y s. record { front = x ∷ s.front; back = s.back; is = ap (λ (l : List X). x ∷ l) s.is }) xs (all_splits xs),
 )
+
+-- ---- what is found first, by its place
+
+pub find_at : {X : Type 0} (p : X → Bool) (xs : List X) (i : ℕ) (d : X) → AllWithin (λ x. p x ≡ false) xs 0 i → i < length xs → p (get_or xs i d) ≡ true → find p xs ≡ Some (get_or xs i d)
+find_at p [] i d none within passes = absurd (omega (arith, within))
+find_at p (x ∷ xs) zero d none within passes = rw passes refl
+find_at p (x ∷ xs) (suc i) d none within passes =
+    let first : p x ≡ false = none 0 x (omega arith) (omega arith) in
+    rw first (find_at p xs i d (λ k e from upto. none (suc k) e (omega arith) (omega (arith, upto))) (omega (arith, within)) passes)
+
+pub find_nothing : {X : Type 0} (p : X → Bool) (xs : List X) (n : ℕ) → AllWithin (λ x. p x ≡ false) xs 0 n → length xs ≤ n → find p xs ≡ None
+find_nothing p [] n none over = refl
+find_nothing p (x ∷ xs) zero none over = absurd (omega (arith, over))
+find_nothing p (x ∷ xs) (suc n) none over =
+    let first : p x ≡ false = none 0 x (omega arith) (omega arith) in
+    rw first (find_nothing p xs n (λ k e from upto. none (suc k) e (omega arith) (omega (arith, upto))) (omega (arith, over)))

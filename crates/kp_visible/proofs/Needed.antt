@@ -1,7 +1,7 @@
 -- Of a list of aborted transactions that rises, those that decide for batches between two offsets.
 use Rattle.std.proofs.Common.{◌≡◌, ℕ, zero, suc, ◌<◌, ◌≤◌, ◌+◌, ◌||◌, Bool, true, false, eqb, ltb, leb, List, [], ◌∷◌, length, get_or, take, drop, Option, refl, ap, arith}
 use Rattle.std.specs.Prelude.{map}
-use Rattle.std.specs.List.{All, AllByRecursion, AllWithin, HoldsAt, filter, find}
+use Rattle.std.specs.List.{All, AllByRecursion, AllWithin, HoldsAt, find}
 use Rattle.std.specs.Option.{option_map_or}
 use Rattle.std.proofs.lemmas.Bool.{and_parts, leb-true, le-leb, lt-ltb, ltb-true}
 use Rattle.kp_model.specs.Log.{Batch}
@@ -9,7 +9,7 @@ use Rattle.kp_model.specs.Transactions.{Aborted}
 use Rattle.kp_visible.specs.Filter.{covers, decides, shows}
 use Rattle.kp_visible.specs.Searched.{stops}
 use Rattle.kp_visible.proofs.Cutting.{cut_hides, shows_same}
-use Rattle.kp_types.proofs.Elements.{filter_agree_on}
+use Rattle.kp_types.proofs.Elements.{all_weaker}
 
 abbrev pub IsBetween : ℕ → ℕ → Batch → Type 0
 IsBetween lowest highest b = (lowest ≤ b.base) × (b.base ≤ highest)
@@ -21,9 +21,9 @@ all_between f lowest highest (w ∷ ws) all = (all 0 w (omega arith), all_betwee
 -- ---- from the first that ends above the lowest
 
 pub behind_shows : (list : List Aborted) (lowest highest from : ℕ) (batches : List Batch) → AllWithin (λ a. leb a.marker lowest ≡ true) list 0 from → AllByRecursion (IsBetween lowest highest) batches
-    → filter (shows (drop from list)) batches ≡ filter (shows list) batches
+    → AllByRecursion (λ b. shows (drop from list) b ≡ shows list b) batches
 behind_shows list lowest highest from batches ended between =
-    filter_agree_on (IsBetween lowest highest) (shows (drop from list)) (shows list)
+    all_weaker (IsBetween lowest highest) (λ b. shows (drop from list) b ≡ shows list b)
     (λ b is. shows_same (drop from list) list b (λ producer. cut_hides list b.base from producer (λ k d low upto.
     let above = is.0 in
     let below = leb-true (get_or list k d).marker lowest (ended k d low upto) in
@@ -51,10 +51,10 @@ stops_decides producer highest offset a le stopping =
     or_true false = refl
 
 pub upto_shows : (list : List Aborted) (lowest highest last : ℕ) (batches : List Batch) → last < length list → HoldsAt (λ a. stops highest a ≡ true) list last → AllByRecursion (IsBetween lowest highest) batches
-    → filter (shows (take (last + 1) list)) batches ≡ filter (shows list) batches
+    → AllByRecursion (λ b. shows (take (last + 1) list) b ≡ shows list b) batches
 upto_shows list lowest highest last batches within stopping between =
     let next : last + 1 ≡ suc last = omega arith in
-    filter_agree_on (IsBetween lowest highest) (shows (take (last + 1) list)) (shows list)
+    all_weaker (IsBetween lowest highest) (λ b. shows (take (last + 1) list) b ≡ shows list b)
     (λ b is. shows_same (take (last + 1) list) list b (λ producer.
     ap (λ (o : Option Aborted). option_map_or (covers producer b.base) o false)
     (rw next (find_upto (decides producer b.base) list last within (λ d. stops_decides producer highest b.base (get_or list last d) is.1 (stopping d))))))

@@ -1,6 +1,6 @@
 -- Of the batches below the last stable offset the list of aborted transactions shows those that are visible.
 use Rattle.std.proofs.Common.{◌≡◌, ℕ, ◌<◌, ◌≤◌, Bool, true, false, leb, ◌&&◌, ◌||◌, List, [], ◌∷◌, ◌++◌, Option, Some, None, refl, sym, ap, ◌∙◌, subst, arith, append_assoc, inl, inr}
-use Rattle.std.specs.Prelude.{Contains, not}
+use Rattle.std.specs.Prelude.{Contains, map, not}
 use Rattle.std.specs.List.{AllByRecursion, filter, find}
 use Rattle.std.specs.Option.{option_map_or}
 use Rattle.std.proofs.lemmas.Bool.{cases_Bool, eq-eqb, leb-true, and_parts}
@@ -111,6 +111,15 @@ pub shown_is : (log batches : List Batch) (high_watermark : ℕ) → IsLog log �
     → records_in (filter (shows (aborted_in log)) batches) ≡ records_in (filter (is_visible log) batches)
 shown_is log batches high_watermark lawful all =
     ap records_in (filter_agree_on _ (shows (aborted_in log)) (is_visible log) (λ b h. shows_visible log high_watermark b lawful h.0 h.1) batches all)
+
+-- and each of them
+pub shown_are : (log batches : List Batch) (high_watermark : ℕ) → IsLog log → AllByRecursion (λ b. Contains log b × (next_offset b ≤ stable log high_watermark)) batches
+    → map (shows (aborted_in log)) batches ≡ map (is_visible log) batches
+shown_are log [] high_watermark lawful all = refl
+shown_are log (b ∷ batches) high_watermark lawful all =
+    let here = shows_visible log high_watermark b lawful all.0.0 all.0.1 in
+    let rest = shown_are log batches high_watermark lawful all.1 in
+    cc
 
 -- all that are below the last stable offset
 pub whole_is : (log : List Batch) (high_watermark : ℕ) → IsLog log

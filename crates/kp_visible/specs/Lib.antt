@@ -4,3 +4,4 @@ pub mod Searched
 pub mod Lent
 pub mod Laws
 pub mod Lines
+pub mod Looked

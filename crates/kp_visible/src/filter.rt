@@ -1,10 +1,10 @@
 //! Which aborted transactions decide for batches.
 
 ghost use Rattle.std.specs.Prelude.{◌≡◌, ◌≤◌, map};
-ghost use Rattle.std.specs.List.{All, filter};
+ghost use Rattle.std.specs.List.{All, AllByRecursion};
 ghost use Rattle.std.specs.List.Sorted.{IsNonDecreasingBy};
 ghost use Rattle.kp_model.specs.Log.{logged};
-ghost use Rattle.kp_visible.specs.Filter.{shows};
+ghost use Rattle.kp_visible.specs.Filter.{covers, decides, hides, shows};
 ghost use Rattle.kp_visible.specs.Searched.{IsFirstFrom, stops};
 
 use kp_batch::Batch;
@@ -50,8 +50,7 @@ pub(crate) fn deciding<'a>(
     ensures rising { IsNonDecreasingBy (λ a. a.marker) aborted.now
         → IsNonDecreasingBy (λ a. a.marker) result.now }
     ensures same { IsNonDecreasingBy (λ a. a.marker) aborted.now
-        → filter (shows result.now) (map logged batches.now)
-        ≡ filter (shows aborted.now) (map logged batches.now) }
+        → AllByRecursion (λ b. shows result.now b ≡ shows aborted.now b) (map logged batches.now) }
 {
     let (lowest, highest) = base_offsets(batches);
     let (_, ending) = aborted.split_at(aborted.partition_point(|ended| ended.marker <= lowest));
@@ -61,4 +60,42 @@ pub(crate) fn deciding<'a>(
     } else {
         ending
     }
+}
+
+// Whether the batch is shown by these aborted transactions. O(n) in them.
+pub(crate) fn is_shown(batch: &Batch, aborted: &[AbortedTransaction]) -> bool
+    ensures { result ≡ shows aborted.now (logged batch.now) }
+{
+    match batch.producer_id() {
+        Some(producer) if batch.is_transactional_data() => {
+            !is_hidden(aborted, producer, batch.base_offset())
+        }
+        _ => !batch.is_control(),
+    }
+}
+
+// Whether the first transaction that decides hides this producer's transactional batch at the offset.
+fn is_hidden(aborted: &[AbortedTransaction], producer: u64, offset: Offset) -> bool
+    ensures { result ≡ hides aborted.now producer offset }
+{
+    for ended in aborted {
+        if decides(ended, producer, offset) {
+            return covers(ended, producer, offset);
+        }
+    }
+    false
+}
+
+// Whether it ends above the offset, and is the producer's, or nothing that began at or below the offset was open any more then.
+fn decides(ended: &AbortedTransaction, producer: u64, offset: Offset) -> bool
+    ensures { result ≡ decides producer offset ended.now }
+{
+    ended.marker > offset && (ended.producer == producer || ended.stable > offset)
+}
+
+// Whether it is the producer's, and began at the offset or below it.
+fn covers(ended: &AbortedTransaction, producer: u64, offset: Offset) -> bool
+    ensures { result ≡ covers producer offset ended.now }
+{
+    ended.producer == producer && ended.first <= offset
 }

@@ -7,6 +7,7 @@ mod by_producer;
 mod committed;
 mod filter;
 mod lines;
+mod looked;
 mod near;
 mod placed;
 mod searched;
@@ -27,6 +28,7 @@ pub use committed::CommittedRecords;
 use kp_batch::Batch;
 use kp_txns::AbortedTransaction;
 pub use lines::{ReadRecord, ReadRecords, push_committed, push_lines};
+pub use looked::Looked;
 use std::alloc::{AllocError, Global};
 
 /// What a read-committed consumer sees of these batches, by a list of aborted transactions (KIP-98). Control batches are

@@ -7,6 +7,7 @@ use Rattle.kp_model.specs.Transactions.{Aborted, aborted_in}
 use Rattle.kp_model.specs.Visible.{records_in}
 use Rattle.kp_visible.specs.Filter.{shows}
 use Rattle.kp_visible.specs.Near.{shown_from}
+use Rattle.kp_types.proofs.Elements.{filter_agree_on}
 use Rattle.kp_visible.proofs.Cutting.{aborted_rise, shown_whole}
 use Rattle.kp_visible.proofs.Showing.{shown_is, whole_is}
 use Rattle.kp_visible.proofs.committed_records.Goals as goal
@@ -16,7 +17,7 @@ returns-clause-by_list c = λ rises.
     let needed = c.deciding.result.now in
     let batches = map logged c.args.batches.now in
     c.of-2.ensures ∙ ap (λ (entries : List Aborted). records_in (shown_from entries 0 batches)) c.in_ok-index.ensures
-    ∙ ap records_in (shown_whole needed 0 batches (c.deciding.ensures.rising rises) (omega arith) ∙ c.deciding.ensures.same rises)
+    ∙ ap records_in (shown_whole needed 0 batches (c.deciding.ensures.rising rises) (omega arith) ∙ filter_agree_on _ (shows needed) (shows c.args.aborted.now) (λ b e. e) batches (c.deciding.ensures.same rises))
 
 pub returns-clause-committed : goal.returns-clause-committed
 returns-clause-committed c = λ log high_watermark lawful list all.

@@ -108,11 +108,11 @@ returns-clause-acts c = λ k under of.
           (mapped Shown answers.Shown state_reply _ w.show.result w.map-answered-in-Show.result (λ x a h. h) (λ x. refl) (λ f. refl) w.map-answered-in-Show.ensures.cases)
           (w.show.ensures k)
       | in-Read w ↦
-          in_other_words k old new old act (acts.Read w.in-Read.from) outcome w.map-answered-in-Read.result (lines_reply w.read.result) w.in-Read.is (ap node_at w.self-is) w.answered-is
+          in_other_words k old new (node_at w.read.new.self) act (acts.Read w.in-Read.from) outcome w.map-answered-in-Read.result (lines_reply w.read.result) w.in-Read.is (ap node_at w.self-is) w.answered-is
           (mapped (List Line) answers.Lines lines_reply _ w.read.result w.map-answered-in-Read.result (λ x a h. h) (λ x. refl) (λ f. refl) w.map-answered-in-Read.ensures.cases)
           (w.read.ensures k)
       | in-Committed w ↦
-          in_other_words k old new old act (acts.Committed w.in-Committed.from) outcome w.map-answered-in-Committed.result (lines_reply w.committed.result) w.in-Committed.is (ap node_at w.self-is) w.answered-is
+          in_other_words k old new (node_at w.committed.new.self) act (acts.Committed w.in-Committed.from) outcome w.map-answered-in-Committed.result (lines_reply w.committed.result) w.in-Committed.is (ap node_at w.self-is) w.answered-is
           (mapped (List Line) answers.Lines lines_reply _ w.committed.result w.map-answered-in-Committed.result (λ x a h. h) (λ x. refl) (λ f. refl) w.map-answered-in-Committed.ensures.cases)
           (w.committed.ensures k)
     ] in
@@ -159,10 +159,10 @@ returns-clause-fits c =
           answer_fits act acts.Show new old _ outcome w.map-answered-in-Show.result m w.in-Show.is (ap node_at w.self-is) w.answered-is c.map-2.ensures.cases
           (any Shown Answer answers.Shown w.show.result w.map-answered-in-Show.result w.map-answered-in-Show.ensures.cases) (λ x known. (known.0, ap Answers known.1))
       | in-Read w ↦
-          answer_fits act (acts.Read w.in-Read.from) new old _ outcome w.map-answered-in-Read.result m w.in-Read.is (ap node_at w.self-is) w.answered-is c.map-2.ensures.cases
+          answer_fits act (acts.Read w.in-Read.from) new (node_at w.read.new.self) _ outcome w.map-answered-in-Read.result m w.in-Read.is (ap node_at w.self-is) w.answered-is c.map-2.ensures.cases
           (any (List Line) Answer answers.Lines w.read.result w.map-answered-in-Read.result w.map-answered-in-Read.ensures.cases) (λ x known. (known.0, ap Answers known.1))
       | in-Committed w ↦
-          answer_fits act (acts.Committed w.in-Committed.from) new old _ outcome w.map-answered-in-Committed.result m w.in-Committed.is (ap node_at w.self-is) w.answered-is c.map-2.ensures.cases
+          answer_fits act (acts.Committed w.in-Committed.from) new (node_at w.committed.new.self) _ outcome w.map-answered-in-Committed.result m w.in-Committed.is (ap node_at w.self-is) w.answered-is c.map-2.ensures.cases
           (any (List Line) Answer answers.Lines w.committed.result w.map-answered-in-Committed.result w.map-answered-in-Committed.ensures.cases) (λ x known. (known.0, ap Answers known.1))
     ]
 
