@@ -108,13 +108,13 @@ returns-clause-acts c = λ k under of.
           (mapped Shown answers.Shown state_reply _ w.show.result w.map-answered-in-Show.result (λ x a h. h) (λ x. refl) (λ f. refl) w.map-answered-in-Show.ensures.cases)
           (w.show.ensures k)
       | in-Read w ↦
-          in_other_words k old new (node_at w.read.new.self) act (acts.Read w.in-Read.from) outcome w.map-answered-in-Read.result (lines_reply w.read.result) w.in-Read.is (ap node_at w.self-is) w.answered-is
+          in_other_words k old new old act (acts.Read w.in-Read.from) outcome w.map-answered-in-Read.result (lines_reply w.read.result) w.in-Read.is (ap node_at w.self-is ∙ w.read.ensures.same) w.answered-is
           (mapped (List Line) answers.Lines lines_reply _ w.read.result w.map-answered-in-Read.result (λ x a h. h) (λ x. refl) (λ f. refl) w.map-answered-in-Read.ensures.cases)
-          (w.read.ensures k)
+          (w.read.ensures.does k)
       | in-Committed w ↦
-          in_other_words k old new (node_at w.committed.new.self) act (acts.Committed w.in-Committed.from) outcome w.map-answered-in-Committed.result (lines_reply w.committed.result) w.in-Committed.is (ap node_at w.self-is) w.answered-is
+          in_other_words k old new old act (acts.Committed w.in-Committed.from) outcome w.map-answered-in-Committed.result (lines_reply w.committed.result) w.in-Committed.is (ap node_at w.self-is ∙ w.committed.ensures.same) w.answered-is
           (mapped (List Line) answers.Lines lines_reply _ w.committed.result w.map-answered-in-Committed.result (λ x a h. h) (λ x. refl) (λ f. refl) w.map-answered-in-Committed.ensures.cases)
-          (w.committed.ensures k)
+          (w.committed.ensures.does k)
     ] in
     answered k old new (plain_act act) outcome c.map-2.result does c.map-2.ensures.cases
 
