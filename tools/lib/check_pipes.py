@@ -121,7 +121,7 @@ def check_seed(program, room, seed):
         (complaint, status), answers = left(program, session, wanted, folder)
         same_lines("answers", "".join(answers), "".join(wanted.answers))
         same("complaint and status", (complaint, status), (wanted.complaint, wanted.status))
-        if session.keeps and wanted.kept is not None:
+        if session.keeps:
             same("kept files", tree(folder), wanted.kept)
             if wanted.kept:
                 check_dump(program, room, session, wanted.kept)

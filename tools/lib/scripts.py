@@ -205,6 +205,17 @@ def lawful(lines):
     return b"".join(line + b"\n" for line in lines) if count else None, faulty
 
 
+def up_to(lines, number):
+    """Of these lines the first ones, up to the one of this number, with its line feed where it has one."""
+    found = lines.split(b"\n")
+    return b"\n".join(found[:number]) + b"\n" * (number < len(found))
+
+
+def up_to_answer(lines, answer):
+    """Of these lines the first ones, up to the one that has this answer."""
+    return up_to(lines, int(answer.split(" ")[0]))
+
+
 def piped(lines):
     """What a pipe answers to these lines, an answer for each that has one, and its exit status."""
     script, faulty = lawful(lines)

@@ -50,7 +50,7 @@ class Session(NamedTuple):
 
 
 class Left(NamedTuple):
-    """What a session leaves: answers, complaint, exit status, and kept files by name, None where that isn't said."""
+    """What a session leaves: answers, complaint, exit status, and kept files by name."""
     answers: list
     complaint: str
     status: int
@@ -105,12 +105,12 @@ def session(seed):
 
 
 def wanted(found):
-    """What the session leaves. Nothing is said of kept files where standard output fails."""
-    (answers, status), complaint = scripts.piped(found.data), ""
-    script = scripts.lawful(found.data)[0]
-    kept = kept_tree(script) if found.keeps and script else {}
+    """What the session leaves. Where standard output fails the event of the first answer has happened."""
+    data, (answers, status), complaint = found.data, scripts.piped(found.data), ""
     if "0" in found.closed:
-        answers, complaint, status, kept = [], FAILED, 1, {}
+        data, answers, complaint, status = b"", [], FAILED, 1
     elif "1" in found.closed and answers:
-        answers, complaint, status, kept = [], FAILED, 1, None
+        data, answers, complaint, status = scripts.up_to_answer(data, answers[0]), [], FAILED, 1
+    script = scripts.lawful(data)[0]
+    kept = kept_tree(script) if found.keeps and script else {}
     return Left(answers, "" if "2" in found.closed else complaint, status, kept)

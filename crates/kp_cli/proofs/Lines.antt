@@ -41,6 +41,12 @@ told_since fault contents err err_new refusal left path path_too faults faults_t
     subst (λ (p : List ℕ). Tells contents err err_new (complaint refusal ++ reason_of fault p faults_too left)) same_path
     (subst (λ (n : ℕ). Tells contents err err_new (complaint refusal ++ reason_of fault path n left)) same_count told)
 
+-- there is no reason
+pub told_alone : {E : Type 0} (contents : E → Option (List ℕ)) (err err_new : Counted E) (refusal : Refusal) (second : List ℕ) → second ≡ []
+    → Tells contents err err_new (complaint refusal) → Tells contents err err_new (complaint refusal ++ second)
+told_alone contents err err_new refusal second none told =
+    subst (λ (l : List ℕ). Tells contents err err_new l) (sym (ap (λ (l : List ℕ). complaint refusal ++ l) none ∙ append-nil (complaint refusal))) told
+
 -- of two reasons the second is none
 pub told_first : {E : Type 0} (contents : E → Option (List ℕ)) (err err_new : Counted E) (refusal : Refusal) (first second : List ℕ) → second ≡ []
     → Tells contents err err_new (complaint refusal ++ first) → Tells contents err err_new (complaint refusal ++ (first ++ second))

@@ -4,40 +4,50 @@ use Rattle.kp_types.specs.declared.counted.Counted.{Counted}
 use Rattle.kp_types.specs.declared.refusal.Refusal.{Refusal}
 use Rattle.kp_types.specs.declared.refusal.Refusal.TheVariants.{Device}
 use Rattle.kp_types.specs.Devices.{CountsFaults, IsDeviceFault, device_of, faults_of}
+use Rattle.kp_types.specs.Folders.{Entry}
 use Rattle.kp_script.specs.Ended.{RunEnd}
-use Rattle.kp_script.specs.Piped.{PipesFirst, PipesFront, PipesTo}
-use Rattle.kp_cli.specs.Perform.{Complains, KeepsEnd, Shelf, status_of}
+use Rattle.kp_script.specs.Kept.{KeepsLogs, KeepsLogsFront}
+use Rattle.kp_script.specs.Piped.{PipesFirst, PipesFront, PipesTo, left_by, refused_in}
+use Rattle.kp_script.specs.declared.pipe.CutPipe.{CutPipe}
+use Rattle.kp_cli.specs.Perform.{Complains, Shelf, status_of}
 use Rattle.kp_cli.specs.Told.{reason_of}
 
--- how many of its answers were refusals
-abbrev pub refused_in : Result RunEnd Refusal → Result ℕ Refusal
-refused_in (Ok ended) = Ok ended.refused
-refused_in (Err refusal) = Err refusal
-
--- What the lines of an input leave on standard output, where the input is known: the answers to all of them; where a device failed
--- or a growth was refused, to all that were read, but for the last one, or for the rest of the last answer.
-abbrev pub Answers : {W : Type 0} → (W → Option (List ℕ)) → (input : Option (List ℕ)) → (out out_new : Counted W) → Result RunEnd Refusal → Type 0
+-- What the lines of an input leave on standard output and of logs, where the input is known: the answers to all of them, and their logs;
+-- where a device failed or a growth was refused, the answers to all that were read, but for the last one, or for the rest of the last
+-- answer, and the logs of those that were answered, or of all that were read.
+abbrev pub Answers : {W : Type 0} → (W → Option (List ℕ)) → (input : Option (List ℕ)) → (out out_new : Counted W) → Result RunEnd CutPipe → Type 0
 Answers held input out out_new (Ok ended) =
     PipesTo input (held (device_of out)) (held (device_of out_new)) ended × (faults_of out_new ≡ faults_of out)
-Answers held input out out_new (Err refusal) =
-    IsDeviceFault refusal × ((left : Option (List ℕ))
-    × ((PipesFirst input left (held (device_of out)) (held (device_of out_new)) × (faults_of out_new ≡ faults_of out))
-    ⊎ (PipesFront input left (held (device_of out)) (held (device_of out_new)) × (faults_of out_new ≡ faults_of out + 1) × (refusal ≡ Device))))
+Answers held input out out_new (Err cut) =
+    IsDeviceFault cut.refusal × ((left : Option (List ℕ))
+    × ((PipesFirst input left (held (device_of out)) (held (device_of out_new)) cut.piped.logs × (faults_of out_new ≡ faults_of out))
+    ⊎ (PipesFront input left (held (device_of out)) (held (device_of out_new)) cut.piped.logs
+    × (faults_of out_new ≡ faults_of out + 1) × (cut.refusal ≡ Device))))
 
 -- What a pipe leaves: its answers, and on standard error the refusal, if it was cut off.
 abbrev pub EndsPipe : {W E : Type 0} → (W → Option (List ℕ)) → (E → Option (List ℕ)) → (input : Option (List ℕ))
     → (out out_new : Counted W) → (err err_new : Counted E) → (status : ℕ) → Type 0
 EndsPipe held told input out out_new err err_new status =
-    (outcome : Result RunEnd Refusal) × Answers held input out out_new outcome
+    (outcome : Result RunEnd CutPipe) × Answers held input out out_new outcome
     × Complains told err err_new (refused_in outcome) [] × (status ≡ status_of (refused_in outcome))
 
--- What one leaves whose logs are kept in the folder at this path: where it was cut off nothing in the folder, and else its logs.
-abbrev pub PipesAndKeeps : {K W E : Type 0} → (W → Option (List ℕ)) → (E → Option (List ℕ)) → Shelf K → (keep : List ℕ) → (input : Option (List ℕ))
-    → (folder folder_new : Counted K) → (out out_new : Counted W) → (err err_new : Counted E) → (status : ℕ) → Type 0
-PipesAndKeeps held told shelf keep input folder folder_new out out_new err err_new status =
-    (EndsPipe held told input out out_new err err_new status × (folder_new ≡ folder))
-    ⊎ ((ended : RunEnd) × Answers held input out out_new (Ok ended) × ((outcome : Result ℕ Refusal)
-    × KeepsEnd (shelf.entries (device_of folder)) (shelf.entries (device_of folder_new)) ended outcome
-    × CountsFaults outcome (faults_of folder) (faults_of folder_new)
-    × Complains told err err_new outcome (reason_of shelf.folder_fault keep (faults_of folder) folder_new)
-    × (status ≡ status_of outcome)))
+-- Whether the logs that are left have come into a folder: all their files, or a beginning of them.
+abbrev pub KeepsAll : (before after : Option (List Entry)) → RunEnd → Result (Unit {0}) Refusal → Type 0
+KeepsAll before after ended (Ok done) = KeepsLogs before after ended.logs
+KeepsAll before after ended (Err refusal) = IsDeviceFault refusal × KeepsLogsFront before after ended.logs
+
+-- What is answered where the logs are kept: what the pipe answers; and where logs are missing, by what, in place of it.
+abbrev pub answered_by : (piped : Result RunEnd CutPipe) → (kept : Result (Unit {0}) Refusal) → Result ℕ Refusal
+answered_by piped (Ok done) = refused_in piped
+answered_by piped (Err refusal) = Err refusal
+
+-- What one leaves whose logs are kept in the folder at this path: its answers, and in the folder its logs, whatever ended it.
+pub record PipesAndKeeps {K W E : Type 0} (held : W → Option (List ℕ)) (told : E → Option (List ℕ)) (shelf : Shelf K) (keep : List ℕ) (input : Option (List ℕ))
+    (folder folder_new : Counted K) (out out_new : Counted W) (err err_new : Counted E) (status : ℕ) : Type 0 where
+  pub piped : Result RunEnd CutPipe
+  pub answers : Answers held input out out_new piped
+  pub kept : Result (Unit {0}) Refusal
+  pub keeps : KeepsAll (shelf.entries (device_of folder)) (shelf.entries (device_of folder_new)) (left_by piped) kept
+  pub counted : CountsFaults kept (faults_of folder) (faults_of folder_new)
+  pub complains : Complains told err err_new (answered_by piped kept) (reason_of shelf.folder_fault keep (faults_of folder) folder_new)
+  pub status_is : status ≡ status_of (answered_by piped kept)

@@ -17,11 +17,21 @@ pub struct HostFile<'a> {
     fault: Fault,
 }
 
-/// A folder of the host, once it is taken, and the file that was begun in it last.
+/// The mark of a folder that is taken: a folder `.taken` in it, so that it isn't empty, and no other session takes it. It goes with this
+/// value.
+struct Claim<'a> {
+    rt: &'a HostRuntime,
+    mark: String,
+}
+
+/// A folder of the host, once it is taken, and the file that was begun in it last. From being taken on it holds a folder `.taken`, until
+/// the first folder is made in it, or the value is dropped. A process that is killed before leaves that folder: then it is the user's to
+/// remove.
 #[derive(Drop)]
 pub struct HostFolder<'a> {
     rt: &'a HostRuntime,
     path: String,
+    claim: Option<Claim<'a>>,
     file: Option<File>,
     fault: Fault,
 }
@@ -72,12 +82,32 @@ impl Read for HostFile<'_> {
     }
 }
 
+impl<'a> Claim<'a> {
+    /// Puts the mark at this path, unless one stands there. Of several sessions that do this at once one succeeds.
+    fn put(rt: &'a HostRuntime, mark: String) -> Result<Claim<'a>, Fault> {
+        match fs::create_dir(rt, &mark) {
+            Ok(()) => Ok(Claim { rt, mark }),
+            Err(error) if error.kind() == ErrorKind::AlreadyExists => Err(Fault::NotEmpty),
+            Err(error) => Err(Fault::of_folder(&error)),
+        }
+    }
+}
+
+// Where the mark can't be removed it stays, and the folder isn't empty.
+impl Drop for Claim<'_> {
+    fn drop(self) {
+        let _ = fs::remove_dir(self.rt, &self.mark);
+        let Claim { rt: _, mark: _ } = self;
+    }
+}
+
 impl<'a> HostFolder<'a> {
     /// No folder yet: [`KeptFolder::take`] takes one, and is to be called first.
     pub fn new(rt: &'a HostRuntime) -> HostFolder<'a> {
         HostFolder {
             rt,
             path: String::new(rt.alloc()),
+            claim: None,
             file: None,
             fault: Fault::Other,
         }
@@ -115,13 +145,35 @@ impl KeptFolder for HostFolder<'_> {
         let Ok(copy) = String::from_str(self.rt.alloc(), path) else {
             return Err(Fault::OutOfMemory);
         };
-        match fs::create_dir(self.rt, path) {
-            Ok(()) => {}
-            Err(error) if error.kind() == ErrorKind::AlreadyExists => see_empty(self.rt, path)?,
-            Err(error) => return Err(Fault::of_folder(&error)),
+        let Ok(mark) = format!(in self.rt.alloc(); "{path}/.taken") else {
+            return Err(Fault::OutOfMemory);
+        };
+        let is_new = make_or_see_empty(self.rt, path)?;
+        match Claim::put(self.rt, mark) {
+            Ok(claim) => {
+                self.path = copy;
+                self.claim = Some(claim);
+                Ok(())
+            }
+            Err(fault) => {
+                if is_new {
+                    let _ = fs::remove_dir(self.rt, path);
+                }
+                Err(fault)
+            }
         }
-        self.path = copy;
-        Ok(())
+    }
+}
+
+/// Makes a folder at this path, or sees that one stands there with nothing in it. Answers whether it was made.
+fn make_or_see_empty(rt: &HostRuntime, path: &str) -> Result<bool, Fault> {
+    match fs::create_dir(rt, path) {
+        Ok(()) => Ok(true),
+        Err(error) if error.kind() == ErrorKind::AlreadyExists => {
+            see_empty(rt, path)?;
+            Ok(false)
+        }
+        Err(error) => Err(Fault::of_folder(&error)),
     }
 }
 
@@ -141,7 +193,10 @@ impl Folder for HostFolder<'_> {
     fn make_folder(&mut self, name: &str) -> Result<(), Refusal> {
         let path = self.path_of(name)?;
         match fs::create_dir(self.rt, &path) {
-            Ok(()) => Ok(()),
+            Ok(()) => {
+                self.claim = None;
+                Ok(())
+            }
             Err(error) => self.failed(&error),
         }
     }

@@ -7,7 +7,7 @@ ghost use Rattle.kp_cli.specs.Piped.{Answers, EndsPipe, PipesAndKeeps};
 use crate::devices::Explained;
 use crate::running::end;
 use crate::telling::{refuse, refuse_since};
-use kp_script::{LineReader, Piped, play_pipe};
+use kp_script::{CutPipe, LineReader, Piped, play_pipe};
 use kp_types::{Counted, Folder, Refusal};
 use std::alloc::Global;
 use std::io::{BufReader, Read, Write};
@@ -17,7 +17,7 @@ fn play_input<I: Read + Drop, W: Write>(
     alloc: Global,
     input: I,
     out: &mut Counted<W>,
-) -> Result<Piped, Refusal>
+) -> Result<Piped, CutPipe>
     requires writes { faults_of out.old + 1 < 2 ^ 64 }
     ensures { Answers W.contents (I.remaining input) out.old out.new result }
 {
@@ -26,7 +26,10 @@ fn play_input<I: Read + Drop, W: Write>(
             let mut lines = LineReader::new(alloc, buffered);
             play_pipe(alloc, &mut lines, out)
         }
-        Err(_) => Err(Refusal::Memory),
+        Err(_) => Err(CutPipe {
+            refusal: Refusal::Memory,
+            piped: Piped::none(),
+        }),
     }
 }
 
@@ -44,12 +47,15 @@ pub fn pipe<I: Read + Drop, W: Write, E: Write>(
 {
     match play_input(alloc, input, out) {
         Ok(piped) => end(piped.refused(), piped),
-        Err(refusal) => refuse(err, refusal),
+        Err(cut) => refuse(err, cut.refusal),
     }
 }
 
-/// Plays the lines of the input, as [`pipe`] does, and at its end puts the nodes' logs into the folder, as
-/// [`kp_script::Ended::write_logs`] does; nothing where it was cut off, or no header came.
+/// Plays the lines of the input, as [`pipe`] does, and puts the nodes' logs into the folder, as [`kp_script::Ended::write_logs`] does: at
+/// its end, and also where it was cut off; nothing where no header came. So the folder has the logs of all lines that were answered,
+/// whatever ended the pipe, and those of the last line that was read besides, if it was played. Answers the exit status that `pipe` does;
+/// where the folder fails, or a growth is refused there, standard error has that in place of the pipe's refusal, as logs are missing
+/// then, and the status is 1.
 pub fn pipe_and_keep<I: Read + Drop, K: Folder + Explained, W: Write, E: Write>(
     alloc: Global,
     keep: &str,
@@ -65,12 +71,14 @@ pub fn pipe_and_keep<I: Read + Drop, K: Folder + Explained, W: Write, E: Write>(
         keep.now (I.remaining input) folder.old folder.new out.old out.new err.old err.new result }
 {
     let put = folder.faults();
-    let piped = match play_input(alloc, input, out) {
-        Ok(piped) => piped,
-        Err(refusal) => return refuse(err, refusal),
-    };
-    match piped.write_logs(alloc, folder) {
-        Ok(()) => end(piped.refused(), piped),
-        Err(refusal) => refuse_since(err, refusal, keep, folder, put),
+    match play_input(alloc, input, out) {
+        Ok(piped) => match piped.write_logs(alloc, folder) {
+            Ok(()) => end(piped.refused(), piped),
+            Err(refusal) => refuse_since(err, refusal, keep, folder, put),
+        },
+        Err(cut) => match cut.piped.write_logs(alloc, folder) {
+            Ok(()) => refuse(err, cut.refusal),
+            Err(refusal) => refuse_since(err, refusal, keep, folder, put),
+        },
     }
 }

@@ -1,5 +1,5 @@
 -- A pipe that is answered line by line.
-use Rattle.std.proofs.Common.{◌≡◌, ◌∙◌, ℕ, suc, ◌+◌, ◌<◌, ◌≤◌, Bool, true, false, cond, List, [], ◌∷◌, ◌++◌, Option, None, Some, Result, Ok, Err, length, length-append, map, take, take_all, refl, sym, ap, subst, arith, append_assoc, append-nil, inl, inr}
+use Rattle.std.proofs.Common.{◌≡◌, ◌∙◌, ◌⊎◌, ℕ, suc, ◌+◌, ◌<◌, ◌≤◌, Bool, true, false, cond, List, [], ◌∷◌, ◌++◌, Option, None, Some, Result, Ok, Err, length, length-append, map, take, take_all, refl, sym, ap, subst, arith, append_assoc, append-nil, inl, inr}
 use Rattle.std.specs.Prelude.{IfOk, IfSome, OnOk, ◌&&◌, ◌||◌, ◌==◌, filter, is_none, nat_le, nat_lt, not, slice_index}
 use Rattle.std.specs.List.{AllByRecursion, enumerate_from, list_all}
 use Rattle.std.specs.Io.KnownBytes.{Appends, IsAtEnd}
@@ -21,9 +21,9 @@ use Rattle.kp_world.specs.declared.event.EventAnswer.{EventAnswer}
 use Rattle.kp_script.specs.Call.{Call, Header, IsCallText, IsHeaderText, SpellsNoCall, node_of}
 use Rattle.kp_script.specs.Ended.{limits_in}
 use Rattle.kp_script.specs.Lines.{sent_lines}
-use Rattle.kp_script.specs.Piped.{AreSaid, Heard, IsNoHeader, IsPiped, PipesFirst, PipesFront, PipesTo, Says, answers_text, calls_in, counted_in, counts, fault_line, fault_lines, faults_among}
-use Rattle.kp_script.specs.Piping.{AnswersFront, Stands, StandsOn, Unanswered, logs_of}
-use Rattle.kp_script.specs.Playing.{BeginFrom, HasPlayed, LeadTo, PlayTo}
+use Rattle.kp_script.specs.Piped.{AreSaid, EndsBehind, Heard, IsNoHeader, IsPiped, PipesFirst, PipesFront, PipesTo, Says, answers_text, calls_in, counted_in, counts, fault_line, fault_lines, faults_among}
+use Rattle.kp_script.specs.Piping.{AnswersFront, Stands, StandsCut, StandsOn, Unanswered, logs_of}
+use Rattle.kp_script.specs.Playing.{CutsOne, HasPlayed, LeadTo, PlayTo, PlayedOut}
 use Rattle.kp_script.specs.Reads.{Reads, ReadsInto, kept_of}
 use Rattle.kp_script.specs.Trace.{trace_line, trace_text}
 use Rattle.kp_script.specs.Transcript.{numbered, refusals_in}
@@ -222,17 +222,26 @@ event_played number bytes call running new (Ok refused) before after e spelled q
 event_played number bytes call running new (Err refusal) before after e spelled q count = tt
 
 -- or its beginning
-pub event_begun : (number : ℕ) (bytes : List ℕ) (call : Call) (running : Running) (before after : Option (List ℕ)) → counts (number, Some bytes) ≡ true → IsCallText running.count bytes call
-    → BeginFrom ((number, call) ∷ []) running.world before after
-    → (new : Option Running) × (refused : ℕ) × (answer : List ℕ) × StandsOn (number, Some bytes) (Some running) new refused answer × AppendsFront before after answer
-event_begun number bytes call running before after e spelled q =
-    let new : Running = record { count = running.count; world = q.new } in (
-      Some new,
-      refusals_in (map outcome_of q.answers),
-      trace_text (numbered ((number, call) ∷ [])) (map outcome_of q.answers),
-      stands_call number bytes call running new q.answers e spelled q.lead refl,
-      q.begun,
-    )
+pub event_begun : (number : ℕ) (bytes : List ℕ) (call : Call) (running : Running) (world : Stage) (many : ℕ) (text : List ℕ) (before after : Option (List ℕ)) → counts (number, Some bytes) ≡ true
+    → IsCallText running.count bytes call → PlayedOut ((number, call) ∷ []) running.world world many text → AppendsFront before after text
+    → (refused : ℕ) × (answer : List ℕ) × StandsOn (number, Some bytes) (Some running) (Some (record { count = running.count; world = world })) refused answer × AppendsFront before after answer
+event_begun number bytes call running world many text before after e spelled out begun = (
+  refusals_in (map outcome_of out.answers),
+  trace_text (numbered ((number, call) ∷ [])) (map outcome_of out.answers),
+  stands_call number bytes call running (record { count = running.count; world = world }) out.answers e spelled out.lead refl,
+  subst (AppendsFront before after) out.text_is begun,
+)
+
+-- and where it was cut off it may have been played
+pub event_cut : (number : ℕ) (bytes : List ℕ) (call : Call) (running : Running) (world : Stage) → counts (number, Some bytes) ≡ true → IsCallText running.count bytes call
+    → CutsOne (number, call) running.world world → StandsCut (number, Some bytes) (Some running) (Some (record { count = running.count; world = world }))
+event_cut number bytes call running world e spelled (inl same) =
+    let placed : Stage → Option Running = λ w. Some (record { count = running.count; world = w }) in inl (ap placed same)
+event_cut number bytes call running world e spelled (inr (answer, lead)) = inr (
+  refusals_in (map outcome_of (answer ∷ [])),
+  trace_text (numbered ((number, call) ∷ [])) (map outcome_of (answer ∷ [])),
+  stands_call number bytes call running (record { count = running.count; world = world }) (answer ∷ []) e spelled lead refl,
+)
 
 -- a line that says nothing is answered by its fault
 pub wrong_answered : (number : ℕ) (line : Option (List ℕ)) (old new : Option Running) (r : Result ℕ Refusal) (before after : Option (List ℕ)) → StandsOn (number, line) old new 1 (fault_line number)
@@ -341,11 +350,14 @@ long_ok line number running (Ok refused) before after long out one = λ whole is
 )
 long_ok line number running (Err refusal) before after long out one = tt
 
-pub whole_begun : (line whole : List ℕ) (number : ℕ) (old : Option Running) (before after : Option (List ℕ)) → length line ≤ 2100000 → line ≡ kept_of whole
-    → (new : Option Running) × (refused : ℕ) × (answer : List ℕ) × StandsOn (number, Some line) old new refused answer × AppendsFront before after answer
-    → (new : Option Running) × (refused : ℕ) × (answer : List ℕ) × StandsOn (number, Some whole) old new refused answer × AppendsFront before after answer
-whole_begun line whole number old before after short is h =
-    (h.0, h.1, h.2, subst (λ (l : List ℕ). StandsOn (number, Some l) old h.0 h.1 h.2) (is_whole line whole short is) h.3, h.4)
+pub whole_begun : (line whole : List ℕ) (number : ℕ) (old new : Option Running) (before after : Option (List ℕ)) → length line ≤ 2100000 → line ≡ kept_of whole
+    → (refused : ℕ) × (answer : List ℕ) × StandsOn (number, Some line) old new refused answer × AppendsFront before after answer
+    → (refused : ℕ) × (answer : List ℕ) × StandsOn (number, Some whole) old new refused answer × AppendsFront before after answer
+whole_begun line whole number old new before after short is h =
+    (h.0, h.1, subst (λ (l : List ℕ). StandsOn (number, Some l) old new h.0 h.1) (is_whole line whole short is) h.2, h.3)
+
+pub whole_cut : (line whole : List ℕ) (number : ℕ) (old new : Option Running) → length line ≤ 2100000 → line ≡ kept_of whole → StandsCut (number, Some line) old new → StandsCut (number, Some whole) old new
+whole_cut line whole number old new short is h = subst (λ (l : List ℕ). StandsCut (number, Some l) old new) (is_whole line whole short is) h
 
 -- ---- the whole pipe
 
@@ -361,32 +373,49 @@ module _ (keep : RunsKeepCount) (safe : RunsAreSafe) (odd : NoDeliveryIsRefusedO
     written = w;
   }
 
+  -- and the next one
+  piped_on : (number : ℕ) (line : Option (List ℕ)) (new : Option Running) (refused : ℕ) (answer : List ℕ) → number ≡ length read + 1 → StandsOn (number, line) running new refused answer
+      → IsPiped (counted_in (read ++ line ∷ [])) (text ++ answer) (record { refused = answered + refused; logs = logs_of new })
+  piped_on number line new refused answer is stands =
+      is_piped keep safe odd (counted_in (read ++ line ∷ [])) (text ++ answer) (answered + refused) new
+      (subst (λ (all : List (ℕ × Option (List ℕ))). Stands all (text ++ answer) (answered + refused) new) (sym (counted_push read line number is)) (stands (counted_in read) text answered s))
+
+  -- the logs of all lines, or of all and the next one
+  logs_behind : (number : ℕ) (line : Option (List ℕ)) (new : Option Running) → number ≡ length read + 1 → StandsCut (number, line) running new
+      → (logs_of new ≡ logs_of running) ⊎ EndsBehind read text line (logs_of new)
+  logs_behind number line new is (inl same) = inl (ap logs_of same)
+  logs_behind number line new is (inr on) = inr (record {
+    answer = on.1;
+    ended = record { refused = answered + on.0; logs = logs_of new };
+    piped = piped_on number line new on.0 on.1 is on.2;
+    logs_are = refl;
+  })
+
   -- all but the next one, at most
-  pub pipes_first : Unanswered b c → PipesFirst a c old mid
-  pipes_first u = record {
+  pub pipes_first : (number : ℕ) (new : Option Running) → number ≡ length read + 1 → Unanswered number b c running new → PipesFirst a c old mid (logs_of new)
+  pipes_first number new is u = record {
     read = read;
-    last_read = elim u [
-      | inl begun ↦ inl (reads_begun a b c read r begun)
-      | inr next ↦ inr (next.0, reads_more a b c read (next.0 ∷ []) r next.1)
-    ];
     text = text;
     ended = record { refused = answered; logs = logs_of running };
     piped = is_piped keep safe odd (counted_in read) text answered running s;
     written = w;
+    last_read = elim u [
+      | inl begun ↦ inl (reads_begun a b c read r begun.0, ap logs_of begun.1)
+      | inr next ↦ inr (next.0, reads_more a b c read (next.0 ∷ []) r next.1, logs_behind number next.0 new is next.2)
+    ];
   }
 
   -- all but a part of the next one's answer
-  pub pipes_front : (number : ℕ) (now : Option (List ℕ)) → number ≡ length read + 1 → AnswersFront number b c running mid now → PipesFront a c old now
-  pipes_front number now is f = record {
+  pub pipes_front : (number : ℕ) (new : Option Running) (now : Option (List ℕ)) → number ≡ length read + 1 → AnswersFront number b c running new mid now → PipesFront a c old now (logs_of new)
+  pipes_front number new now is f = record {
     read = read;
     line = f.line;
     last_read = reads_more a b c read (f.line ∷ []) r f.read;
     text = text;
     answer = f.answer;
-    ended = record { refused = answered + f.refused; logs = logs_of f.new };
-    piped =
-        is_piped keep safe odd (counted_in (read ++ f.line ∷ [])) (text ++ f.answer) (answered + f.refused) f.new
-        (subst (λ (all : List (ℕ × Option (List ℕ))). Stands all (text ++ f.answer) (answered + f.refused) f.new) (sym (counted_push read f.line number is)) (f.stands (counted_in read) text answered s));
+    ended = record { refused = answered + f.refused; logs = logs_of new };
+    piped = piped_on number f.line new f.refused f.answer is f.stands;
+    logs_are = refl;
     earlier = record { refused = answered; logs = logs_of running };
     before = is_piped keep safe odd (counted_in read) text answered running s;
     n = f.begun.0;
@@ -401,3 +430,14 @@ some_nodes all text answered (Some running) s = let least = s.heard.spelled.0.le
 pub most_nodes : (all : List (ℕ × Option (List ℕ))) (text : List ℕ) (answered : ℕ) (running : Option Running) → Stands all text answered running → IfSome running (λ nodes. nodes.count ≤ 7)
 most_nodes all text answered None s = tt
 most_nodes all text answered (Some running) s = let greatest = s.heard.spelled.0.greatest_count in omega (arith, greatest, s.count_is)
+
+-- a pipe that was cut off stands somewhere, too
+abbrev pub StandsSomewhere : Option Running → Type 0
+StandsSomewhere running = (all : List (ℕ × Option (List ℕ))) × (text : List ℕ) × (answered : ℕ) × Stands all text answered running
+
+pub cut_somewhere : {A B : Type 0} (number : ℕ) (b c : Option (List ℕ)) (old new : Option Running) (mid now : Option (List ℕ)) (all : List (ℕ × Option (List ℕ))) (text : List ℕ) (answered : ℕ)
+    → Stands all text answered old → (A × Unanswered number b c old new) ⊎ (B × AnswersFront number b c old new mid now) → StandsSomewhere new
+cut_somewhere number b c old new mid now all text answered s (inl (a, inl begun)) = (all, text, answered, subst (Stands all text answered) (sym begun.1) s)
+cut_somewhere number b c old new mid now all text answered s (inl (a, inr (line, read, inl same))) = (all, text, answered, subst (Stands all text answered) (sym same) s)
+cut_somewhere number b c old new mid now all text answered s (inl (a, inr (line, read, inr on))) = (_, _, _, on.2 all text answered s)
+cut_somewhere number b c old new mid now all text answered s (inr (a, f)) = (_, _, _, f.stands all text answered s)

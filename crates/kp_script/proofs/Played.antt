@@ -16,7 +16,9 @@ use Rattle.kp_model.specs.Event.{Event, Outcome, Produce}
 use Rattle.kp_model.specs.Laws.{NoDeliveryIsRefusedOddly, RunsAreSafe}
 use Rattle.kp_model.specs.Run.{Moment, Run, last}
 use Rattle.kp_model.specs.World.{start}
-use Rattle.kp_replica.specs.Acts.{plain_act}
+use Rattle.kp_replica.specs.Acts.{IsAct, plain_act}
+use Rattle.kp_replica.specs.declared.act.Act.TheVariants.{Plain}
+use Rattle.kp_replica.specs.declared.act.PlainAct.{PlainAct}
 use Rattle.kp_replica.specs.Offers.{BytesAreAnOffer}
 use Rattle.kp_replica.proofs.Told.{plain_asked}
 use Rattle.kp_world.specs.Answers.{outcome_of}
@@ -77,6 +79,19 @@ led_one call event answer old new t step =
       told = (t.told, tt);
       reach = λ limits batch. step limits t.e (subst (λ (max : ℕ). IsEvent max event t.e) (sym batch) t.is);
     }
+
+-- so does the one that a delivery tells
+pub led_delivery : (number message : ℕ) (answer : Result EventAnswer Refusal) (old new : Stage) → ((limits : Limits) → LeadOn limits old (model.Deliver message ∷ []) (answer ∷ []) new)
+    → LeadTo ((number, Deliver message) ∷ []) old new (answer ∷ [])
+led_delivery number message answer old new step =
+    record { events = model.Deliver message ∷ []; told = (refl, tt); reach = λ limits batch. step limits }
+
+-- and the one that a node's act tells
+pub led_act : (number node : ℕ) (act : PlainAct) (answer : Result EventAnswer Refusal) (old new : Stage)
+    → ((limits : Limits) (a : model.Act) → IsAct limits.max_batch (Plain act) a → LeadOn limits old (model.Acts node a ∷ []) (answer ∷ []) new)
+    → LeadTo ((number, Acts node act) ∷ []) old new (answer ∷ [])
+led_act number node act answer old new step =
+    record { events = model.Acts node (plain_act act) ∷ []; told = (refl, tt); reach = λ limits batch. step limits (plain_act act) refl }
 
 leads_more : (calls others : List (ℕ × Call)) (old mid new : Stage) (answers rest : List (Result EventAnswer Refusal)) → LeadTo calls old mid answers → LeadTo others mid new rest
     → LeadTo (calls ++ others) old new (answers ++ rest)

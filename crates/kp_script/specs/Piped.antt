@@ -1,10 +1,12 @@
 -- The answers to a script whose lines come one by one (own rule).
-use Rattle.std.specs.Prelude.{◌≡◌, ◌⊎◌, ℕ, ◌+◌, ◌<◌, Bool, false, not, List, [], ◌∷◌, ◌++◌, length, take, filter, count_by, is_none, Option, None, Some, IfSome, IsSomeAnd}
+use Rattle.std.specs.Prelude.{◌≡◌, ◌⊎◌, ℕ, ◌+◌, ◌<◌, Bool, false, not, List, [], ◌∷◌, ◌++◌, length, take, filter, count_by, is_none, Option, None, Some, Result, Ok, Err, IfSome, IsSomeAnd}
 use Rattle.std.specs.List.{AllByRecursion, enumerate_from, flat_map}
 use Rattle.std.specs.Fmt.{decimal}
 use Rattle.std.specs.Io.KnownBytes.{Appends}
 use Rattle.kp_types.specs.Texts.{refusal_text}
+use Rattle.kp_types.specs.declared.refusal.Refusal.{Refusal}
 use Rattle.kp_types.specs.declared.refusal.Refusal.TheVariants.{BadScript}
+use Rattle.kp_log.specs.Partition.{Partition}
 use Rattle.kp_model.specs.Event.{Outcome}
 use Rattle.kp_model.specs.Run.{last}
 use Rattle.kp_script.specs.Call.{Call, Header, node_of, IsHeaderText, IsCallText, SpellsNoHeader, SpellsNoCall}
@@ -13,6 +15,7 @@ use Rattle.kp_script.specs.Lines.{sent_lines, is_passed_over}
 use Rattle.kp_script.specs.Reads.{Reads, ReadsInto}
 use Rattle.kp_script.specs.Trace.{trace_line}
 use Rattle.kp_script.specs.Transcript.{IsTraceOf}
+use Rattle.kp_script.specs.declared.pipe.CutPipe.{CutPipe}
 
 -- A line that has its line feed is passed over without an answer where it is empty or a comment. One that lacks it is not, whatever
 -- stands in it (own rule).
@@ -102,6 +105,16 @@ pub record IsHeaded (all : List (ℕ × Option (List ℕ))) (text : List ℕ) (e
 abbrev pub IsPiped : (all : List (ℕ × Option (List ℕ))) → (text : List ℕ) → RunEnd → Type 0
 IsPiped all text ended = IsHeadless all text ended ⊎ IsHeaded all text ended
 
+-- what a pipe answers: how many of its answers were refusals, and where it was cut off, by what
+abbrev pub refused_in : Result RunEnd CutPipe → Result ℕ Refusal
+refused_in (Ok ended) = Ok ended.refused
+refused_in (Err cut) = Err cut.refusal
+
+-- what it leaves, at its input's end and where it was cut off
+abbrev pub left_by : Result RunEnd CutPipe → RunEnd
+left_by (Ok ended) = ended
+left_by (Err cut) = cut.piped
+
 -- All lines have been read, and the known bytes grew by the answers to all of them.
 pub record PipesTo (input old new : Option (List ℕ)) (ended : RunEnd) : Type 0 where
   pub read : List (Option (List ℕ))
@@ -110,17 +123,28 @@ pub record PipesTo (input old new : Option (List ℕ)) (ended : RunEnd) : Type 0
   pub piped : IsPiped (counted_in read) text ended
   pub written : Appends old new text
 
--- Lines have been read, and the known bytes grew by the answers to all of them: but for one, the last, at most.
-pub record PipesFirst (input left old new : Option (List ℕ)) : Type 0 where
+-- These lines were answered by this text, and the line behind them by none that is out; the logs are those of all of them.
+pub record EndsBehind (read : List (Option (List ℕ))) (text : List ℕ) (line : Option (List ℕ)) (logs : List Partition) : Type 0 where
+  pub answer : List ℕ
+  pub ended : RunEnd
+  pub piped : IsPiped (counted_in (read ++ line ∷ [])) (text ++ answer) ended
+  pub logs_are : logs ≡ ended.logs
+
+-- Lines have been read, and the known bytes grew by the answers to all of them: but for one, the last, at most. The logs are those of the
+-- lines that were answered, or of these and the last one.
+pub record PipesFirst (input left old new : Option (List ℕ)) (logs : List Partition) : Type 0 where
   pub read : List (Option (List ℕ))
-  pub last_read : ReadsInto input left read ⊎ ((line : Option (List ℕ)) × Reads input left (read ++ line ∷ []))
   pub text : List ℕ
   pub ended : RunEnd
   pub piped : IsPiped (counted_in read) text ended
   pub written : Appends old new text
+  pub last_read :
+      (ReadsInto input left read × (logs ≡ ended.logs))
+      ⊎ ((line : Option (List ℕ)) × Reads input left (read ++ line ∷ []) × ((logs ≡ ended.logs) ⊎ EndsBehind read text line logs))
 
--- Lines have been read, and the known bytes grew by the answers to all of them, of the last one's by a beginning alone.
-pub record PipesFront (input left old new : Option (List ℕ)) : Type 0 where
+-- Lines have been read, and the known bytes grew by the answers to all of them, of the last one's by a beginning alone. The logs are those
+-- of all lines.
+pub record PipesFront (input left old new : Option (List ℕ)) (logs : List Partition) : Type 0 where
   pub read : List (Option (List ℕ))
   pub line : Option (List ℕ)
   pub last_read : Reads input left (read ++ line ∷ [])
@@ -128,6 +152,7 @@ pub record PipesFront (input left old new : Option (List ℕ)) : Type 0 where
   pub answer : List ℕ
   pub ended : RunEnd
   pub piped : IsPiped (counted_in (read ++ line ∷ [])) (text ++ answer) ended
+  pub logs_are : logs ≡ ended.logs
   pub earlier : RunEnd
   pub before : IsPiped (counted_in read) text earlier
   pub n : ℕ

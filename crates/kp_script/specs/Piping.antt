@@ -39,15 +39,20 @@ abbrev pub logs_of : Option Running → List Partition
 logs_of None = []
 logs_of (Some running) = map log_of running.world.nodes
 
--- The next line has not been answered: it wasn't read whole, or it was.
-abbrev pub Unanswered : (old new : Option (List ℕ)) → Type 0
-Unanswered old new = ReadsInto old new [] ⊎ ((line : Option (List ℕ)) × Reads old new (line ∷ []))
+-- A pipe that was cut off at this line stands as it stood before it, or as behind some answer to it.
+abbrev pub StandsCut : (line : ℕ × Option (List ℕ)) → (old new : Option Running) → Type 0
+StandsCut line old new = (new ≡ old) ⊎ ((refused : ℕ) × (answer : List ℕ) × StandsOn line old new refused answer)
+
+-- The next line, which has this number, has not been answered: it wasn't read whole, or it was.
+abbrev pub Unanswered : (number : ℕ) → (left left_new : Option (List ℕ)) → (old new : Option Running) → Type 0
+Unanswered number left left_new old new =
+    (ReadsInto left left_new [] × (new ≡ old))
+    ⊎ ((line : Option (List ℕ)) × Reads left left_new (line ∷ []) × StandsCut (number, line) old new)
 
 -- Of the answer to the next line, which has this number, a beginning is out.
-pub record AnswersFront (number : ℕ) (left left_new : Option (List ℕ)) (old : Option Running) (known known_new : Option (List ℕ)) : Type 0 where
+pub record AnswersFront (number : ℕ) (left left_new : Option (List ℕ)) (old new : Option Running) (known known_new : Option (List ℕ)) : Type 0 where
   pub line : Option (List ℕ)
   pub read : Reads left left_new (line ∷ [])
-  pub new : Option Running
   pub refused : ℕ
   pub answer : List ℕ
   pub stands : StandsOn (number, line) old new refused answer

@@ -1,5 +1,5 @@
 -- What playing some of a script's calls does to the world and to the trace.
-use Rattle.std.specs.Prelude.{◌≡◌, ◌++◌, ◌≤◌, ℕ, List, [], ◌∷◌, drop, length, map, Option, Result}
+use Rattle.std.specs.Prelude.{◌≡◌, ◌⊎◌, ◌++◌, ◌≤◌, ℕ, List, [], ◌∷◌, drop, length, map, Option, Result}
 use Rattle.std.specs.Io.KnownBytes.{Appends}
 use Rattle.kp_types.specs.declared.limits.Limits.{Limits}
 use Rattle.kp_types.specs.declared.refusal.Refusal.{Refusal}
@@ -42,6 +42,10 @@ pub record PlaysOne (call : ℕ × Call) (old new : Stage) (refused : ℕ) (befo
   pub lead : LeadTo (call ∷ []) old new (answer ∷ [])
   pub refused_is : refused ≡ refusals_in (outcome_of answer ∷ [])
   pub text_is : after ≡ before ++ trace_line call.0 (node_of call.1) (outcome_of answer)
+
+-- One call was cut off: the stage is as it was, or the call led on to it, and its line of the trace wasn't told.
+abbrev pub CutsOne : (call : ℕ × Call) → (old new : Stage) → Type 0
+CutsOne call old new = (new ≡ old) ⊎ ((answer : Result EventAnswer Refusal) × LeadTo (call ∷ []) old new (answer ∷ []))
 
 -- These calls led on to a stage, and this text is their trace.
 pub record PlayedOut (calls : List (ℕ × Call)) (old new : Stage) (refused : ℕ) (text : List ℕ) : Type 0 where

@@ -22,7 +22,7 @@ mod words;
 pub use call::{Call, GREATEST_TIME, Header, Sender, lines_say_one_call};
 pub use ended::Ended;
 pub use lines::LONGEST_LINE;
-pub use pipe::{Piped, play_pipe};
+pub use pipe::{CutPipe, Piped, play_pipe};
 pub use reader::LineReader;
 pub use run::{play_script, run_script};
 pub use script::{Line, MOST_EVENTS, Script, parse};

@@ -8,11 +8,10 @@ ghost use Rattle.kp_model.specs.World.{start};
 ghost use Rattle.kp_world.specs.Shown.{IsShown};
 ghost use Rattle.kp_script.specs.Call.{IsHeader};
 ghost use Rattle.kp_script.specs.Ended.{limits_in};
-ghost use Rattle.kp_script.specs.Piped.{PipesFirst, PipesFront, PipesTo, counts, fault_line};
-ghost use Rattle.kp_script.specs.Piping.{AnswersFront, HasNodes, StandsOn, Unanswered, logs_of};
+ghost use Rattle.kp_script.specs.Piped.{PipesFirst, PipesFront, PipesTo, counts, fault_line, refused_in};
+ghost use Rattle.kp_script.specs.Piping.{AnswersFront, HasNodes, StandsCut, StandsOn, Unanswered, logs_of};
 ghost use Rattle.kp_script.specs.Reads.{Reads, kept_of, read_faults, reader_of};
 ghost use Rattle.kp_script.specs.Seen.{seen_header};
-ghost use Rattle.kp_script.specs.declared.pipe.Running.{Running as SomeRunning};
 
 use crate::call::{Header, call_of, header_of};
 use crate::ended::Ended;
@@ -42,6 +41,15 @@ pub struct Piped {
     ended: Option<Ended>,
 }
 
+/// What a pipe leaves that was cut off before its input's end.
+#[derive(Drop)]
+pub struct CutPipe {
+    /// What cut it off: F32 where a device failed, F33 where memory was refused.
+    pub refusal: Refusal,
+    /// What it leaves all the same.
+    pub piped: Piped,
+}
+
 impl Model for Piped {
     ghost use Rattle.kp_script.specs.Ended.{RunEnd, logs_left};
 
@@ -54,9 +62,19 @@ impl Model for Piped {
 }
 
 impl Piped {
-    ghost use Rattle.std.specs.Prelude.{◌≡◌, ◌+◌, ◌<◌, ◌^◌, IfErr, OnOk, OnErr};
+    ghost use Rattle.std.specs.Prelude.{◌≡◌, ◌+◌, ◌<◌, ◌^◌, [], IfErr, OnOk, OnErr};
     ghost use Rattle.kp_types.specs.Devices.{CountsFaults, IsDeviceFault, device_of, faults_of};
     ghost use Rattle.kp_script.specs.Kept.{KeepsLogs, KeepsLogsFront};
+
+    /// What a pipe leaves that has read nothing.
+    pub fn none() -> Piped
+        ensures { result ≡ record { refused = 0; logs = [] } }
+    {
+        Piped {
+            refused: 0,
+            ended: None,
+        }
+    }
 
     /// How many answers were refusals: of events, and F31 of lines that can't stand where they stand. O(1).
     pub fn refused(&self) -> u64
@@ -140,10 +158,11 @@ fn answer_event<W: Write>(
     ensures ok { IfOk result (λ refused. (answer : List ℕ)
         × StandsOn (number, Some line.now) (Some running.old) (Some running.new) refused answer
         × Appends (W.contents (device_of writer.old)) (W.contents (device_of writer.new)) answer) }
-    ensures begun { result ≡ Err DeviceFault → (new : Option SomeRunning) × (refused : ℕ) × (answer : List ℕ)
-        × StandsOn (number, Some line.now) (Some running.old) new refused answer
+    ensures begun { result ≡ Err DeviceFault → (refused : ℕ) × (answer : List ℕ)
+        × StandsOn (number, Some line.now) (Some running.old) (Some running.new) refused answer
         × AppendsFront (W.contents (device_of writer.old)) (W.contents (device_of writer.new)) answer }
     ensures untouched { result ≡ Err WantOfMemory → writer.new ≡ writer.old }
+    ensures stands { result ≡ Err WantOfMemory → StandsCut (number, Some line.now) (Some running.old) (Some running.new) }
     ensures nodes { HasNodes (Some running.new) }
     ensures few { IfOk result (λ refused. refused ≤ 1) }
     ensures only { IfErr result IsDeviceFault }
@@ -184,10 +203,11 @@ fn answer_first<W: Write>(
     ensures ok { IfOk result (λ refused. (answer : List ℕ)
         × StandsOn (number, Some line.now) None running.new refused answer
         × Appends (W.contents (device_of writer.old)) (W.contents (device_of writer.new)) answer) }
-    ensures begun { result ≡ Err DeviceFault → (new : Option SomeRunning) × (refused : ℕ) × (answer : List ℕ)
-        × StandsOn (number, Some line.now) None new refused answer
+    ensures begun { result ≡ Err DeviceFault → (refused : ℕ) × (answer : List ℕ)
+        × StandsOn (number, Some line.now) None running.new refused answer
         × AppendsFront (W.contents (device_of writer.old)) (W.contents (device_of writer.new)) answer }
     ensures untouched { result ≡ Err WantOfMemory → writer.new ≡ writer.old }
+    ensures stands { result ≡ Err WantOfMemory → StandsCut (number, Some line.now) None running.new }
     ensures nodes { HasNodes running.new }
     ensures few { IfOk result (λ refused. refused ≤ 1) }
     ensures only { IfErr result IsDeviceFault }
@@ -220,10 +240,12 @@ fn answer_line<W: Write>(
         × StandsOn (number, Some whole) running.old running.new refused answer
         × Appends (W.contents (device_of writer.old)) (W.contents (device_of writer.new)) answer) }
     ensures begun { result ≡ Err DeviceFault → (whole : List ℕ) → line.now ≡ kept_of whole
-        → (new : Option SomeRunning) × (refused : ℕ) × (answer : List ℕ)
-        × StandsOn (number, Some whole) running.old new refused answer
+        → (refused : ℕ) × (answer : List ℕ)
+        × StandsOn (number, Some whole) running.old running.new refused answer
         × AppendsFront (W.contents (device_of writer.old)) (W.contents (device_of writer.new)) answer }
     ensures untouched { result ≡ Err WantOfMemory → writer.new ≡ writer.old }
+    ensures stands { result ≡ Err WantOfMemory → (whole : List ℕ) → line.now ≡ kept_of whole
+        → StandsCut (number, Some whole) running.old running.new }
     ensures nodes { HasNodes running.new }
     ensures few { IfOk result (λ refused. refused ≤ 1) }
     ensures only { IfErr result IsDeviceFault }
@@ -261,9 +283,9 @@ fn answer_next<R: BufRead, W: Write>(
     ensures same { result ≡ Ok None → running.new ≡ running.old }
     ensures quiet { result ≡ Ok None → writer.new ≡ writer.old }
     ensures cut { OnErr result (((writer.new ≡ writer.old)
-        × Unanswered (R.remaining (reader_of reader.old)) (R.remaining (reader_of reader.new)))
+        × Unanswered number (R.remaining (reader_of reader.old)) (R.remaining (reader_of reader.new)) running.old running.new)
         ⊎ ((faults_of writer.new ≡ faults_of writer.old + 1)
-        × AnswersFront number (R.remaining (reader_of reader.old)) (R.remaining (reader_of reader.new)) running.old
+        × AnswersFront number (R.remaining (reader_of reader.old)) (R.remaining (reader_of reader.new)) running.old running.new
         (W.contents (device_of writer.old)) (W.contents (device_of writer.new)))) }
     ensures nodes { HasNodes running.new }
     ensures few { IfOk result (λ found. IfSome found (λ refused. refused ≤ 1)) }
@@ -298,29 +320,44 @@ fn left(refused: u64, running: Option<Running>) -> Piped
     Piped { refused, ended }
 }
 
+/// What is left of a pipe that this cut off.
+fn cut_off(refusal: Refusal, refused: u64, running: Option<Running>) -> CutPipe
+    requires nodes { HasNodes running }
+    requires some { IfSome running (λ nodes. 0 < nodes.count) }
+    requires most { IfSome running (λ nodes. nodes.count ≤ 7) }
+    ensures refusal { result.refusal ≡ refusal }
+    ensures piped { result.piped ≡ record { refused = refused; logs = logs_of running } }
+{
+    CutPipe {
+        refusal,
+        piped: left(refused, running),
+    }
+}
+
 /// Plays a script whose lines come one by one: each is answered before the next one is read, by what `run` prints of an event, by
 /// nothing where it is the header, a comment or empty, and by F31 and its number where it can't stand where it stands; then it is
 /// passed over. So is a last line that isn't empty and lacks its line feed, whatever stands in it. It has any number of events. Answers at the reader's end how many answers were refusals, and the nodes with their logs
 /// as they are then. F32 where a device failed, F33 where memory was refused, and after 2^64 - 1 lines: then what was read before is
-/// answered, but for the last line. Takes time proportional to the script, its trace and the batches that messages carry, and memory to
-/// its longest line, to what the nodes' logs keep of it and to all messages.
+/// answered, but for the last line, and what the pipe leaves is that of the lines that were answered, or of these and the last one.
+/// Takes time proportional to the script, its trace and the batches that messages carry, and memory to its longest line, to what the
+/// nodes' logs keep of it and to all messages.
 pub fn play_pipe<R: BufRead, W: Write>(
     alloc: Global,
     reader: &mut LineReader<R>,
     writer: &mut Counted<W>,
-) -> Result<Piped, Refusal>
+) -> Result<Piped, CutPipe>
     requires reads { read_faults reader.old + 1 < 2 ^ 64 }
     requires writes { faults_of writer.old + 1 < 2 ^ 64 }
     ensures piped { IfOk result (λ ended. PipesTo (R.remaining (reader_of reader.old))
         (W.contents (device_of writer.old)) (W.contents (device_of writer.new)) ended) }
-    ensures cut { OnErr result (((faults_of writer.new ≡ faults_of writer.old)
+    ensures cut { IfErr result (λ cut. ((faults_of writer.new ≡ faults_of writer.old)
         × PipesFirst (R.remaining (reader_of reader.old)) (R.remaining (reader_of reader.new))
-        (W.contents (device_of writer.old)) (W.contents (device_of writer.new)))
+        (W.contents (device_of writer.old)) (W.contents (device_of writer.new)) cut.piped.logs)
         ⊎ ((faults_of writer.new ≡ faults_of writer.old + 1)
         × PipesFront (R.remaining (reader_of reader.old)) (R.remaining (reader_of reader.new))
-        (W.contents (device_of writer.old)) (W.contents (device_of writer.new)))) }
-    ensures only { IfErr result IsDeviceFault }
-    ensures counted { CountsOne result (read_faults reader.old) (read_faults reader.new)
+        (W.contents (device_of writer.old)) (W.contents (device_of writer.new)) cut.piped.logs)) }
+    ensures only { IfErr result (λ cut. IsDeviceFault cut.refusal) }
+    ensures counted { CountsOne (refused_in result) (read_faults reader.old) (read_faults reader.new)
         (faults_of writer.old) (faults_of writer.new) }
 {
     kp_model::runs_keep_count();
@@ -333,8 +370,8 @@ pub fn play_pipe<R: BufRead, W: Write>(
         match answer_next(alloc, read + 1, reader, &mut running, &mut work, writer) {
             Ok(Some(more)) => refused += more,
             Ok(None) => return Ok(left(refused, running)),
-            Err(refusal) => return Err(refusal),
+            Err(refusal) => return Err(cut_off(refusal, refused, running)),
         }
     }
-    Err(Refusal::Memory)
+    Err(cut_off(Refusal::Memory, refused, running))
 }

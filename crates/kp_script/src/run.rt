@@ -6,7 +6,7 @@ ghost use Rattle.kp_types.specs.declared.refusal.Refusal.TheVariants.{BadScript,
 ghost use Rattle.kp_types.specs.Devices.{CountsFaults, CountsOne, IsDeviceFault, device_of, faults_of};
 ghost use Rattle.kp_script.specs.Call.{Call as SpelledCall, IsCall, Acts, Deliver};
 ghost use Rattle.kp_script.specs.Ended.{limits_in, AreLimited, WritesTo};
-ghost use Rattle.kp_script.specs.Playing.{BeginFrom, IsFirstWhole, IsWithin, PlayTo, PlaysOne, left_in};
+ghost use Rattle.kp_script.specs.Playing.{BeginFrom, CutsOne, IsFirstWhole, IsWithin, PlayTo, PlaysOne, left_in};
 ghost use Rattle.kp_script.specs.Parsed.{IsScriptOf, seen_script};
 ghost use Rattle.kp_script.specs.Script.{IsFaultAt};
 ghost use Rattle.kp_script.specs.Seen.{seen_call, seen_header, seen_line};
@@ -83,6 +83,7 @@ fn play_lone(
     requires nodes { length world.old.nodes ≡ count }
     ensures played { IfOk result (λ refused.
         PlaysOne (lone_call lone.now) world.old world.new refused work.old.text.items work.new.text.items) }
+    ensures cut { OnErr result (CutsOne (lone_call lone.now) world.old world.new) }
     ensures nodes { length world.new.nodes ≡ count }
     ensures few { IfOk result (λ refused. refused ≤ 1) }
     ensures only { IfErr result (λ refusal. refusal ≡ WantOfMemory) }
@@ -115,6 +116,7 @@ fn play_other<'a>(
     requires nodes { length world.old.nodes ≡ count }
     ensures played { IfOk result (λ refused.
         PlaysOne (seen_line line.entry) world.old world.new refused work.old.text.items work.new.text.items) }
+    ensures cut { OnErr result (CutsOne (seen_line line.entry) world.old world.new) }
     ensures nodes { length world.new.nodes ≡ count }
     ensures few { IfOk result (λ refused. refused ≤ 1) }
     ensures only { IfErr result (λ refusal. refusal ≡ WantOfMemory) }
@@ -140,6 +142,7 @@ pub(crate) fn play_line<'a>(
     requires nodes { length world.old.nodes ≡ count }
     ensures played { IfOk result (λ refused.
         PlaysOne (seen_line line.entry) world.old world.new refused work.old.text.items work.new.text.items) }
+    ensures cut { OnErr result (CutsOne (seen_line line.entry) world.old world.new) }
     ensures nodes { length world.new.nodes ≡ count }
     ensures few { IfOk result (λ refused. refused ≤ 1) }
     ensures only { IfErr result (λ refusal. refusal ≡ WantOfMemory) }
@@ -206,6 +209,7 @@ fn play_delivery(
 ) -> Result<u64, Refusal>
     ensures played { IfOk result (λ refused.
         PlaysOne (line, Deliver message) world.old world.new refused work.old.text.items work.new.text.items) }
+    ensures cut { OnErr result (CutsOne (line, Deliver message) world.old world.new) }
     ensures nodes { length world.new.nodes ≡ length world.old.nodes }
     ensures few { IfOk result (λ refused. refused ≤ 1) }
     ensures only { IfErr result (λ refusal. refusal ≡ WantOfMemory) }
@@ -230,6 +234,7 @@ fn play_act(
     requires { node < length world.old.nodes }
     ensures played { IfOk result (λ refused.
         PlaysOne (line, Acts node act) world.old world.new refused work.old.text.items work.new.text.items) }
+    ensures cut { OnErr result (CutsOne (line, Acts node act) world.old world.new) }
     ensures nodes { length world.new.nodes ≡ length world.old.nodes }
     ensures few { IfOk result (λ refused. refused ≤ 1) }
     ensures only { IfErr result (λ refusal. refusal ≡ WantOfMemory) }
@@ -255,6 +260,7 @@ fn play_any<'a>(
     requires nodes { length world.old.nodes ≡ count }
     ensures played { IfOk result (λ refused.
         PlaysOne (seen_line line.entry) world.old world.new refused work.old.text.items work.new.text.items) }
+    ensures cut { OnErr result (CutsOne (seen_line line.entry) world.old world.new) }
     ensures nodes { length world.new.nodes ≡ count }
     ensures few { IfOk result (λ refused. refused ≤ 1) }
     ensures only { IfErr result (λ refusal. refusal ≡ WantOfMemory) }

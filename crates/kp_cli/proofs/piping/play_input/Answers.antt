@@ -13,4 +13,4 @@ returns-in-Ok g c =
     c.play_pipe.ensures.piped c.play_pipe.ensures.cut c.play_pipe.ensures.only c.play_pipe.ensures.counted
 
 pub returns-in-Err : goal.returns-in-Err
-returns-in-Err g c = unread g.W.Write.contents (g.I.Read.remaining c.args.input) c.args.out.now
+returns-in-Err g c = unread g.W.Write.contents (g.I.Read.remaining c.args.input) c.args.out.now c.none.result c.none.ensures

@@ -1,4 +1,4 @@
-use Rattle.std.proofs.Common.{ℕ, List, [], ◌∷◌, Some, Ok, refl, sym, subst}
+use Rattle.std.proofs.Common.{ℕ, List, [], ◌∷◌, Some, Ok, inl, refl, sym, subst}
 use Rattle.std.proofs.lemmas.Result.{err_from_is_err_and}
 use Rattle.std.specs.Io.KnownBytes.{Appends}
 use Rattle.kp_types.specs.Devices.{AppendsFront, IsDeviceFault, device_of}
@@ -6,8 +6,8 @@ use Rattle.kp_script.specs.Call.{Call}
 use Rattle.kp_script.specs.Piped.{fault_line}
 use Rattle.kp_script.specs.Playing.{PlaysOne}
 use Rattle.kp_script.specs.Seen.{seen_call}
-use Rattle.kp_script.proofs.Answering.{event_begun, event_played, stands_wrong, wrong_answered}
-use Rattle.kp_script.proofs.Played.{one_out, out_begun, out_written}
+use Rattle.kp_script.proofs.Answering.{event_begun, event_cut, event_played, stands_wrong, wrong_answered}
+use Rattle.kp_script.proofs.Played.{one_out, out_written}
 use Rattle.kp_script.proofs.Refusing.{memory_alone}
 use Rattle.kp_script.proofs.pipe.answer_event.Goals as goal
 
@@ -19,6 +19,7 @@ returns-in_err-refused-in-Some g c =
       ok = tt;
       begun = λ e. absurd (memory_alone r c.in_err-refused-in-Some.ensures.only (cc));
       untouched = λ e. refl;
+      stands = λ e. event_cut c.args.number c.args.line.now (seen_call c.in-Some.call) c.args.running.now c.play_line.new.world c.requires.counts c.in-Some.ensures.found c.in_err-refused-in-Some.ensures.cut;
       nodes = c.play_line.ensures.nodes;
       few = tt;
       only = subst IsDeviceFault (sym c.in_err-refused-in-Some.ensures.only) tt;
@@ -47,8 +48,13 @@ returns-in_err-write_all-in-Some-clause-begun g c = λ e.
     let text : List ℕ = c.play_line.new.work.text.items in
     let one = one_out call c.args.running.now.world c.play_line.new.world refused text
     (subst (λ (front : List ℕ). PlaysOne call c.args.running.now.world c.play_line.new.world refused front text) c.clear.ensures.items c.in_ok-refused-in-Some.ensures.played) in
-    event_begun c.args.number c.args.line.now (seen_call c.in-Some.call) c.args.running.now before after c.requires.counts c.in-Some.ensures.found
-    (out_begun (call ∷ []) c.args.running.now.world c.play_line.new.world refused text before after one (subst (AppendsFront before after) c.deref.ensures.value c.in_err-write_all-in-Some.ensures.err))
+    event_begun c.args.number c.args.line.now (seen_call c.in-Some.call) c.args.running.now c.play_line.new.world refused text before after c.requires.counts c.in-Some.ensures.found one
+    (subst (AppendsFront before after) c.deref.ensures.value c.in_err-write_all-in-Some.ensures.err)
+
+pub returns-in_err-write_all-in-Some-clause-stands : goal.returns-in_err-write_all-in-Some-clause-stands
+returns-in_err-write_all-in-Some-clause-stands g c = λ e.
+    let q = err_from_is_err_and c.from_residual-in_err-write_all-in-Some.result c.from_residual-in_err-write_all-in-Some.ensures.1 in
+    absurd (memory_alone c.in_err-write_all-in-Some.field-0.0 (cc) c.in_err-write_all-in-Some.ensures.only)
 
 pub returns-in_err-write_all-in-Some-clause-untouched : goal.returns-in_err-write_all-in-Some-clause-untouched
 returns-in_err-write_all-in-Some-clause-untouched g c = λ e.
@@ -73,9 +79,11 @@ returns-in-None-clause-ok g c =
 
 pub returns-in-None-clause-begun : goal.returns-in-None-clause-begun
 returns-in-None-clause-begun g c = λ e. (
-  Some c.args.running.now,
   1,
   fault_line c.args.number,
   stands_wrong (c.args.number, Some c.args.line.now) c.args.running.now c.requires.counts c.in-None.ensures.none,
   c.refuse_line.ensures.begun e,
 )
+
+pub returns-in-None-clause-stands : goal.returns-in-None-clause-stands
+returns-in-None-clause-stands g c = λ e. inl refl

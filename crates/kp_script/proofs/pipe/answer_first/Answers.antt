@@ -1,4 +1,4 @@
-use Rattle.std.proofs.Common.{ℕ, List, [], None, Some, Option, sym, subst, inr}
+use Rattle.std.proofs.Common.{ℕ, List, [], None, Some, Option, sym, subst, inl, inr}
 use Rattle.std.specs.Prelude.{IfOk}
 use Rattle.std.specs.Io.KnownBytes.{Appends}
 use Rattle.std.proofs.KnownBytes.{Appends-nil}
@@ -28,9 +28,15 @@ returns-in-None-clause-ok g c =
 
 pub returns-in-None-clause-begun : goal.returns-in-None-clause-begun
 returns-in-None-clause-begun g c = λ e. (
-  None,
   1,
   fault_line c.args.number,
-  stands_faulty (c.args.number, Some c.args.line.now) c.requires.counts (inr c.in-None.ensures.none),
+  subst (λ (running : Option Running). StandsOn (c.args.number, Some c.args.line.now) None running 1 (fault_line c.args.number)) (sym c.requires.none)
+      (stands_faulty (c.args.number, Some c.args.line.now) c.requires.counts (inr c.in-None.ensures.none)),
   c.refuse_line.ensures.begun e,
 )
+
+pub returns-in-None-clause-stands : goal.returns-in-None-clause-stands
+returns-in-None-clause-stands g c = λ e. inl c.requires.none
+
+pub returns-in-Err-clause-stands : goal.returns-in-Err-clause-stands
+returns-in-Err-clause-stands g c = λ e. inl c.requires.none

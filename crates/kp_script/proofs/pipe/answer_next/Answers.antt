@@ -1,4 +1,4 @@
-use Rattle.std.proofs.Common.{◌≡◌, ◌∙◌, ◌⊎◌, ◌+◌, None, Some, Ok, Err, inl, inr, ap, rules, tests}
+use Rattle.std.proofs.Common.{◌≡◌, ◌∙◌, ◌⊎◌, ◌+◌, None, Some, Ok, Err, inl, inr, refl, ap, rules, tests}
 use Rattle.kp_types.specs.Devices.{device_of, faults_of}
 use Rattle.kp_types.proofs.Causes.{always}
 use Rattle.kp_types.proofs.Fronts.{counted_once}
@@ -20,21 +20,20 @@ returns-in_err-refused-in-Torn-clause-cut g c =
     let known = g.W.Write.contents (device_of c.args.writer.now) in
     let known_new = g.W.Write.contents (device_of c.refuse_line.new.writer) in
     always c.from_residual-in_err-refused-in-Torn.result
-    (by_fault r (((c.refuse_line.new.writer ≡ c.args.writer.now) × Unanswered left left_new)
-    ⊎ ((faults_of c.refuse_line.new.writer ≡ faults_of c.args.writer.now + 1) × AnswersFront c.args.number left left_new c.args.running.now known known_new)) c.in_err-refused-in-Torn.ensures.only
+    (by_fault r (((c.refuse_line.new.writer ≡ c.args.writer.now) × Unanswered c.args.number left left_new c.args.running.now c.args.running.now)
+    ⊎ ((faults_of c.refuse_line.new.writer ≡ faults_of c.args.writer.now + 1) × AnswersFront c.args.number left left_new c.args.running.now c.args.running.now known known_new)) c.in_err-refused-in-Torn.ensures.only
     (λ device. inr (
       counted_once r (faults_of c.args.writer.now) (faults_of c.refuse_line.new.writer) device c.in_err-refused-in-Torn.ensures.counted,
       record {
         line = None;
         read = torn;
-        new = c.args.running.now;
         refused = 1;
         answer = fault_line c.args.number;
         stands = stands_torn c.args.number c.args.running.now;
         begun = c.in_err-refused-in-Torn.ensures.begun (ap Err device);
       },
     ))
-    (λ memory. inl (c.in_err-refused-in-Torn.ensures.untouched (ap Err memory), inr (None, torn))))
+    (λ memory. inl (c.in_err-refused-in-Torn.ensures.untouched (ap Err memory), inr (None, torn, inl refl))))
 
 pub returns-in_ok-refused-in-Torn-clause-more : goal.returns-in_ok-refused-in-Torn-clause-more
 returns-in_ok-refused-in-Torn-clause-more g c =
@@ -55,15 +54,15 @@ returns-in_err-refused-in-Whole-clause-cut g c =
     let known = g.W.Write.contents (device_of c.args.writer.now) in
     let known_new = g.W.Write.contents (device_of c.answer_line.new.writer) in
     always c.from_residual-in_err-refused-in-Whole.result
-    (by_fault r (((c.answer_line.new.writer ≡ c.args.writer.now) × Unanswered left left_new)
-    ⊎ ((faults_of c.answer_line.new.writer ≡ faults_of c.args.writer.now + 1) × AnswersFront c.args.number left left_new c.args.running.now known known_new)) c.in_err-refused-in-Whole.ensures.only
+    (by_fault r (((c.answer_line.new.writer ≡ c.args.writer.now) × Unanswered c.args.number left left_new c.args.running.now c.answer_line.new.running)
+    ⊎ ((faults_of c.answer_line.new.writer ≡ faults_of c.args.writer.now + 1) × AnswersFront c.args.number left left_new c.args.running.now c.answer_line.new.running known known_new)) c.in_err-refused-in-Whole.ensures.only
     (λ device.
     let b = c.in_err-refused-in-Whole.ensures.begun (ap Err device) f.0 (c.line.ensures ∙ f.1) in
     inr (
       counted_once r (faults_of c.args.writer.now) (faults_of c.answer_line.new.writer) device c.in_err-refused-in-Whole.ensures.counted,
-      record { line = Some f.0; read = f.2; new = b.0; refused = b.1; answer = b.2; stands = b.3; begun = b.4 },
+      record { line = Some f.0; read = f.2; refused = b.0; answer = b.1; stands = b.2; begun = b.3 },
     ))
-    (λ memory. inl (c.in_err-refused-in-Whole.ensures.untouched (ap Err memory), inr (Some f.0, f.2))))
+    (λ memory. inl (c.in_err-refused-in-Whole.ensures.untouched (ap Err memory), inr (Some f.0, f.2, c.in_err-refused-in-Whole.ensures.stands (ap Err memory) f.0 (c.line.ensures ∙ f.1)))))
 
 pub returns-in_ok-refused-in-Whole-clause-more : goal.returns-in_ok-refused-in-Whole-clause-more
 returns-in_ok-refused-in-Whole-clause-more g c =

@@ -1,15 +1,15 @@
-use Rattle.std.proofs.Common.{◌≡◌, ◌∙◌, ◌+◌, ◌++◌, ◌∷◌, ◌<◌, ◌≤◌, ℕ, List, [], Option, Ok, inl, inr, length, length-append, refl, ap, sym, subst, arith}
+use Rattle.std.proofs.Common.{◌≡◌, ◌∙◌, ◌⊎◌, ◌+◌, ◌++◌, ◌∷◌, ◌<◌, ◌≤◌, ℕ, List, [], Option, Ok, inl, inr, length, length-append, refl, ap, sym, subst, arith}
 use Rattle.std.specs.Prelude.{IfSome}
 use Rattle.std.specs.Io.KnownBytes.{Appends}
 use Rattle.std.proofs.KnownBytes.{Appends-nil, Appends-trans}
 use Rattle.kp_types.specs.Devices.{device_of, faults_of}
 use Rattle.kp_types.specs.declared.counted.Counted.{Counted}
 use Rattle.kp_script.specs.Ended.{RunEnd}
-use Rattle.kp_script.specs.Piped.{PipesFirst, PipesTo, counted_in}
+use Rattle.kp_script.specs.Piped.{PipesFirst, PipesFront, PipesTo, counted_in}
 use Rattle.kp_script.specs.Piping.{Stands, StandsOn, logs_of}
 use Rattle.kp_script.specs.Reads.{Reads, reader_of}
 use Rattle.kp_script.specs.declared.pipe.Running.{Running}
-use Rattle.kp_script.proofs.Answering.{counted_push, most_nodes, pipes_first, pipes_front, pipes_to, reads_more, reads_nothing, reads_whole, some_nodes}
+use Rattle.kp_script.proofs.Answering.{counted_push, cut_somewhere, most_nodes, pipes_first, pipes_front, pipes_to, reads_more, reads_nothing, reads_whole, some_nodes}
 use Rattle.kp_script.proofs.pipe.play_pipe.Goals as goal
 
 pub loop-read-init : goal.loop-read-init
@@ -68,18 +68,21 @@ returns-in-Err-clause-cut g c =
     let mid = g.W.Write.contents (device_of c.loop-read.writer) in
     let now = g.W.Write.contents (device_of c.answer_next.new.writer) in
     let number : c.loop-read.read + 1 ≡ length t.0 + 1 = omega (arith, t.2) in
+    subst (λ (ended : RunEnd). ((faults_of c.answer_next.new.writer ≡ faults_of c.args.writer.now) × PipesFirst a left old now ended.logs)
+    ⊎ ((faults_of c.answer_next.new.writer ≡ faults_of c.args.writer.now + 1) × PipesFront a left old now ended.logs)) (sym c.cut_off.ensures.piped) (
     elim c.in-Err.ensures.cut [
       | inl u ↦ inl (
         ap (λ (w : Counted g.row.W.Denot). faults_of w) u.0 ∙ c.loop-read.invariant.written_same,
-        subst (λ (w : Counted g.row.W.Denot). PipesFirst a left old (g.W.Write.contents (device_of w))) (sym u.0)
-            (pipes_first c.runs_keep_count.ensures c.runs_are_safe.ensures c.no_delivery_is_refused_oddly.ensures a b left old mid t.0 t.1 c.loop-read.refused c.loop-read.running t.3 t.4 t.5 u.1),
+        subst (λ (w : Counted g.row.W.Denot). PipesFirst a left old (g.W.Write.contents (device_of w)) (logs_of c.answer_next.new.running)) (sym u.0)
+            (pipes_first c.runs_keep_count.ensures c.runs_are_safe.ensures c.no_delivery_is_refused_oddly.ensures a b left old mid t.0 t.1 c.loop-read.refused c.loop-read.running t.3 t.4 t.5
+            (c.loop-read.read + 1) c.answer_next.new.running number u.1),
       )
       | inr f ↦ inr (
         f.0 ∙ ap (λ (n : ℕ). n + 1) c.loop-read.invariant.written_same,
         pipes_front c.runs_keep_count.ensures c.runs_are_safe.ensures c.no_delivery_is_refused_oddly.ensures a b left old mid t.0 t.1 c.loop-read.refused c.loop-read.running t.3 t.4 t.5
-            (c.loop-read.read + 1) now number f.1,
+            (c.loop-read.read + 1) c.answer_next.new.running now number f.1,
       )
-    ]
+    ])
 
 pub loop-read-preserved : goal.loop-read-preserved
 loop-read-preserved g c =
@@ -115,10 +118,25 @@ loop-read-preserved g c =
 pub returns-clause-cut : goal.returns-clause-cut
 returns-clause-cut g c =
     let t = c.loop-read.invariant.so_far in
+    let a = g.R.Read.remaining (reader_of c.args.reader.now) in
     let b = g.R.Read.remaining (reader_of c.loop-read.reader) in
+    let old = g.W.Write.contents (device_of c.args.writer.now) in
+    let now = g.W.Write.contents (device_of c.loop-read.writer) in
     inl (
       c.loop-read.invariant.written_same,
-      pipes_first c.runs_keep_count.ensures c.runs_are_safe.ensures c.no_delivery_is_refused_oddly.ensures (g.R.Read.remaining (reader_of c.args.reader.now)) b b
-          (g.W.Write.contents (device_of c.args.writer.now)) (g.W.Write.contents (device_of c.loop-read.writer)) t.0 t.1 c.loop-read.refused c.loop-read.running t.3 t.4 t.5
-          (inl (reads_whole b b [] (reads_nothing b))),
+      subst (λ (ended : RunEnd). PipesFirst a b old now ended.logs) (sym c.cut_off-2.ensures.piped)
+          (pipes_first c.runs_keep_count.ensures c.runs_are_safe.ensures c.no_delivery_is_refused_oddly.ensures a b b old now t.0 t.1 c.loop-read.refused c.loop-read.running t.3 t.4 t.5
+          (length t.0 + 1) c.loop-read.running refl (inl (reads_whole b b [] (reads_nothing b), refl))),
     )
+
+pub cut_off-requires-clause-some : goal.cut_off-requires-clause-some
+cut_off-requires-clause-some g c =
+    let t = c.loop-read.invariant.so_far in
+    let s = cut_somewhere (c.loop-read.read + 1) _ _ c.loop-read.running c.answer_next.new.running _ _ (counted_in t.0) t.1 c.loop-read.refused t.4 c.in-Err.ensures.cut in
+    some_nodes s.0 s.1 s.2 c.answer_next.new.running s.3
+
+pub cut_off-requires-clause-most : goal.cut_off-requires-clause-most
+cut_off-requires-clause-most g c =
+    let t = c.loop-read.invariant.so_far in
+    let s = cut_somewhere (c.loop-read.read + 1) _ _ c.loop-read.running c.answer_next.new.running _ _ (counted_in t.0) t.1 c.loop-read.refused t.4 c.in-Err.ensures.cut in
+    most_nodes s.0 s.1 s.2 c.answer_next.new.running s.3

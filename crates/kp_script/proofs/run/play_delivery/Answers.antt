@@ -1,8 +1,10 @@
-use Rattle.std.proofs.Common.{[], ◌∷◌, refl}
-use Rattle.std.proofs.lemmas.Result.{IfOk-at_ok, IfOk-weaker}
+use Rattle.std.proofs.Common.{◌≡◌, [], ◌∷◌, inl, inr}
+use Rattle.std.proofs.lemmas.Result.{IfErr-at_err, IfOk-at_ok, IfOk-weaker}
+use Rattle.kp_types.proofs.Causes.{always}
 use Rattle.kp_types.specs.declared.limits.Limits.{Limits}
 use Rattle.kp_model.specs.Event as model
 use Rattle.kp_world.specs.Plays.{LeadOn}
+use Rattle.kp_script.proofs.Played.{led_delivery}
 use Rattle.kp_script.proofs.run.play_delivery.Goals as goal
 
 pub returns-in-Ok-clause-played : goal.returns-in-Ok-clause-played
@@ -10,8 +12,21 @@ returns-in-Ok-clause-played c =
     IfOk-weaker c.tell.result _ _
     (λ refused told. record {
       answer = c.in-Ok.outcome;
-      lead = record { events = model.Deliver c.args.message ∷ []; told = (refl, tt); reach = λ limits batch. IfOk-at_ok (λ outcome. (ls : Limits) → LeadOn ls c.args.world.now (model.Deliver c.args.message ∷ []) (outcome ∷ []) c.deliver-delivered.new.self) c.in-Ok.is c.deliver-delivered.ensures.step limits };
+      lead =
+          led_delivery c.args.line c.args.message c.in-Ok.outcome c.args.world.now c.deliver-delivered.new.self
+          (IfOk-at_ok (λ outcome. (ls : Limits) → LeadOn ls c.args.world.now (model.Deliver c.args.message ∷ []) (outcome ∷ []) c.deliver-delivered.new.self) c.in-Ok.is c.deliver-delivered.ensures.step);
       refused_is = told.1;
       text_is = told.0;
     })
     c.tell.ensures.told
+
+pub returns-in-Ok-clause-cut : goal.returns-in-Ok-clause-cut
+returns-in-Ok-clause-cut c =
+    always c.tell.result (inr (
+      c.in-Ok.outcome,
+      led_delivery c.args.line c.args.message c.in-Ok.outcome c.args.world.now c.deliver-delivered.new.self
+          (IfOk-at_ok (λ outcome. (ls : Limits) → LeadOn ls c.args.world.now (model.Deliver c.args.message ∷ []) (outcome ∷ []) c.deliver-delivered.new.self) c.in-Ok.is c.deliver-delivered.ensures.step),
+    ))
+
+pub returns-clause-cut : goal.returns-clause-cut
+returns-clause-cut c = inl (IfErr-at_err (λ _. c.deliver-delivered.new.self ≡ c.args.world.now) c.in-Err.is c.deliver-delivered.ensures.err)
