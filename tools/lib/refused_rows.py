@@ -20,7 +20,7 @@ from .refusals import KINDS, bytes_of
 
 EVENTS_AT_ONCE = 512  # so many lines of a trace are written at a time
 MEMORY, DEVICE = "kpart: F33 Memory\n", "kpart: F32 Device\n"
-REASONS = {errno.EIO: "the system gave no reason that is known here", errno.ENOSPC: "the disk is full",
+REASONS = {errno.EIO: "its device failed", errno.ENOSPC: "the disk is full",
            errno.ENOMEM: "out of memory"}
 SOUND = (0, errno.EINTR)  # of calls that are short or interrupted
 
