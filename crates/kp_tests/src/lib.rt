@@ -30,8 +30,6 @@ mod meet_tests;
 #[cfg(test)]
 mod node_tests;
 #[cfg(test)]
-mod place_tests;
-#[cfg(test)]
 mod played;
 #[cfg(test)]
 mod producer_tests;
