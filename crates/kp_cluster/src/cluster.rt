@@ -84,10 +84,10 @@ fn start_one<
     }
 }
 
-/// Starts a worker for each node, node i at place i, and one for the controller at the place behind them, which decides with this pass.
-/// For it the first node lends its board, so that its lock is waited for once. Where there is no node there is none at all. The carrier is to have all of these
-/// places: what goes to one that it lacks is lost, also that its worker is to end. Where a growth or a thread is refused, the cluster of
-/// the workers that were started comes back, to be stopped. (Own rule.)
+/// Starts a worker for each node, node i at place i, and one for the controller at the place behind them, which decides with this
+/// pass. For it the first node lends its board, so that its lock is waited for once. Where there is no node there is none at all.
+/// The carrier is to have all of these places: what goes to one that it lacks is lost, also that its worker is to end. Where a
+/// growth or a thread is refused, the cluster of the workers that were started comes back, to be stopped. (Own rule.)
 pub fn start<
     B: BoardName + Send + Sync + 'static,
     R: Threads + Wait + Copy + Send + 'static,

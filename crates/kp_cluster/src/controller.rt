@@ -7,8 +7,9 @@ use kp_transport::{Carry, Parcel};
 use kp_types::{NodeId, Refusal};
 
 /// Handles one parcel of the controller's place, which is the number of nodes: receives it, calls the gate, has the board decide on
-/// the proposal that it is, by `Board::decide` with this pass, sends the decision to the proposal's sender, and calls the gate again. It takes no lock,
-/// and a turn does nothing. A refusal, of the board or of the carrier, ends this step alone, and the message is gone. (Own rule; KIP-497.)
+/// the proposal that it is, by `Board::decide` with this pass, sends the decision to the proposal's sender, and calls the gate
+/// again. It takes no lock, and a turn does nothing. A refusal, of the board or of the carrier, ends this step alone, and the
+/// message is gone. (Own rule; KIP-497.)
 pub fn controller_step<B: BoardName, C: Carry<Parcel<B>>, G: Gate>(
     place: NodeId,
     board: &Board<B>,

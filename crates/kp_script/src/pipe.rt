@@ -336,11 +336,12 @@ fn cut_off(refusal: Refusal, refused: u64, running: Option<Running>) -> CutPipe
 
 /// Plays a script whose lines come one by one: each is answered before the next one is read, by what `run` prints of an event, by
 /// nothing where it is the header, a comment or empty, and by F31 and its number where it can't stand where it stands; then it is
-/// passed over. So is a last line that isn't empty and lacks its line feed, whatever stands in it. It has any number of events. Answers at the reader's end how many answers were refusals, and the nodes with their logs
-/// as they are then. F32 where a device failed, F33 where memory was refused, and after 2^64 - 1 lines: then what was read before is
-/// answered, but for the last line, and what the pipe leaves is that of the lines that were answered, or of these and the last one.
-/// Takes time proportional to the script, its trace and the batches that messages carry, and memory to its longest line, to what the
-/// nodes' logs keep of it and to all messages.
+/// passed over. So is a last line that isn't empty and lacks its line feed, whatever stands in it. It has any number of events.
+/// Answers at the reader's end how many answers were refusals, and the nodes with their logs as they are then. F32 where a device
+/// failed, F33 where memory was refused, and after 2^64 - 1 lines: then what was read before is answered, but for the last line,
+/// and what the pipe leaves is that of the lines that were answered, or of these and the last one. Takes time proportional to the
+/// script, its trace and the batches that messages carry, and memory to its longest line, to what the nodes' logs keep of it and to
+/// all messages.
 pub fn play_pipe<R: BufRead, W: Write>(
     alloc: Global,
     reader: &mut LineReader<R>,

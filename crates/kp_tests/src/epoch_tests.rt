@@ -2,7 +2,7 @@
 //! (KIP-101, KIP-279).
 
 use crate::shown::is;
-use kp_epochs::{EpochUndo, Epochs};
+use kp_epochs::Epochs;
 use kp_model::EpochEnd;
 use kp_types::{Epoch, Offset, Refusal};
 use std::alloc::{AllocError, Global};
@@ -15,8 +15,6 @@ fn leader(alloc: Global) -> Result<Epochs, Refusal> {
     for (epoch, offset) in BATCHES {
         epochs.note(epoch, offset)?.spend();
     }
-    // which takes nothing back
-    epochs.undo(EpochUndo::none());
     Ok(epochs)
 }
 

@@ -1,7 +1,7 @@
 -- What a read-committed consumer was shown before: nothing that is aborted later, and nothing that is taken back.
 use Rattle.std.proofs.Common.{◌≡◌, ℕ, ◌<◌, ◌≤◌, Bool, true, false, cond, leb, ◌⊎◌, List, [], ◌∷◌, ◌++◌, Option, Some, None, refl, sym, ap, ◌∙◌, subst, arith, append_assoc, inl, inr}
 use Rattle.std.specs.Prelude.{zero, suc, Contains, drop, length, map, min, not, unwrap_or}
-use Rattle.std.proofs.lemmas.List.{append-nil, map-append}
+use Rattle.std.proofs.lemmas.List.{append-nil, drop-map, map-append}
 use Rattle.kp_visible.specs.Looked.{AreKnown, are_data, are_visible, chosen}
 use Rattle.kp_visible.proofs.Stretches.{chosen_filter}
 use Rattle.std.specs.List.{AllByRecursion, enumerate_from, filter, find, fold, reduce}
@@ -23,6 +23,8 @@ use Rattle.kp_visible.proofs.Opening.{Opening, opening}
 use Rattle.kp_visible.proofs.Stability.{stable_before, stable_within}
 use Rattle.kp_visible.proofs.Showing.{commit_or_abort, visible_at}
 use Rattle.kp_visible.proofs.Consumers.{ending_at, found_marks, outside}
+use Rattle.kp_model.proofs.Plain.Beginnings.{Begins-trans}
+use Rattle.kp_txns.proofs.Lists.{map_agree_on}
 use Rattle.kp_types.proofs.Elements.{all_weaker, all_both, all_front, all_filter, filter_agree_on, all_itself, find-append}
 
 -- ---- aborted records were hidden
@@ -290,10 +292,6 @@ apart_front : (low : ℕ) (xs ys : List Batch) → Apart low (xs ++ ys) → Apar
 apart_front low [] ys h = tt
 apart_front low (x ∷ xs) ys h = (h.0, h.1, apart_front (next_offset x) xs ys h.2)
 
-map_agree_on : {X Y : Type 0} (P : X → Type 0) (f g : X → Y) → ((x : X) → P x → f x ≡ g x) → (xs : List X) → AllByRecursion P xs → map f xs ≡ map g xs
-map_agree_on P f g agree [] all = refl
-map_agree_on P f g agree (x ∷ xs) all = let here = agree x all.0 in let rest = map_agree_on P f g agree xs all.1 in cc
-
 -- the batches below the last stable offset, which stand in the log
 pub stand_below : (log : List Batch) (offset : ℕ) → AllByRecursion (λ x. Contains log x × (next_offset x ≤ offset)) (below offset log)
 stand_below log offset =
@@ -319,9 +317,6 @@ visible_stays front more earlier later lawful le =
 
 -- ---- what is known of the first batches stays so
 
-begins_twice : {X : Type 0} (xs ys zs : List X) → Begins xs ys → Begins ys zs → Begins xs zs
-begins_twice {X = X} xs ys zs one two = record { rest = one.rest ++ two.rest; is = sym (append_assoc xs one.rest two.rest) ∙ ap (λ (l : List X). l ++ two.rest) one.is ∙ two.is }
-
 visible_known : (front more : List Batch) (earlier later : ℕ) → IsLog (front ++ more) → earlier ≤ later → Begins (are_visible front earlier) (are_visible (front ++ more) later)
 visible_known front more earlier later lawful le =
     let whole = front ++ more in
@@ -345,8 +340,8 @@ data_known front more earlier later lawful le =
 pub known_grows : (front more : List Batch) (earlier later : ℕ) (uncommitted committed : List Bool) → IsLog (front ++ more) → earlier ≤ later
     → AreKnown front earlier uncommitted committed → AreKnown (front ++ more) later uncommitted committed
 known_grows front more earlier later uncommitted committed lawful le known = record {
-  read_uncommitted = begins_twice uncommitted (are_data front earlier) (are_data (front ++ more) later) known.read_uncommitted (data_known front more earlier later lawful le);
-  read_committed = begins_twice committed (are_visible front earlier) (are_visible (front ++ more) later) known.read_committed (visible_known front more earlier later lawful le);
+  read_uncommitted = Begins-trans known.read_uncommitted (data_known front more earlier later lawful le);
+  read_committed = Begins-trans known.read_committed (visible_known front more earlier later lawful le);
 }
 
 -- the high watermark has risen
@@ -355,6 +350,37 @@ known_rises log earlier later uncommitted committed lawful le known =
     let same = append-nil log in
     subst (λ (l : List Batch). AreKnown l later uncommitted committed) same
     (known_grows log [] earlier later uncommitted committed (subst IsLog (sym same) lawful) le known)
+
+-- ---- what lies above the high watermark counts for nothing
+
+-- the batches below the last stable offset are the same ones
+stable_below : (log : List Batch) (high_watermark : ℕ) → Apart 0 log → below (stable log high_watermark) log ≡ below (stable (below high_watermark log) high_watermark) (below high_watermark log)
+stable_below log high_watermark apart =
+    let known = below high_watermark log in
+    let high = stable_within known high_watermark (apart_filter (λ x. leb (next_offset x) high_watermark) 0 log apart) in
+    let held = stable_known log high_watermark in
+    sym (below_twice (stable log high_watermark) high_watermark log (omega (arith, high, held))) ∙ ap (λ (offset : ℕ). below offset known) (sym held)
+
+-- and so are those of them that are visible
+known_below : (log : List Batch) (high_watermark : ℕ) → Apart 0 log → are_visible log high_watermark ≡ are_visible (below high_watermark log) high_watermark
+known_below log high_watermark apart =
+    let known = below high_watermark log in
+    let f = front_of 0 high_watermark log apart in
+    let known_apart = apart_filter (λ x. leb (next_offset x) high_watermark) 0 log apart in
+    let shown = below (stable known high_watermark) known in
+    let settled = map_agree_on _ (is_visible (known ++ f.rest)) (is_visible known) (λ x h. settled_is known f.rest high_watermark x known_apart h.0 h.1) shown (stand_below known (stable known high_watermark)) in
+    ap (map (is_visible log)) (stable_below log high_watermark apart) ∙ ap (λ (l : List Batch). map (is_visible l) shown) f.is ∙ settled
+
+pub visible_below : (log : List Batch) (high_watermark : ℕ) → IsLog log → visible log high_watermark ≡ visible (below high_watermark log) high_watermark
+unfolding visible
+visible_below log high_watermark lawful =
+    let apart = log_apart log lawful in
+    let known = below high_watermark log in
+    let there = below (stable log high_watermark) log in
+    let shown = below (stable known high_watermark) known in
+    let chosen_is : chosen (are_visible log high_watermark) there ≡ chosen (are_visible known high_watermark) shown =
+    ap (λ (vs : List Bool). chosen vs there) (known_below log high_watermark apart) ∙ ap (λ (bs : List Batch). chosen (are_visible known high_watermark) bs) (stable_below log high_watermark apart) in
+    ap records_in (sym (chosen_filter (is_visible log) there) ∙ chosen_is ∙ chosen_filter (is_visible known) shown)
 
 -- a batch that ends above the high watermark is taken back
 pub known_cut : (before : List Batch) (b : Batch) (high_watermark : ℕ) (uncommitted committed : List Bool) → IsLog (before ++ b ∷ []) → high_watermark < next_offset b
@@ -371,19 +397,6 @@ known_cut before b high_watermark uncommitted committed lawful above known =
       read_uncommitted = subst (Begins uncommitted) (ap (map is_data) same) known.read_uncommitted;
       read_committed = subst (Begins committed) told known.read_committed;
     }
-  where
-    known_below : (log : List Batch) (high_watermark : ℕ) → Apart 0 log → are_visible log high_watermark ≡ are_visible (below high_watermark log) high_watermark
-    known_below log high_watermark apart =
-        let known = below high_watermark log in
-        let f = front_of 0 high_watermark log apart in
-        let known_apart = apart_filter (λ x. leb (next_offset x) high_watermark) 0 log apart in
-        let high = stable_within known high_watermark known_apart in
-        let held = stable_known log high_watermark in
-        let shown = below (stable known high_watermark) known in
-        let same : below (stable log high_watermark) log ≡ shown =
-        sym (below_twice (stable log high_watermark) high_watermark log (omega (arith, high, held))) ∙ ap (λ (offset : ℕ). below offset known) (sym held) in
-        let settled = map_agree_on _ (is_visible (known ++ f.rest)) (is_visible known) (λ x h. settled_is known f.rest high_watermark x known_apart h.0 h.1) shown (stand_below known (stable known high_watermark)) in
-        ap (map (is_visible log)) same ∙ ap (λ (l : List Batch). map (is_visible l) shown) f.is ∙ settled
 
 -- ---- more of them are looked at
 
@@ -397,32 +410,10 @@ drop_begun (x ∷ xs) (y ∷ ys) b =
     let rest : xs ++ drop (length xs) ys ≡ ys = drop_begun xs ys (record { rest = b.rest; is = tail }) in
     cc
 
-map_drop : {X Y : Type 0} (f : X → Y) (n : ℕ) (xs : List X) → map f (drop n xs) ≡ drop n (map f xs)
-map_drop f zero xs = refl
-map_drop f (suc n) [] = refl
-map_drop f (suc n) (x ∷ xs) = map_drop f n xs
-
 -- with those that come next they are all
 pub looked_all : (p : Batch → Bool) (known : List Batch) (verdicts : List Bool) → Begins verdicts (map p known) → verdicts ++ map p (drop (length verdicts) known) ≡ map p known
-looked_all p known verdicts begun = ap (λ (vs : List Bool). verdicts ++ vs) (map_drop p (length verdicts) known) ∙ drop_begun verdicts (map p known) begun
+looked_all p known verdicts begun = ap (λ (vs : List Bool). verdicts ++ vs) (sym (drop-map p (length verdicts) known)) ∙ drop_begun verdicts (map p known) begun
 
 -- and of those from a place on they choose the ones that pass
 pub chosen_from : (p : Batch → Bool) (known : List Batch) (place : ℕ) (verdicts : List Bool) → verdicts ≡ map p known → chosen (drop place verdicts) (drop place known) ≡ filter p (drop place known)
-chosen_from p known place verdicts is = ap (λ (vs : List Bool). chosen vs (drop place known)) (ap (drop place) is ∙ sym (map_drop p place known)) ∙ chosen_filter p (drop place known)
-
--- ---- what lies above the high watermark counts for nothing
-
-pub visible_below : (log : List Batch) (high_watermark : ℕ) → IsLog log → visible log high_watermark ≡ visible (below high_watermark log) high_watermark
-unfolding visible
-visible_below log high_watermark lawful =
-    let apart = log_apart log lawful in
-    let known = below high_watermark log in
-    let f = front_of 0 high_watermark log apart in
-    let known_apart = apart_filter (λ x. leb (next_offset x) high_watermark) 0 log apart in
-    let high = stable_within known high_watermark known_apart in
-    let held = stable_known log high_watermark in
-    let shown = below (stable known high_watermark) known in
-    let same : below (stable log high_watermark) log ≡ shown =
-    sym (below_twice (stable log high_watermark) high_watermark log (omega (arith, high, held))) ∙ ap (λ (offset : ℕ). below offset known) (sym held) in
-    let settled = filter_agree_on _ (is_visible (known ++ f.rest)) (is_visible known) (λ x h. settled_is known f.rest high_watermark x known_apart h.0 h.1) shown (stand_below known (stable known high_watermark)) in
-    ap records_in (ap (filter (is_visible log)) same ∙ ap (λ (l : List Batch). filter (is_visible l) shown) f.is ∙ settled)
+chosen_from p known place verdicts is = ap (λ (vs : List Bool). chosen vs (drop place known)) (ap (drop place) is ∙ drop-map p place known) ∙ chosen_filter p (drop place known)

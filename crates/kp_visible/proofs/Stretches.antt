@@ -307,10 +307,6 @@ begun_by p old new batches n is = record {
       ∙ ap (map p) (sym (map-append logged (take n batches) (drop n batches)) ∙ ap (map logged) (take-append-drop n batches)));
 }
 
-pub map_agree : {X Y : Type 0} (f g : X → Y) (xs : List X) → AllByRecursion (λ x. f x ≡ g x) xs → map f xs ≡ map g xs
-map_agree f g [] all = refl
-map_agree f g (x ∷ xs) all = let here = all.0 in let rest = map_agree f g xs all.1 in cc
-
 -- one more
 pub looked_one : (p : Batch → Bool) (old before new : List Bool) (batches : List Written) (n : ℕ) (w : Written) (shown : Bool) → before ≡ old ++ map p (map logged (take n batches))
     → take (n + 1) batches ≡ take n batches ++ w ∷ [] → shown ≡ p (logged w) → new ≡ before ++ shown ∷ [] → new ≡ old ++ map p (map logged (take (n + 1) batches))

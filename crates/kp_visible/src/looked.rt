@@ -127,7 +127,8 @@ impl Looked {
 
     /// Looks at the batches that come next, by a list of aborted transactions that rises by marker, as a log's does: shown is
     /// what [`committed_records`](crate::committed_records) shows. Where memory is refused, the first ones may have been looked
-    /// at. The cost is that of `committed_records`, and for at most 16 batches O(m) each in place of O(m log m), and no memory.
+    /// at. The cost is that of `committed_records`, and for at most 16 batches O(m) each in place of O(m log m), and no memory for
+    /// an index.
     pub fn look_committed(
         &mut self,
         alloc: Global,
@@ -171,7 +172,7 @@ impl Looked {
     }
 
     /// The records, from an offset on, of those of the batches that are shown, from a place on. O(log n) in the stretches, and the
-    /// batches that are shown from that place on. It fails only where memory is refused.
+    /// batches that are shown from that place on. Room for a record of each is made first. It fails only where memory is refused.
     pub fn shown(
         &self,
         alloc: Global,
@@ -184,8 +185,12 @@ impl Looked {
         ensures { IfOk result (λ lines. lines ≡ lines_from from
             (records_in (chosen (drop place self.now) (drop place (map logged batches.now))))) }
     {
-        let mut lines = ReadRecords::new(alloc);
         let passed = self.stretches.partition_point(|s| s.end <= place);
+        let closed = count_shown(&self.stretches[passed..], place);
+        let open = self
+            .last
+            .map_or(0, |start| shown_from(place, start, self.count));
+        let mut lines = ReadRecords::with_room(alloc, closed.saturating_add(open))?;
         let mut place = place;
         for stretch in &self.stretches[passed..] {
             let start = place.max(stretch.start);
@@ -201,6 +206,20 @@ impl Looked {
         }
         Ok(lines)
     }
+}
+
+// How many of the batches of stretches stand at a place or behind it. O(n) in the stretches.
+fn count_shown(stretches: &[Stretch], place: usize) -> usize {
+    let mut shown: usize = 0;
+    for stretch in stretches {
+        shown = shown.saturating_add(shown_from(place, stretch.start, stretch.end));
+    }
+    shown
+}
+
+// How many of the batches of one stretch do.
+fn shown_from(place: usize, start: usize, end: usize) -> usize {
+    end.saturating_sub(start.max(place))
 }
 
 // The batches from a place on, up to the one in front of another; none where the places are the other way round.

@@ -8,8 +8,9 @@ use Rattle.kp_model.specs.Beginning.{Begins}
 use Rattle.kp_model.specs.Transactions.{Aborted}
 use Rattle.kp_visible.specs.Filter.{shows}
 use Rattle.kp_visible.specs.Near.{place_from}
+use Rattle.kp_txns.proofs.Lists.{map_agree_on}
 use Rattle.kp_visible.proofs.Cutting.{shown_near}
-use Rattle.kp_visible.proofs.Stretches.{begun_by, map_agree, looked_one}
+use Rattle.kp_visible.proofs.Stretches.{begun_by, looked_one}
 use Rattle.kp_visible.proofs.looked.Looked.look_committed.Goals as goal
 use Rattle.kp_visible.proofs.looked.Looked.look_committed.Goals.{After-deciding-needed, After-of-searched}
 
@@ -27,7 +28,7 @@ rises c = subst (IsNonDecreasingBy (λ a. a.marker)) (sym (listed c)) (c.decidin
 same : (c : After-of-searched) → map (shows (needed c)) (map logged c.args.batches.now) ≡ map (shows c.args.aborted.now) (map logged c.args.batches.now)
 same c =
     ap (λ (list : List Aborted). map (shows list) (map logged c.args.batches.now)) (listed c)
-    ∙ map_agree (shows c.deciding-needed.result.now) (shows c.args.aborted.now) (map logged c.args.batches.now) (c.deciding-needed.ensures.same c.requires.rising)
+    ∙ map_agree_on (λ b. shows c.deciding-needed.result.now b ≡ shows c.args.aborted.now b) (shows c.deciding-needed.result.now) (shows c.args.aborted.now) (λ b e. e) (map logged c.args.batches.now) (c.deciding-needed.ensures.same c.requires.rising)
 
 pub loop-batch-preserved : goal.loop-batch-preserved
 loop-batch-preserved c =
@@ -68,7 +69,7 @@ returns-clause-begun c =
 
 -- of few batches the same
 few_same : (c : After-deciding-needed) → map (shows c.deciding-needed.result.now) (map logged c.args.batches.now) ≡ map (shows c.args.aborted.now) (map logged c.args.batches.now)
-few_same c = map_agree (shows c.deciding-needed.result.now) (shows c.args.aborted.now) (map logged c.args.batches.now) (c.deciding-needed.ensures.same c.requires.rising)
+few_same c = map_agree_on (λ b. shows c.deciding-needed.result.now b ≡ shows c.args.aborted.now b) (shows c.deciding-needed.result.now) (shows c.args.aborted.now) (λ b e. e) (map logged c.args.batches.now) (c.deciding-needed.ensures.same c.requires.rising)
 
 pub returns-then-batches-le-FEW-clause-looked : goal.returns-then-batches-le-FEW-clause-looked
 returns-then-batches-le-FEW-clause-looked c =

@@ -17,17 +17,17 @@ use Rattle.kp_model.specs.Visible.{records_in}
 use Rattle.kp_visible.specs.Looked.{AreBehind, chosen, last_stretch, spread}
 use Rattle.kp_visible.proofs.Stretches.{ends_rise, last_within, left_from, lines_left, no_stretch, one_stretch, spread_length, stretch_at}
 use Rattle.kp_visible.proofs.looked.Looked.shown.Goals as goal
-use Rattle.kp_visible.proofs.looked.Looked.shown.Goals.{After-deref-2, After-loop-stretch, in-None, in-Some+in_ok-push_batches-in-Some}
+use Rattle.kp_visible.proofs.looked.Looked.shown.Goals.{After-deref-3, After-loop-stretch, in-None, in-Some+in_ok-push_batches-in-Some}
 
 -- as many are known as are handed over
-counted : (c : After-deref-2) → c.self.inside.count ≡ length c.args.batches.now
+counted : (c : After-deref-3) → c.self.inside.count ≡ length c.args.batches.now
 counted c =
     let x = c.self.inside in
     let many = ap (λ (vs : List Bool). length vs) (sym c.self.view_is) ∙ spread_length 0 (x.stretches.items ++ last_stretch x.last x.count) x.count c.self.invariant in
     omega (arith, many, c.requires.known)
 
 -- the stretches that are left out end at the place, or before it
-passed : (c : After-deref-2) → AllByRecursion (λ s. s.end ≤ c.args.place) (take c.partition_point-passed.result c.self.inside.stretches.items)
+passed : (c : After-deref-3) → AllByRecursion (λ s. s.end ≤ c.args.place) (take c.partition_point-passed.result c.self.inside.stretches.items)
 passed c =
     let x = c.self.inside in
     let place = c.args.place in
@@ -42,11 +42,11 @@ passed c =
 pub loop-stretch-init : goal.loop-stretch-init
 loop-stretch-init c =
     let x = c.self.inside in
-    let at = (goal.at.loop-stretch-init c).After-deref-2 in
+    let at = (goal.at.loop-stretch-init c).After-deref-3 in
     let left = left_from c.args.place x.stretches.items (last_stretch x.last x.count) c.partition_point-passed.result x.count c.self.invariant (passed at) in
     let known : drop c.args.place c.args.self.now ≡ spread c.args.place (drop (c.partition_point-passed.result + 0) x.stretches.items ++ last_stretch x.last x.count) x.count =
     ap (λ (vs : List Bool). drop c.args.place vs) (sym c.self.view_is) ∙ left in
-    ap (λ (ls : List Line). ls ++ lines_left c.args.from c.args.place (drop (c.partition_point-passed.result + 0) x.stretches.items ++ last_stretch x.last x.count) x.count c.args.batches.now) c.new-lines.ensures
+    ap (λ (ls : List Line). ls ++ lines_left c.args.from c.args.place (drop (c.partition_point-passed.result + 0) x.stretches.items ++ last_stretch x.last x.count) x.count c.args.batches.now) c.in_ok-lines.ensures
     ∙ ap (λ (vs : List Bool). lines_from c.args.from (records_in (chosen vs (drop c.args.place (map logged c.args.batches.now))))) (sym known)
 
 abbrev none : Stretch
@@ -65,10 +65,10 @@ item items stretches passed i is within =
 pub between-requires : goal.between-requires
 between-requires c =
     let x = c.self.inside in
-    let it = item c.deref-2.result.now x.stretches.items c.partition_point-passed.result c.loop-stretch.stretch-index c.deref-2.ensures.value c.loop-stretch-test.true in
+    let it = item c.deref-3.result.now x.stretches.items c.partition_point-passed.result c.loop-stretch.stretch-index c.deref-3.ensures.value c.loop-stretch-test.true in
     let s = get_or x.stretches.items (c.partition_point-passed.result + c.loop-stretch.stretch-index) none in
     let at = stretch_at x.stretches.items (last_stretch x.last x.count) x.count (c.partition_point-passed.result + c.loop-stretch.stretch-index) s none c.self.invariant it.0 refl in
-    let many = counted (goal.at.between-requires c).After-deref-2 in
+    let many = counted (goal.at.between-requires c).After-deref-3 in
     let ends = ap (λ (t : Stretch). t.end) it.1 in
     let within = at.1 in
     omega (arith, many, ends, within)
@@ -82,8 +82,8 @@ loop-stretch-preserved c =
     let batches = c.args.batches.now in
     let from = c.args.from in
     let place = c.loop-stretch.place in
-    let it = item c.deref-2.result.now x.stretches.items passed i c.deref-2.ensures.value c.loop-stretch-test.true in
-    let s = get_or (take (length c.deref-2.result.now - passed) (drop passed c.deref-2.result.now)) i none in
+    let it = item c.deref-3.result.now x.stretches.items passed i c.deref-3.ensures.value c.loop-stretch-test.true in
+    let s = get_or (take (length c.deref-3.result.now - passed) (drop passed c.deref-3.result.now)) i none in
     let at = stretch_at x.stretches.items last x.count (passed + i) s none c.self.invariant it.0 it.1 in
     let next : passed + i + 1 ≡ passed + (i + 1) = omega arith in
     let there : c.between.result.now ≡ take (s.end - max place s.start) (drop (max place s.start) batches) =
@@ -96,7 +96,7 @@ loop-stretch-preserved c =
     ∙ ap (λ (n : ℕ). c.push_batches.new.lines ++ lines_left from (max place s.end) (drop n x.stretches.items ++ last) x.count batches) (sym next) ∙ after
 
 pub between-requires-in-Some : goal.between-requires-in-Some
-between-requires-in-Some c = let same = counted (goal.at.between-requires-in-Some c).After-deref-2 in omega (arith, same)
+between-requires-in-Some c = let same = counted (goal.at.between-requires-in-Some c).After-deref-3 in omega (arith, same)
 
 -- behind the loop the last stretch alone is left
 left : (c : After-loop-stretch) → c.loop-stretch.lines ++ lines_left c.args.from c.loop-stretch.place (last_stretch c.self.inside.last c.self.inside.count) c.self.inside.count c.args.batches.now
@@ -104,11 +104,11 @@ left : (c : After-loop-stretch) → c.loop-stretch.lines ++ lines_left c.args.fr
 left c =
     let x = c.self.inside in
     let passed = c.partition_point-passed.result in
-    let items = c.deref-2.result.now in
+    let items = c.deref-3.result.now in
     let last = last_stretch x.last x.count in
     let many = ap (λ (ss : List Stretch). length ss) (take_rest items passed) in
     let rest : length (drop passed items) ≡ length items - passed = length-drop passed items in
-    let same = ap (λ (ss : List Stretch). length ss) c.deref-2.ensures.value in
+    let same = ap (λ (ss : List Stretch). length ss) c.deref-3.ensures.value in
     let over : length x.stretches.items ≤ passed + c.loop-stretch.stretch-index = omega (arith, many, rest, same, c.loop-stretch-test.false) in
     ap (λ (ss : List Stretch). c.loop-stretch.lines ++ lines_left c.args.from c.loop-stretch.place (ss ++ last) x.count c.args.batches.now) (sym (drop_all (passed + c.loop-stretch.stretch-index) x.stretches.items over))
     ∙ c.loop-stretch.invariant
