@@ -1,11 +1,10 @@
 -- What a pipe leaves, as what its parts leave.
-use Rattle.std.proofs.Common.{◌≡◌, ◌∙◌, ◌⊎◌, ◌+◌, ◌==◌, ℕ, List, [], Option, None, Some, Result, Ok, Err, cond, true, inl, inr, refl, ap, subst, arith}
+use Rattle.std.proofs.Common.{◌≡◌, ◌∙◌, ◌⊎◌, ◌+◌, ◌==◌, ℕ, List, [], Option, None, Some, Result, Ok, Err, cond, inl, inr, refl, ap, subst, arith}
 use Rattle.std.specs.Prelude.{IfErr, IfOk}
 use Rattle.std.specs.Io.Buffered.{reader_buffer, reader_capacity, reader_inner, reader_remaining}
 use Rattle.std.specs.Io.KnownBytes.{prepend_known}
 use Rattle.std.specs.declared.io.buffered.BufReader.{BufReader}
 use Rattle.std.proofs.KnownBytes.{Appends-nil, prepend_known-nil}
-use Rattle.std.proofs.lemmas.Bool.{false≢true}
 use Rattle.kp_types.specs.declared.counted.Counted.{Counted}
 use Rattle.kp_types.specs.declared.refusal.Refusal.{Refusal}
 use Rattle.kp_types.specs.declared.refusal.Refusal.TheVariants as refusals
@@ -14,17 +13,7 @@ use Rattle.kp_script.specs.Ended.{RunEnd}
 use Rattle.kp_script.specs.Piped.{PipesFirst, PipesFront, PipesTo, refused_in}
 use Rattle.kp_script.specs.Reads.{ReadsInto}
 use Rattle.kp_script.specs.declared.pipe.CutPipe.{CutPipe}
-use Rattle.kp_cli.specs.Line.{file_of, is_pipe}
 use Rattle.kp_cli.specs.Piped.{Answers}
-use Rattle.kp_cli.specs.declared.call.Call.{Call}
-use Rattle.kp_cli.specs.declared.call.Call.TheVariants.{Inspect, Pipe, Race, Run}
-
--- a pipe reads no file
-pub pipe_file : (call : Call) → is_pipe call ≡ true → file_of call ≡ None
-pipe_file (Run file keep) e = absurd (false≢true e)
-pipe_file (Inspect file segment_bytes index_interval) e = absurd (false≢true e)
-pipe_file (Pipe keep) e = refl
-pipe_file (Race nodes plan) e = absurd (false≢true e)
 
 -- an empty buffer has what its reader has
 pub buffered : {T A : Type 0} (remaining : T → Option (List ℕ)) (r : BufReader T A) (input : T) → reader_inner r ≡ input → reader_buffer r ≡ [] → reader_capacity r ≡ 8192

@@ -133,21 +133,3 @@ NamesCall (Some entered) = ((entered.0 ≡ codes "run") × HasFile entered.1)
     × HasNumber (codes "interval") 0 1048576 entered.1)
     ⊎ (((entered.0 ≡ codes "race") × NamesRace entered.1)
     ⊎ (entered.0 ≡ codes "pipe")))
-
--- whether the call plays the lines of standard input
-abbrev pub is_pipe : Call → Bool
-is_pipe (Pipe keep) = true
-is_pipe _ = false
-
--- the path of the file that a call reads, if it reads one
-abbrev pub file_of : Call → Option (List ℕ)
-file_of (Run file keep) = Some (string_bytes file)
-file_of (Inspect file segment_bytes index_interval) = Some (string_bytes file)
-file_of (Pipe keep) = None
-file_of (Race nodes plan) = None
-
--- the path of the folder that the logs of its run or its pipe are kept in, if they are
-abbrev pub keep_of : Call → Option (List ℕ)
-keep_of (Run file keep) = option_map string_bytes keep
-keep_of (Pipe keep) = option_map string_bytes keep
-keep_of _ = None

@@ -12,12 +12,7 @@ use Rattle.kp_script.specs.Kept.{KeepsLogs, KeepsLogsFront}
 use Rattle.kp_script.specs.Script.{IsFaultAt}
 use Rattle.kp_script.specs.Transcript.{largest_batch, Writes, WritesFirst, WritesFront}
 use Rattle.kp_inspect.specs.Inspected.{Writes as WritesDump, WritesFront as WritesDumpFront}
-use Rattle.kp_race.specs.declared.outcome.Outcome.{Outcome}
-use Rattle.kp_race.specs.declared.outcome.Plan.{Plan}
-use Rattle.kp_cli.specs.Raced.{EndsRace}
 use Rattle.kp_cli.specs.Told.{complaint, reason_of, status_of_refusal}
-use Rattle.kp_cli.specs.declared.call.Call.{Call}
-use Rattle.kp_cli.specs.declared.call.Call.TheVariants.{Run, Inspect, Pipe, Race}
 use Rattle.kp_cli.specs.declared.fault.Fault.{Fault}
 
 -- What running a script leaves on standard output, where the input is known: with an answer the trace, with a
@@ -88,6 +83,10 @@ pub record Shelf (K : Type 0) : Type 0 where
   pub entries : K → Option (List Entry)
   pub folder_fault : K → Fault
 
+-- how a log is cut by these two numbers
+abbrev pub limits_of : (segment_bytes index_interval : ℕ) → Limits
+limits_of segment_bytes index_interval = record { segment_bytes = segment_bytes; index_interval = index_interval; max_batch = largest_batch }
+
 -- What a call leaves that reads the file at this path, by what it writes: that on standard output, and on standard error the
 -- refusal, if the whole call is refused, with the reason where the file failed.
 abbrev pub PerformsReading : {F W E : Type 0} → Streams F W E → (path : List ℕ)
@@ -99,20 +98,6 @@ PerformsReading streams path Written file file_new out out_new err err_new statu
     × CountsOne outcome (faults_of file) (faults_of file_new) (faults_of out) (faults_of out_new)
     × Complains streams.told err err_new outcome (reason_of streams.file_fault path (faults_of file) file_new)
     × (status ≡ status_of outcome)
-
--- What a call leaves that isn't a pipe, but for logs that it keeps: the trace of its script, the dump of its log, or the lines of its race, whatever
--- that may answer. A race leaves the file alone.
-abbrev pub PerformsCall : {F W E : Type 0} → Streams F W E → (races : ℕ → Plan → Result Outcome Refusal → Type 0) → Call
-    → (file file_new : Counted F) → (out out_new : Counted W) → (err err_new : Counted E) → (status : ℕ) → Type 0
-PerformsCall streams races (Run path keep) file file_new out out_new err err_new status =
-    PerformsReading streams (string_bytes path) RunsScript file file_new out out_new err err_new status
-PerformsCall streams races (Inspect path segment_bytes index_interval) file file_new out out_new err err_new status =
-    PerformsReading streams (string_bytes path)
-    (Inspects (record { segment_bytes = segment_bytes; index_interval = index_interval; max_batch = largest_batch }))
-    file file_new out out_new err err_new status
-PerformsCall streams races (Pipe keep) file file_new out out_new err err_new status = ⊥
-PerformsCall streams races (Race nodes plan) file file_new out out_new err err_new status =
-    (file_new ≡ file) × EndsRace streams.held streams.told (races nodes plan) out out_new err err_new status
 
 -- What a run leaves whose script is the file at this path, and whose logs are kept in the folder at that one.
 abbrev pub RunsAndKeeps : {F K W E : Type 0} → Streams F W E → Shelf K → (path keep : List ℕ)

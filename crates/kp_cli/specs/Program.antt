@@ -1,5 +1,5 @@
 -- What the program does, from the words of its command line to its exit status.
-use Rattle.std.specs.Prelude.{◌≡◌, ◌⊎◌, ℕ, List, [], Option, Some, None, Result, Ok, Err, IfSome, true, false}
+use Rattle.std.specs.Prelude.{◌≡◌, ◌⊎◌, ℕ, List, [], Option, Some, None, Result, Ok, Err, IfSome, string_bytes}
 use Rattle.clap.specs.Words.{IsAmong, Text, fault_of, subcommand_of}
 use Rattle.clap.specs.declared.error.kind.ErrorKind.{ErrorKind}
 use Rattle.clap.specs.declared.error.kind.ErrorKind.TheVariants as kinds
@@ -11,11 +11,13 @@ use Rattle.kp_types.specs.declared.refusal.Refusal.TheVariants.{Memory}
 use Rattle.kp_race.specs.declared.outcome.Outcome.{Outcome}
 use Rattle.kp_race.specs.declared.outcome.Plan.{Plan}
 use Rattle.kp_cli.specs.Faults.{refusal_of}
-use Rattle.kp_cli.specs.Line.{IsCallOf, file_of, is_pipe, keep_of, kpart}
-use Rattle.kp_cli.specs.Perform.{PerformsCall, RunsAndKeeps, Shelf, Streams}
+use Rattle.kp_cli.specs.Line.{IsCallOf, kpart}
+use Rattle.kp_cli.specs.Perform.{Inspects, PerformsReading, RunsAndKeeps, RunsScript, Shelf, Streams, limits_of}
 use Rattle.kp_cli.specs.Piped.{EndsPipe, PipesAndKeeps}
+use Rattle.kp_cli.specs.Raced.{EndsRace}
 use Rattle.kp_cli.specs.Told.{Prints, complaint, file_complaint, lone_reason, tamed}
 use Rattle.kp_cli.specs.declared.call.Call.{Call}
+use Rattle.kp_cli.specs.declared.call.Call.TheVariants.{Inspect, Pipe, Race, Run}
 use Rattle.kp_cli.specs.declared.fault.Fault.{Fault}
 use Rattle.kp_cli.specs.declared.fault.Fault.TheVariants as faults
 
@@ -63,12 +65,28 @@ ExplainsBy held told kind known out out_new err err_new status =
     ((text : List ℕ) × IfSome known (λ wanted. text ≡ wanted) × Explains held told kind (tamed text) out out_new err err_new status)
     ⊎ Explains held told kinds.OutOfMemory [] out out_new err err_new status
 
--- what is known of the file, the folder and the two outputs, and besides which answers opening a path, taking the folder at a path,
--- and a race of so many nodes under a plan may give
+-- what a race of so many nodes under a plan may answer
+abbrev pub Races : Type 1
+Races = ℕ → Plan → Result Outcome Refusal → Type 0
+
+-- What a call leaves that is handed an open file and keeps no logs: the trace of its script, the dump of its log, its pipe's answers, or the
+-- lines of its race, whatever that may answer. A pipe and a race leave the file alone.
+abbrev pub PerformsCall : {F W E : Type 0} → Streams F W E → Races → (input : Option (List ℕ)) → Call
+    → (file file_new : Counted F) → (out out_new : Counted W) → (err err_new : Counted E) → (status : ℕ) → Type 0
+PerformsCall streams races input (Run path keep) file file_new out out_new err err_new status =
+    PerformsReading streams (string_bytes path) RunsScript file file_new out out_new err err_new status
+PerformsCall streams races input (Inspect path segment_bytes index_interval) file file_new out out_new err err_new status =
+    PerformsReading streams (string_bytes path) (Inspects (limits_of segment_bytes index_interval)) file file_new out out_new err err_new status
+PerformsCall streams races input (Pipe keep) file file_new out out_new err err_new status =
+    (file_new ≡ file) × EndsPipe streams.held streams.told input out out_new err err_new status
+PerformsCall streams races input (Race nodes plan) file file_new out out_new err err_new status =
+    (file_new ≡ file) × EndsRace streams.held streams.told (races nodes plan) out out_new err err_new status
+
+-- what is known of the file, the folder and the two outputs, and besides which answers opening a path and taking the folder at a path
+-- may give
 pub record Known (F K W E : Type 0) : Type 1 where
   pub opens : F → List ℕ → Result (Unit {0}) Fault → F → Type 0
   pub takes : K → List ℕ → Result (Unit {0}) Fault → K → Type 0
-  pub races : ℕ → Plan → Result Outcome Refusal → Type 0
   pub streams : Streams F W E
   pub shelf : Shelf K
 
@@ -76,9 +94,8 @@ pub record Known (F K W E : Type 0) : Type 1 where
 abbrev pub IsLeft : {T : Type 0} → T → Counted T → Type 0
 IsLeft device left = (device_of left ≡ device) × (faults_of left ≡ 0)
 
--- What the program is handed: what is known of its standard input, a file, a folder, and the two outputs; and what it leaves of them.
+-- What the program is handed, a file, a folder and the two outputs, and what it leaves of them.
 pub record Around (F K W E : Type 0) : Type 0 where
-  pub input : Option (List ℕ)
   pub file : F
   pub file_left : Counted F
   pub folder : K
@@ -92,6 +109,17 @@ pub record Around (F K W E : Type 0) : Type 0 where
 abbrev pub TouchesNone : {F K W E : Type 0} → Around F K W E → Type 0
 TouchesNone around = IsLeft around.file around.file_left × IsLeft around.folder around.folder_left
 
+-- The file at this path was opened, and none of its calls has failed.
+pub record IsOpened {F K W E : Type 0} (known : Known F K W E) (path : List ℕ) (file : F) (opened : Counted F) : Type 0 where
+  pub opens : known.opens file path (Ok tt) (device_of opened)
+  pub unread : faults_of opened ≡ 0
+
+-- The folder at this path was taken, with nothing in it, and none of its calls has failed.
+pub record IsTaken {F K W E : Type 0} (known : Known F K W E) (keep : List ℕ) (folder : K) (taken : Counted K) : Type 0 where
+  pub takes : known.takes folder keep (Ok tt) (device_of taken)
+  pub unput : faults_of taken ≡ 0
+  pub empty : IfSome (known.shelf.entries (device_of taken)) (λ all. all ≡ [])
+
 -- The file at this path can't be opened: nothing stands on standard output, the two lines on standard error, and the folder is as
 -- it was handed in.
 pub record EndsUnopened {F K W E : Type 0} (known : Known F K W E) (path : List ℕ) (around : Around F K W E) (status : ℕ) : Type 0 where
@@ -103,19 +131,9 @@ pub record EndsUnopened {F K W E : Type 0} (known : Known F K W E) (path : List 
   pub told : Tells known.streams.told around.err around.err_left (file_complaint path fault)
   pub status_is : status ≡ 1
 
--- The file at this path is open, and no logs are kept: what `perform` says, and the folder is as it was handed in.
-pub record EndsCall {F K W E : Type 0} (known : Known F K W E) (call : Call) (path : List ℕ) (around : Around F K W E) (status : ℕ) : Type 0 where
-  pub file : Counted F
-  pub opens : known.opens around.file path (Ok tt) (device_of file)
-  pub unread : faults_of file ≡ 0
-  pub folder_same : IsLeft around.folder around.folder_left
-  pub performs : PerformsCall known.streams known.races call file around.file_left around.out around.out_left around.err around.err_left status
-
--- The file at this path is open, and the folder at that one can't be taken: nothing was read, nothing has come into a folder, and the
--- two lines stand on standard error.
-pub record EndsUntaken {F K W E : Type 0} (known : Known F K W E) (path keep : List ℕ) (around : Around F K W E) (status : ℕ) : Type 0 where
-  pub opens : known.opens around.file path (Ok tt) (device_of around.file_left)
-  pub unread : faults_of around.file_left ≡ 0
+-- The folder at this path can't be taken: nothing has come into a folder, nothing stands on standard output, and the two lines on
+-- standard error.
+pub record EndsUntaken {F K W E : Type 0} (known : Known F K W E) (keep : List ℕ) (around : Around F K W E) (status : ℕ) : Type 0 where
   pub fault : Fault
   pub takes : known.takes around.folder keep (Err fault) (device_of around.folder_left)
   pub puts_none : Puts (known.shelf.entries around.folder) (known.shelf.entries (device_of around.folder_left)) []
@@ -124,80 +142,62 @@ pub record EndsUntaken {F K W E : Type 0} (known : Known F K W E) (path keep : L
   pub told : Tells known.streams.told around.err around.err_left (file_complaint keep fault)
   pub status_is : status ≡ 1
 
--- The file at this path is open, and the folder at that one is taken, with nothing in it: what `run_and_keep` says, and no more.
-pub record EndsKeeping {F K W E : Type 0} (known : Known F K W E) (path keep : List ℕ) (around : Around F K W E) (status : ℕ) : Type 0 where
+-- The file at this path is open, this is written of it, and the folder is as it was handed in.
+pub record EndsRead {F K W E : Type 0} (known : Known F K W E) (path : List ℕ)
+    (Written : (input old new : Option (List ℕ)) → Result ℕ Refusal → Type 0) (around : Around F K W E) (status : ℕ) : Type 0 where
   pub file : Counted F
-  pub opens : known.opens around.file path (Ok tt) (device_of file)
-  pub unread : faults_of file ≡ 0
+  pub is_opened : IsOpened known path around.file file
+  pub folder_same : IsLeft around.folder around.folder_left
+  pub performs : PerformsReading known.streams path Written file around.file_left around.out around.out_left around.err around.err_left status
+
+-- The file at this path is open, and the folder at that one is taken: what `run_and_keep` says, and no more.
+pub record EndsKept {F K W E : Type 0} (known : Known F K W E) (path keep : List ℕ) (around : Around F K W E) (status : ℕ) : Type 0 where
+  pub file : Counted F
+  pub is_opened : IsOpened known path around.file file
   pub folder : Counted K
-  pub takes : known.takes around.folder keep (Ok tt) (device_of folder)
-  pub unput : faults_of folder ≡ 0
-  pub empty : IfSome (known.shelf.entries (device_of folder)) (λ all. all ≡ [])
+  pub is_taken : IsTaken known keep around.folder folder
   pub runs : RunsAndKeeps known.streams known.shelf path keep file around.file_left folder around.folder_left around.out around.out_left around.err around.err_left status
 
--- a call that reads the file at this path, by whether its logs are kept
-abbrev pub EndsOpened : {F K W E : Type 0} → Known F K W E → Call → (path : List ℕ) → (keep : Option (List ℕ)) → Around F K W E → ℕ → Type 0
-EndsOpened known call path None around status = EndsCall known call path around status
-EndsOpened known call path (Some keep) around status =
-    EndsUntaken known path keep around status ⊎ EndsKeeping known path keep around status
+-- The folder at this path is taken: what `pipe_and_keep` says, and no more.
+pub record EndsPiped {F K W E : Type 0} (known : Known F K W E) (keep : List ℕ) (input : Option (List ℕ)) (around : Around F K W E) (status : ℕ) : Type 0 where
+  pub folder : Counted K
+  pub is_taken : IsTaken known keep around.folder folder
+  pub pipes : PipesAndKeeps known.streams.held known.streams.told known.shelf keep input folder around.folder_left around.out around.out_left around.err around.err_left status
 
--- what is known of a folder and of the two outputs, for a pipe that keeps its logs
-pub record Beside (K W E : Type 0) : Type 1 where
-  pub takes : K → List ℕ → Result (Unit {0}) Fault → K → Type 0
-  pub shelf : Shelf K
-  pub held : W → Option (List ℕ)
-  pub told : E → Option (List ℕ)
+-- what a call leaves that reads the file at this path and keeps nothing
+abbrev pub Reads : {F K W E : Type 0} → Known F K W E → (path : List ℕ)
+    → (Written : (input old new : Option (List ℕ)) → Result ℕ Refusal → Type 0) → Around F K W E → ℕ → Type 0
+Reads known path Written around status = EndsUnopened known path around status ⊎ EndsRead known path Written around status
 
--- The folder at this path can't be taken: no line was read and nothing has come into a folder, and the two lines stand on standard
--- error.
-pub record PipeUntaken {K W E : Type 0} (known : Beside K W E) (keep : List ℕ) (folder : K) (folder_left : Counted K)
-    (out out_left : Counted W) (err err_left : Counted E) (status : ℕ) : Type 0 where
-  pub fault : Fault
-  pub takes : known.takes folder keep (Err fault) (device_of folder_left)
-  pub puts_none : Puts (known.shelf.entries folder) (known.shelf.entries (device_of folder_left)) []
-  pub no_call : faults_of folder_left ≡ 0
-  pub out_same : out_left ≡ out
-  pub told : Tells known.told err err_left (file_complaint keep fault)
-  pub status_is : status ≡ 1
+-- what a run leaves of the script at this path, whose logs are kept in the folder at that one: nothing is read before it is taken
+abbrev pub RunsInto : {F K W E : Type 0} → Known F K W E → (path keep : List ℕ) → Around F K W E → ℕ → Type 0
+RunsInto known path keep around status =
+    EndsUnopened known path around status
+    ⊎ ((IsOpened known path around.file around.file_left × EndsUntaken known keep around status) ⊎ EndsKept known path keep around status)
 
--- The folder at this path is taken, with nothing in it: what `pipe_and_keep` says, and no more.
-pub record PipeKeeping {K W E : Type 0} (known : Beside K W E) (keep : List ℕ) (input : Option (List ℕ)) (folder : K) (folder_left : Counted K)
-    (out out_left : Counted W) (err err_left : Counted E) (status : ℕ) : Type 0 where
-  pub empty_folder : Counted K
-  pub takes : known.takes folder keep (Ok tt) (device_of empty_folder)
-  pub unput : faults_of empty_folder ≡ 0
-  pub empty : IfSome (known.shelf.entries (device_of empty_folder)) (λ all. all ≡ [])
-  pub pipes : PipesAndKeeps known.held known.told known.shelf keep input empty_folder folder_left out out_left err err_left status
+-- what a pipe leaves whose logs are kept in the folder at this path: no line is read before it is taken
+abbrev pub PipesInto : {F K W E : Type 0} → Known F K W E → (keep : List ℕ) → (input : Option (List ℕ)) → Around F K W E → ℕ → Type 0
+PipesInto known keep input around status =
+    IsLeft around.file around.file_left × (EndsUntaken known keep around status ⊎ EndsPiped known keep input around status)
 
--- What a pipe leaves, by whether its logs are kept.
-abbrev pub LeavesPipe : {K W E : Type 0} → Beside K W E → (keep : Option (List ℕ)) → (input : Option (List ℕ)) → (folder : K) → (folder_left : Counted K)
-    → (out out_left : Counted W) → (err err_left : Counted E) → (status : ℕ) → Type 0
-LeavesPipe known None input folder folder_left out out_left err err_left status =
-    IsLeft folder folder_left × EndsPipe known.held known.told input out out_left err err_left status
-LeavesPipe known (Some keep) input folder folder_left out out_left err err_left status =
-    PipeUntaken known keep folder folder_left out out_left err err_left status
-    ⊎ PipeKeeping known keep input folder folder_left out out_left err err_left status
+-- What the program leaves that is asked for this call. Its file is opened first, then its folder is taken, then it reads.
+abbrev pub EndsAsked : {F K W E : Type 0} → Known F K W E → Races → (input : Option (List ℕ)) → Call → Around F K W E → ℕ → Type 0
+EndsAsked known races input (Run path None) around status = Reads known (string_bytes path) RunsScript around status
+EndsAsked known races input (Run path (Some keep)) around status = RunsInto known (string_bytes path) (string_bytes keep) around status
+EndsAsked known races input (Inspect path segment_bytes index_interval) around status =
+    Reads known (string_bytes path) (Inspects (limits_of segment_bytes index_interval)) around status
+EndsAsked known races input (Pipe None) around status =
+    TouchesNone around × EndsPipe known.streams.held known.streams.told input around.out around.out_left around.err around.err_left status
+EndsAsked known races input (Pipe (Some keep)) around status = PipesInto known (string_bytes keep) input around status
+EndsAsked known races input (Race nodes plan) around status =
+    TouchesNone around × EndsRace known.streams.held known.streams.told (races nodes plan) around.out around.out_left around.err around.err_left status
 
--- what is known of the folder and of the two outputs alone
-abbrev pub beside_of : {F K W E : Type 0} → Known F K W E → Beside K W E
-beside_of known = record { takes = known.takes; shelf = known.shelf; held = known.streams.held; told = known.streams.told }
-
--- a call, by whether it reads a file: a race leaves file and folder as they were handed in, and a pipe the file
-abbrev pub EndsAsked : {F K W E : Type 0} → Known F K W E → Call → (path : Option (List ℕ)) → Around F K W E → ℕ → Type 0
-EndsAsked {F} known call None around status =
-    ((is_pipe call ≡ true) × IsLeft around.file around.file_left × LeavesPipe (beside_of known) (keep_of call) around.input
-    around.folder around.folder_left around.out around.out_left around.err around.err_left status)
-    ⊎ ((is_pipe call ≡ false) × ((file : Counted F) × IsLeft around.file file × IsLeft around.folder around.folder_left
-    × PerformsCall known.streams known.races call file around.file_left around.out around.out_left around.err around.err_left status))
-EndsAsked known call (Some path) around status =
-    EndsUnopened known path around status ⊎ EndsOpened known call path (keep_of call) around status
-
--- What the program leaves. Its words are read first, then the call's file is opened, then the folder is taken, then the file is read.
-abbrev pub Ends : {F K W E : Type 0} → Known F K W E → Asked → Around F K W E → ℕ → Type 0
-Ends known (Asks call) around status = EndsAsked known call (file_of call) around status
-Ends known (Mistakes kind) around status =
+-- What the program leaves. Its words are read first.
+abbrev pub Ends : {F K W E : Type 0} → Known F K W E → Races → (input : Option (List ℕ)) → Asked → Around F K W E → ℕ → Type 0
+Ends known races input (Asks call) around status = EndsAsked known races input call around status
+Ends known races input (Mistakes kind) around status =
     TouchesNone around
     × ExplainsBy known.streams.held known.streams.told kind None around.out around.out_left around.err around.err_left status
-Ends known (Unread fault) around status =
+Ends known races input (Unread fault) around status =
     TouchesNone around × (around.out_left ≡ around.out) × Tells known.streams.told around.err around.err_left (words_complaint fault)
     × (status ≡ words_status fault)

@@ -1,9 +1,5 @@
 //! What the program can be asked to do.
 
-ghost use Rattle.std.specs.Prelude.{◌≡◌};
-ghost use Rattle.std.specs.Option.{option_map};
-ghost use Rattle.kp_cli.specs.Line.{file_of, is_pipe, keep_of};
-
 use kp_race::Plan;
 use kp_types::NodeId;
 
@@ -38,40 +34,4 @@ pub enum Call {
         /// From 1 to 8 producers, of 0 to 10,000 batches each, and 0 to 1,000 elections.
         plan: Plan,
     },
-}
-
-impl Call {
-    /// The path of the file that it reads, as it was written; a pipe and a race read none. O(1).
-    pub fn file(&self) -> Option<&str>
-        ensures { option_map (λ path. path.now) result ≡ file_of self.now }
-    {
-        match self {
-            Call::Run { file, .. } | Call::Inspect { file, .. } => Some(file.as_str()),
-            Call::Pipe { .. } | Call::Race { .. } => None,
-        }
-    }
-
-    /// Whether it plays the lines of standard input. O(1).
-    pub fn is_pipe(&self) -> bool
-        ensures { result ≡ is_pipe self.now }
-    {
-        match self {
-            Call::Pipe { .. } => true,
-            Call::Run { .. } | Call::Inspect { .. } | Call::Race { .. } => false,
-        }
-    }
-
-    /// The path of the folder that the logs of its run or its pipe are kept in, as it was written, if they are. O(1).
-    pub fn keep(&self) -> Option<&str>
-        ensures { option_map (λ path. path.now) result ≡ keep_of self.now }
-    {
-        match self {
-            Call::Run {
-                keep: Some(path),
-                ..
-            }
-            | Call::Pipe { keep: Some(path) } => Some(path.as_str()),
-            _ => None,
-        }
-    }
 }

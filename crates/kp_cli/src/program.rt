@@ -1,25 +1,23 @@
 //! The whole program: from the words of the command line to the exit status.
 
-ghost use Rattle.std.specs.Prelude.{◌≡◌, ◌+◌, ◌<◌, ◌≤◌, ◌^◌, ℕ, false, map, string_bytes};
-ghost use Rattle.std.specs.Option.{option_map};
+ghost use Rattle.std.specs.Prelude.{◌≡◌, ◌+◌, ◌<◌, ◌≤◌, ◌^◌, ℕ, map, string_bytes};
 ghost use Rattle.kp_types.specs.Devices.{faults_of};
-ghost use Rattle.kp_types.specs.declared.counted.Counted.{Counted as SomeCounted};
 ghost use Rattle.kp_race.specs.declared.outcome.Plan.{Plan as SomePlan};
 ghost use Rattle.kp_cli.specs.declared.call.Call.TheVariants.{Race};
-ghost use Rattle.kp_cli.specs.Line.{file_of, is_pipe};
-ghost use Rattle.kp_cli.specs.Perform.{PerformsCall};
-ghost use Rattle.kp_cli.specs.Program.{Asked, Ends, EndsAsked, Explains, ExplainsBy, IsAsked, IsLeft, LeavesPipe};
+ghost use Rattle.kp_cli.specs.Perform.{Inspects, RunsScript};
+ghost use Rattle.kp_cli.specs.Program.{Asked, Ends, EndsAsked, Explains, ExplainsBy, IsAsked, IsLeft, RunsInto, PipesInto, Reads};
 
 use crate::Call;
 use crate::devices::{KeptFolder, Source};
 use crate::fault::Fault;
 use crate::line::call_of;
 use crate::piping::{pipe, pipe_and_keep};
-use crate::running::{perform, run_and_keep};
+use crate::racing::race_and_tell;
+use crate::running::{dump, limits, play, run_and_keep};
 use crate::telling::{refuse, refuse_path, refuse_words, tame};
 use clap::error::ErrorKind;
 use kp_race::{Outcome, Plan};
-use kp_types::{Counted, NodeId, Refusal};
+use kp_types::{Counted, Limits, NodeId, Refusal};
 use std::alloc::Global;
 use std::fmt::Display;
 use std::io::{Read, Write};
@@ -84,12 +82,12 @@ pub fn explain<D: Display, W: Write, E: Write>(
 }
 
 /// Does what the words ask for, of which the first is the program's name, with a file of which none is open and a folder of which none
-/// is taken, and with what runs a race of at most seven nodes. The exit status is that of [`perform`] for a race and for a call whose
-/// file is open, and of [`run_and_keep`] where its logs are kept besides; 1 where the file can't be opened or the folder not be
-/// taken, with a second line on standard error that says which one and why, before anything is read; that of [`pipe`] or [`pipe_and_keep`] for
-/// a pipe, which reads standard input and leaves the file alone; that of [`explain`] where
-/// the words are no call; 2 where one isn't UTF-8; and 1 where memory ran out before. Without a call that keeps logs, and before
-/// its file is open, the folder is left alone, and so is the file by a race. Time and memory are those of the call.
+/// is taken, and with what runs a race of at most seven nodes. The exit status is that of [`perform`](crate::perform) where no logs are
+/// kept, and else that of [`run_and_keep`] or [`pipe_and_keep`]; 1 where the file can't be opened or the folder not be taken, with a
+/// second line on standard error that says which one and why, before anything is read; that of [`explain`] where the words are no
+/// call; 2 where one isn't UTF-8; and 1 where memory ran out before. A pipe reads standard input and leaves the file alone, and so
+/// does a race. Without a call that keeps logs, and before its file is open, the folder is left alone. Time and memory are those of
+/// the call.
 pub fn main_with<
     F: Source + Drop,
     K: KeptFolder + Drop,
@@ -114,11 +112,9 @@ pub fn main_with<
         × Ends (record {
           opens = F.opens;
           takes = K.takes;
-          races = X.post races;
           streams = record { remaining = F.remaining; file_fault = F.fault_is; held = W.contents; told = E.contents };
           shelf = record { entries = K.entries; folder_fault = K.fault_is };
-        }) asked (record {
-          input = I.remaining input;
+        }) (X.post races) (I.remaining input) asked (record {
           file = file;
           file_left = result.file;
           folder = folder;
@@ -166,11 +162,9 @@ fn called<
     ensures { EndsAsked (record {
       opens = F.opens;
       takes = K.takes;
-      races = X.post races;
       streams = record { remaining = F.remaining; file_fault = F.fault_is; held = W.contents; told = E.contents };
       shelf = record { entries = K.entries; folder_fault = K.fault_is };
-    }) call.now (file_of call.now) (record {
-      input = I.remaining input;
+    }) (X.post races) (I.remaining input) call.now (record {
       file = file;
       file_left = result.file;
       folder = folder;
@@ -181,26 +175,153 @@ fn called<
       err_left = err.new;
     }) result.status }
 {
-    if call.is_pipe() {
-        return piped(alloc, call.keep(), input, file, folder, out, err);
+    match call {
+        Call::Run {
+            file: path,
+            keep: None,
+        } => ran(alloc, path.as_str(), file, folder, out, err),
+        Call::Run {
+            file: path,
+            keep: Some(keep),
+        } => ran_and_kept(alloc, path.as_str(), keep.as_str(), file, folder, out, err),
+        Call::Inspect {
+            file: path,
+            segment_bytes,
+            index_interval,
+        } => {
+            let limits = limits(*segment_bytes, *index_interval);
+            inspected(alloc, path.as_str(), &limits, file, folder, out, err)
+        }
+        Call::Pipe { keep: None } => leave(pipe(alloc, input, out, err), file, folder),
+        Call::Pipe { keep: Some(keep) } => {
+            piped_and_kept(alloc, keep.as_str(), input, file, folder, out, err)
+        }
+        Call::Race { nodes, plan } => {
+            leave(race_and_tell(*nodes, *plan, races, out, err), file, folder)
+        }
     }
-    let Some(path) = call.file() else {
-        return performed(alloc, call, races, file, folder, out, err);
-    };
+}
+
+/// Runs the script at this path.
+fn ran<F: Source + Drop, K: KeptFolder + Drop, W: Write, E: Write>(
+    alloc: Global,
+    script: &str,
+    file: F,
+    folder: K,
+    out: &mut Counted<W>,
+    err: &mut Counted<E>,
+) -> Left<F, K>
+    requires writes { faults_of out.old + 1 < 2 ^ 64 }
+    requires complaints { faults_of err.old + 1 < 2 ^ 64 }
+    ensures { Reads (record {
+      opens = F.opens;
+      takes = K.takes;
+      streams = record { remaining = F.remaining; file_fault = F.fault_is; held = W.contents; told = E.contents };
+      shelf = record { entries = K.entries; folder_fault = K.fault_is };
+    }) script.now RunsScript (record {
+      file = file;
+      file_left = result.file;
+      folder = folder;
+      folder_left = result.folder;
+      out = out.old;
+      out_left = out.new;
+      err = err.old;
+      err_left = err.new;
+    }) result.status }
+{
     let mut file = file;
-    if let Err(fault) = file.open(path) {
-        return leave(refuse_path(err, path, fault), file, folder);
+    if let Err(fault) = file.open(script) {
+        return leave(refuse_path(err, script, fault), file, folder);
     }
-    let Some(keep) = call.keep() else {
-        return performed(alloc, call, races, file, folder, out, err);
-    };
+    let mut file = Counted::new(file);
+    let status = play(alloc, script, &mut file, out, err);
+    Left {
+        status,
+        file,
+        folder: Counted::new(folder),
+    }
+}
+
+/// Inspects the log at this path, cut by these limits.
+fn inspected<F: Source + Drop, K: KeptFolder + Drop, W: Write, E: Write>(
+    alloc: Global,
+    log: &str,
+    limits: &Limits,
+    file: F,
+    folder: K,
+    out: &mut Counted<W>,
+    err: &mut Counted<E>,
+) -> Left<F, K>
+    requires writes { faults_of out.old + 1 < 2 ^ 64 }
+    requires complaints { faults_of err.old + 1 < 2 ^ 64 }
+    ensures { Reads (record {
+      opens = F.opens;
+      takes = K.takes;
+      streams = record { remaining = F.remaining; file_fault = F.fault_is; held = W.contents; told = E.contents };
+      shelf = record { entries = K.entries; folder_fault = K.fault_is };
+    }) log.now (Inspects limits.now) (record {
+      file = file;
+      file_left = result.file;
+      folder = folder;
+      folder_left = result.folder;
+      out = out.old;
+      out_left = out.new;
+      err = err.old;
+      err_left = err.new;
+    }) result.status }
+{
+    let mut file = file;
+    if let Err(fault) = file.open(log) {
+        return leave(refuse_path(err, log, fault), file, folder);
+    }
+    let mut file = Counted::new(file);
+    let status = dump(alloc, log, limits, &mut file, out, err);
+    Left {
+        status,
+        file,
+        folder: Counted::new(folder),
+    }
+}
+
+/// Runs the script at this path, and keeps the logs of its nodes in the folder at that one.
+fn ran_and_kept<F: Source + Drop, K: KeptFolder + Drop, W: Write, E: Write>(
+    alloc: Global,
+    script: &str,
+    keep: &str,
+    file: F,
+    folder: K,
+    out: &mut Counted<W>,
+    err: &mut Counted<E>,
+) -> Left<F, K>
+    requires writes { faults_of out.old + 1 < 2 ^ 64 }
+    requires complaints { faults_of err.old + 1 < 2 ^ 64 }
+    ensures { RunsInto (record {
+      opens = F.opens;
+      takes = K.takes;
+      streams = record { remaining = F.remaining; file_fault = F.fault_is; held = W.contents; told = E.contents };
+      shelf = record { entries = K.entries; folder_fault = K.fault_is };
+    }) script.now keep.now (record {
+      file = file;
+      file_left = result.file;
+      folder = folder;
+      folder_left = result.folder;
+      out = out.old;
+      out_left = out.new;
+      err = err.old;
+      err_left = err.new;
+    }) result.status }
+{
+    let mut file = file;
+    if let Err(fault) = file.open(script) {
+        return leave(refuse_path(err, script, fault), file, folder);
+    }
     let mut folder = folder;
     if let Err(fault) = folder.take(keep) {
         return leave(refuse_path(err, keep, fault), file, folder);
     }
     let mut file = Counted::new(file);
     let mut folder = Counted::new(folder);
-    let status = run_and_keep(alloc, path, keep, &mut file, &mut folder, out, err);
+    let status = run_and_keep(alloc, script, keep, &mut file, &mut folder, out, err);
     Left {
         status,
         file,
@@ -208,10 +329,10 @@ fn called<
     }
 }
 
-/// Plays the lines of standard input, and keeps the logs in the folder at this path, if one is said.
-fn piped<F: Source + Drop, K: KeptFolder + Drop, I: Read + Drop, W: Write, E: Write>(
+/// Plays the lines of standard input, and keeps the logs in the folder at this path.
+fn piped_and_kept<F: Source + Drop, K: KeptFolder + Drop, I: Read + Drop, W: Write, E: Write>(
     alloc: Global,
-    keep: Option<&str>,
+    keep: &str,
     input: I,
     file: F,
     folder: K,
@@ -220,19 +341,22 @@ fn piped<F: Source + Drop, K: KeptFolder + Drop, I: Read + Drop, W: Write, E: Wr
 ) -> Left<F, K>
     requires writes { faults_of out.old + 1 < 2 ^ 64 }
     requires complaints { faults_of err.old + 1 < 2 ^ 64 }
-    ensures file { IsLeft file result.file }
-    ensures leaves { LeavesPipe (record {
+    ensures { PipesInto (record {
+      opens = F.opens;
       takes = K.takes;
+      streams = record { remaining = F.remaining; file_fault = F.fault_is; held = W.contents; told = E.contents };
       shelf = record { entries = K.entries; folder_fault = K.fault_is };
-      held = W.contents;
-      told = E.contents;
-    }) (option_map (λ path. path.now) keep.entry) (I.remaining input) folder result.folder
-        out.old out.new err.old err.new result.status }
+    }) keep.now (I.remaining input) (record {
+      file = file;
+      file_left = result.file;
+      folder = folder;
+      folder_left = result.folder;
+      out = out.old;
+      out_left = out.new;
+      err = err.old;
+      err_left = err.new;
+    }) result.status }
 {
-    let Some(keep) = keep else {
-        let status = pipe(alloc, input, out, err);
-        return leave(status, file, folder);
-    };
     let mut folder = folder;
     if let Err(fault) = folder.take(keep) {
         return leave(refuse_path(err, keep, fault), file, folder);
@@ -243,40 +367,6 @@ fn piped<F: Source + Drop, K: KeptFolder + Drop, I: Read + Drop, W: Write, E: Wr
         status,
         file: Counted::new(file),
         folder,
-    }
-}
-
-/// Performs a call that is no pipe and keeps no logs, with its file, which is open where it reads one.
-fn performed<
-    F: Source + Drop,
-    K: KeptFolder + Drop,
-    W: Write,
-    E: Write,
-    X: FnOnce(NodeId, Plan) -> Result<Outcome, Refusal> + Drop,
->(
-    alloc: Global,
-    call: &Call,
-    races: X,
-    file: F,
-    folder: K,
-    out: &mut Counted<W>,
-    err: &mut Counted<E>,
-) -> Left<F, K>
-    requires races { (nodes : ℕ) (plan : SomePlan) → (call.now ≡ Race nodes plan) → X.pre races nodes plan }
-    requires no_pipe { is_pipe call.now ≡ false }
-    requires writes { faults_of out.old + 1 < 2 ^ 64 }
-    requires complaints { faults_of err.old + 1 < 2 ^ 64 }
-    ensures folder { IsLeft folder result.folder }
-    ensures performed { (opened : SomeCounted F) × IsLeft file opened
-        × PerformsCall (record { remaining = F.remaining; file_fault = F.fault_is; held = W.contents; told = E.contents })
-        (X.post races) call.now opened result.file out.old out.new err.old err.new result.status }
-{
-    let mut file = Counted::new(file);
-    let status = perform(alloc, call, races, &mut file, out, err);
-    Left {
-        status,
-        file,
-        folder: Counted::new(folder),
     }
 }
 

@@ -1,14 +1,15 @@
 //! What the command line asks for, done.
 
-ghost use Rattle.std.specs.Prelude.{◌≡◌, ◌+◌, ◌<◌, ◌^◌, ℕ, Ok, false};
+ghost use Rattle.std.specs.Prelude.{◌≡◌, ◌+◌, ◌<◌, ◌^◌, ℕ, Ok};
 ghost use Rattle.kp_types.specs.Devices.{faults_of};
 ghost use Rattle.kp_race.specs.declared.outcome.Plan.{Plan as SomePlan};
 ghost use Rattle.kp_cli.specs.declared.call.Call.TheVariants.{Race};
-ghost use Rattle.kp_cli.specs.Line.{is_pipe};
-ghost use Rattle.kp_cli.specs.Perform.{Inspects, PerformsCall, PerformsReading, RunsAndKeeps, RunsScript, status_of};
+ghost use Rattle.kp_cli.specs.Perform.{Inspects, PerformsReading, RunsAndKeeps, RunsScript, limits_of, status_of};
+ghost use Rattle.kp_cli.specs.Program.{PerformsCall};
 
 use crate::Call;
 use crate::devices::Explained;
+use crate::piping::pipe;
 use crate::racing::race_and_tell;
 use crate::telling::refuse_since;
 use kp_inspect::inspect;
@@ -28,8 +29,19 @@ pub(crate) fn end<T: Drop>(refused: u64, nodes: T) -> u8
     u8::from(refused > 0)
 }
 
+/// How a log is cut by these two numbers.
+pub(crate) fn limits(segment_bytes: u32, index_interval: u32) -> Limits
+    ensures { result ≡ limits_of segment_bytes index_interval }
+{
+    Limits {
+        segment_bytes,
+        index_interval,
+        max_batch: MAX_BATCH,
+    }
+}
+
 /// Plays the script that the reader holds, of which this is the path, and answers the exit status.
-fn play<R: Read + Explained, W: Write, E: Write>(
+pub(crate) fn play<R: Read + Explained, W: Write, E: Write>(
     alloc: Global,
     path: &str,
     reader: &mut Counted<R>,
@@ -50,8 +62,8 @@ fn play<R: Read + Explained, W: Write, E: Write>(
     }
 }
 
-/// Inspects the log that the reader holds, of which this is the path, and answers the exit status.
-fn dump<R: Read + Explained, W: Write, E: Write>(
+/// Inspects the log that the reader holds, of which this is the path, cut by these limits, and answers the exit status.
+pub(crate) fn dump<R: Read + Explained, W: Write, E: Write>(
     alloc: Global,
     path: &str,
     limits: &Limits,
@@ -74,13 +86,14 @@ fn dump<R: Read + Explained, W: Write, E: Write>(
     }
 }
 
-/// Does what the call asks for, which isn't a pipe, but for keeping logs, with the opened file as the reader, and answers the exit status: 0 where no
-/// event was refused, no fault was found and all nodes of a race agree, 1 where one or more were, where they don't, and for F32, F33
-/// and a refused race, 2 for F31. The trace, the dump or a race's lines go to standard output and a refusal of the whole call to standard
-/// error; with F31 nothing is on standard output. A race reads nothing. Takes time and memory proportional to the file and
-/// what is written of it, but for the race's own.
+/// Does what the call asks for, but for keeping logs, with the opened file as the reader, and answers the exit status: 0 where no
+/// event or answer was refused, no fault was found and all nodes of a race agree, 1 where one or more were, where they don't, and for
+/// F32, F33 and a refused race, 2 for F31. The trace, the dump, a pipe's answers or a race's lines go to standard output and a refusal
+/// of the whole call to standard error; with F31 of a run nothing is on standard output. A pipe reads the input, a race nothing. Takes
+/// time and memory proportional to what is read and what is written of it, but for the race's own.
 pub fn perform<
     R: Read + Explained,
+    I: Read + Drop,
     W: Write,
     E: Write,
     X: FnOnce(NodeId, Plan) -> Result<Outcome, Refusal> + Drop,
@@ -89,17 +102,17 @@ pub fn perform<
     call: &Call,
     races: X,
     reader: &mut Counted<R>,
+    input: I,
     out: &mut Counted<W>,
     err: &mut Counted<E>,
 ) -> u8
     requires races { (nodes : ℕ) (plan : SomePlan) → (call.now ≡ Race nodes plan) → X.pre races nodes plan }
-    requires no_pipe { is_pipe call.now ≡ false }
     requires reads { faults_of reader.old + 1 < 2 ^ 64 }
     requires writes { faults_of out.old + 1 < 2 ^ 64 }
     requires complaints { faults_of err.old + 1 < 2 ^ 64 }
     ensures { PerformsCall
         (record { remaining = R.remaining; file_fault = R.fault_is; held = W.contents; told = E.contents })
-        (X.post races) call.now reader.old reader.new out.old out.new err.old err.new result }
+        (X.post races) (I.remaining input) call.now reader.old reader.new out.old out.new err.old err.new result }
 {
     match call {
         Call::Run { file, .. } => play(alloc, file.as_str(), reader, out, err),
@@ -108,14 +121,10 @@ pub fn perform<
             segment_bytes,
             index_interval,
         } => {
-            let limits = Limits {
-                segment_bytes: *segment_bytes,
-                index_interval: *index_interval,
-                max_batch: MAX_BATCH,
-            };
+            let limits = limits(*segment_bytes, *index_interval);
             dump(alloc, file.as_str(), &limits, reader, out, err)
         }
-        Call::Pipe { .. } => unreachable!(),
+        Call::Pipe { .. } => pipe(alloc, input, out, err),
         Call::Race { nodes, plan } => race_and_tell(*nodes, *plan, races, out, err),
     }
 }

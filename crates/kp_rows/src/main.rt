@@ -3,9 +3,8 @@
 //! Its rows, files and wanted text are made by `tools/rows`; no contract speaks of it, and `docs/TESTS.md` says how to add a row.
 #![tactic(auto)]
 
-ghost use Rattle.std.specs.Prelude.{◌≡◌, ◌≤◌, ℕ, false, IfOk};
+ghost use Rattle.std.specs.Prelude.{◌≡◌, ◌≤◌, ℕ};
 ghost use Rattle.kp_race.specs.declared.outcome.Plan.{Plan as SomePlan};
-ghost use Rattle.kp_cli.specs.Line.{is_pipe};
 ghost use Rattle.kp_cli.specs.declared.fault.Fault.TheVariants.{DiskFull, IsAFolder};
 
 use kp_cli::{
@@ -263,23 +262,32 @@ fn no_race(_nodes: NodeId, _plan: Plan) -> Result<Outcome, Refusal> {
 }
 
 /// The call that runs a script of no file.
-fn run_call(rt: &HostRuntime) -> io::Result<Call>
-    ensures { IfOk result (λ call. is_pipe call ≡ false) }
-{
+fn run_call(rt: &HostRuntime) -> io::Result<Call> {
     Ok(Call::Run {
         file: "script".to_string(rt.alloc())?,
         keep: None,
     })
 }
 
-/// Does the call over these bytes, which is no pipe.
-fn run_bytes(rt: &HostRuntime, call: &Call, bytes: Vec<u8>) -> io::Result<()>
-    requires { is_pipe call.now ≡ false }
-{
+/// No line.
+fn no_input(rt: &HostRuntime) -> GivenFile<'_> {
+    GivenFile::of(rt, Vec::new(rt.alloc()), NEVER.read)
+}
+
+/// Does the call over these bytes.
+fn run_bytes(rt: &HostRuntime, call: &Call, bytes: Vec<u8>) -> io::Result<()> {
     let mut reader = Counted::new(GivenFile::of(rt, bytes, NEVER.read));
     let mut out = Counted::new(Vec::new(rt.alloc()));
     let mut err = Counted::new(Vec::new(rt.alloc()));
-    let status = perform(rt.alloc(), call, no_race, &mut reader, &mut out, &mut err);
+    let status = perform(
+        rt.alloc(),
+        call,
+        no_race,
+        &mut reader,
+        no_input(rt),
+        &mut out,
+        &mut err,
+    );
     show(rt, out.device().as_slice(), err.device().as_slice(), status)
 }
 
@@ -373,7 +381,15 @@ fn sum_repeated(rt: &HostRuntime, front: &str, piece: &str, count: &str) -> io::
     let mut out = Counted::new(Vec::new(rt.alloc()));
     let mut err = Counted::new(Vec::new(rt.alloc()));
     let call = run_call(rt)?;
-    let status = perform(rt.alloc(), &call, no_race, &mut reader, &mut out, &mut err);
+    let status = perform(
+        rt.alloc(),
+        &call,
+        no_race,
+        &mut reader,
+        no_input(rt),
+        &mut out,
+        &mut err,
+    );
     let told = out.device().as_slice();
     let lines = told.iter().filter(|byte| **byte == b'\n').count();
     let sum = format!(in rt.alloc();
