@@ -16,7 +16,7 @@ from .compare import TOP, Differs
 CALLS = ("growth", "read", "write", "open", "mkdir", "list")  # as in refuse.c
 BYTES = ("most", "all")  # that one growth, and all of them, ask for
 COUNTS = struct.Struct(f"={len(CALLS) + len(BYTES)}Q")
-SECONDS, ENDLESS = 20, 2 ** 63
+SECONDS, ENDLESS = 60, 2 ** 63
 
 
 class Kind(NamedTuple):
