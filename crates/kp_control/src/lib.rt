@@ -3,8 +3,10 @@
 //! The layer above sees the definitions' record: an election or a decision is theirs, or is refused by the first of their causes.
 #![tactic(auto)]
 
-mod record;
+mod deciding;
+mod electing;
 mod word;
 
-pub use record::{decided, elected};
+pub use deciding::decided;
+pub use electing::elected;
 pub use word::{pack, unpack, words_are_one};

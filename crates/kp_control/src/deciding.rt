@@ -1,39 +1,15 @@
-//! How the controller's record changes: by an election, and by a proposal that it follows.
+//! How the controller's record changes by a proposal that it follows.
 
 ghost use Rattle.std.specs.Prelude.{◌≡◌, IfOk};
 ghost use Rattle.kp_types.specs.Causes.{IsRefusedOnlyBy};
-ghost use Rattle.kp_model.specs.Controller.{altered, elected};
+ghost use Rattle.kp_model.specs.Controller.{altered};
 ghost use Rattle.kp_model.specs.Letter.{decision_of, proposal_of};
 ghost use Rattle.kp_model.specs.Set.{members_of, record_of};
-ghost use Rattle.kp_model.specs.Step.{decide_cause, decision, elect_cause};
+ghost use Rattle.kp_model.specs.Step.{decide_cause, decision};
 ghost use Rattle.kp_control.specs.Altering.{alter_cause};
 
-use kp_model::{Decision, Leader, LeaderAndIsr, NodeSet, Proposal};
-use kp_types::{GREATEST_EPOCH, GREATEST_VERSION, NodeId, Refusal};
-
-/// The record after this node's election, which takes the next epoch. F21 where the node isn't in sync,
-/// F24 where epoch or version is at its greatest.
-pub fn elected(current: &LeaderAndIsr, node: NodeId) -> Result<LeaderAndIsr, Refusal>
-    ensures refused { IsRefusedOnlyBy (elect_cause (record_of current.now) node) result }
-    ensures elected { IfOk result (λ changed. record_of changed
-        ≡ elected (record_of current.now) node) }
-{
-    if !current.isr.contains(node) {
-        return Err(Refusal::NotInSync);
-    }
-    let epoch = match current.leader {
-        None => 0,
-        Some(leader) => leader.epoch + 1,
-    };
-    if epoch > GREATEST_EPOCH || current.version >= GREATEST_VERSION {
-        return Err(Refusal::RecordFull);
-    }
-    Ok(LeaderAndIsr {
-        leader: Some(Leader { node, epoch }),
-        isr: current.isr,
-        version: current.version + 1,
-    })
-}
+use kp_model::{Decision, LeaderAndIsr, NodeSet, Proposal};
+use kp_types::{GREATEST_VERSION, Refusal};
 
 /// The record with these in-sync replicas, under the same leader in the same epoch. F24 where the version is at its
 /// greatest. O(1), and no memory.

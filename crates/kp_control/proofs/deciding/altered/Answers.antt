@@ -1,5 +1,5 @@
 use Rattle.std.proofs.Common.{rules}
-use Rattle.kp_control.proofs.record.altered.Goals as goal
+use Rattle.kp_control.proofs.deciding.altered.Goals as goal
 
 pub returns-clause-altered : goal.returns-clause-altered
 returns-clause-altered c = search rules

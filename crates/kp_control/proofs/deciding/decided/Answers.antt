@@ -1,5 +1,5 @@
 use Rattle.std.proofs.Common.{rules}
-use Rattle.kp_control.proofs.record.decided.Goals as goal
+use Rattle.kp_control.proofs.deciding.decided.Goals as goal
 
 pub returns-in_err-decided-clause-refused : goal.returns-in_err-decided-clause-refused
 returns-in_err-decided-clause-refused c = search rules
