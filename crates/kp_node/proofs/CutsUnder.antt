@@ -1,34 +1,32 @@
 -- A node cuts its log under the record that it finds.
 use Rattle.std.proofs.Common.{◌≡◌, ℕ, ◌≤◌, false, [], ◌∷◌, Option, Some, None, Result, Ok, Err, refl, sym, ap, subst, ◌∙◌, inl, inr, arith}
-use Rattle.std.specs.Prelude.{IsFalse}
+use Rattle.std.specs.Prelude.{IsFalse, OnOk}
 use Rattle.std.proofs.lemmas.Bool.{false≢true}
 use Rattle.kp_types.specs.declared.refusal.Refusal.{Refusal}
 use Rattle.kp_model.specs.Epochs.{cut_place}
 use Rattle.kp_model.specs.World.{LeaderAndIsr, Node, Message, Answer, Answers, IsSent}
 use Rattle.kp_model.specs.Event.{Receive, Reply, Refused, Cut}
-use Rattle.kp_model.specs.Letter.{FetchLetter, Fetching, answered_letter, letter_of, fetch_request, fetch_answer, answering}
+use Rattle.kp_model.specs.Letter.{FetchLetter, Fetching, answered_letter, letter_of}
 use Rattle.kp_model.specs.Effect.{Effect, becomes}
 use Rattle.kp_model.specs.Fetching.{Accepts, Cuts, cut_cause, cut_cause_for, is_covered}
 use Rattle.kp_model.specs.Local.{Local, LocalBy}
-use Rattle.kp_model.specs.Calls.{ForAnswer, cut, cut_by, answered_end}
+use Rattle.kp_model.specs.Calls.{cut, cut_by, answered_end}
 use Rattle.kp_model.specs.Laws.{place_of}
 use Rattle.kp_model.specs.Run.{Run, last}
-use Rattle.kp_model.specs.declared.message.Answered.{Answered}
-use Rattle.kp_model.specs.declared.message.Answered.TheVariants.{Diverging}
 use Rattle.kp_model.specs.declared.message.EpochEnd.{EpochEnd}
-use Rattle.kp_model.specs.declared.message.FetchAnswer.{FetchAnswer}
+use Rattle.kp_model.specs.declared.message.FetchRequest.{FetchRequest}
 use Rattle.kp_model.proofs.Cuts.Cutting.{by_answer, cause_is, cut_is_the_step, no_cut_below}
 use Rattle.kp_model.proofs.Marks.NodeMarks.{marks_stay}
 use Rattle.kp_model.proofs.InRuns.RunLaws.{last_is_of}
 use Rattle.kp_replica.specs.NumberedNode.{NumberedNode, DoesUnder}
-use Rattle.kp_replica.specs.Hearing.{CutsAbove, DoesShown, IsShown, answer_effect}
-use Rattle.kp_replica.specs.Replies.{followed_reply}
-use Rattle.kp_replica.specs.declared.taking.Followed.{Followed}
+use Rattle.kp_replica.specs.Cutting.{diverging}
+use Rattle.kp_replica.specs.Hearing.{IsCut}
+use Rattle.kp_replica.specs.Replies.{cut_reply}
+use Rattle.kp_replica.specs.declared.cutting.CutBack.{CutBack}
 use Rattle.kp_board.specs.Views.{NodeView}
 use Rattle.kp_board.specs.Rule.{AreSent}
 use Rattle.kp_board.specs.Premises.{MayStepUnder, leaves}
 use Rattle.kp_node.proofs.Heard.{fetched, first_told, answer_in, has_none, AnsweredWell, answered_well, own_log}
-use Rattle.kp_node.proofs.Takes.{Done}
 use Rattle.kp_node.proofs.Ties.{Tied}
 
 -- What a run knows of an answer that its node n, which is x, gets under this record: its logs are logs, and kin to the node's, and
@@ -66,22 +64,24 @@ module _ (n : ℕ) (r : Run n) (k : ℕ) (x : Node) (at : (last r).nodes k ≡ x
 
 -- ---- a diverging answer comes to a node whose pass is p, and who was told of it last
 
-pub cut_may : (words : ℕ) (p : NodeView) (m : NumberedNode) (message : Message) (ans : FetchAnswer) (end : Option EpochEnd) → Tied words p m → p.told ≡ message ∷ [] → letter_of message ≡ Fetching (fetch_answer ans) → ans.answered ≡ Diverging end
-    → MayStepUnder p (Receive message) (λ c. (cut c p.number p.state (fetch_answer ans)).node) (λ c. FitsCut c p.number p.state (first_told p.told))
-cut_may words p m message ans end t told letter diverges =
-    let b = answer_in message ans letter in
-    let same : answered_letter b.answer ≡ fetch_answer ans = fetched (subst (λ (z : Message). letter_of z ≡ Fetching (fetch_answer ans)) b.is letter) in
-    let parted = has_none b.answer ans end same diverges in record {
+pub cut_may : (words : ℕ) (p : NodeView) (m : NumberedNode) (message : Message) (r : FetchRequest) (end : Option EpochEnd) → Tied words p m → p.told ≡ message ∷ []
+    → letter_of message ≡ Fetching (diverging r end)
+    → MayStepUnder p (Receive message) (λ c. (cut c p.number p.state (diverging r end)).node) (λ c. FitsCut c p.number p.state (first_told p.told))
+cut_may words p m message q end t told letter =
+    let l = diverging q end in
+    let b = answer_in message l _ refl letter in
+    let same : answered_letter b.answer ≡ l = fetched (subst (λ (z : Message). letter_of z ≡ Fetching l) b.is letter) in
+    let parted = has_none b.answer q end same in record {
       given = λ messages known. (subst (AreSent messages) told known).0;
       local = λ n r shows.
           let c = (last r).controller in
           let known : IsSent (last r).messages (Answers b.answer) = subst (IsSent (last r).messages) b.is (subst (AreSent (last r).messages) told shows.told).0 in
           let goes = cut_goes n r p.number p.state shows.state b.answer known parted in
-          let by_letter : Local c p.number p.state (Receive (Answers b.answer)) (leaves (cut c p.number p.state (fetch_answer ans)).node [] (cut c p.number p.state (fetch_answer ans)).reply) =
-          subst (λ (l : FetchLetter). Local c p.number p.state (Receive (Answers b.answer)) (leaves (cut c p.number p.state l).node [] (cut c p.number p.state l).reply)) same goes in
+          let by_letter : Local c p.number p.state (Receive (Answers b.answer)) (leaves (cut c p.number p.state l).node [] (cut c p.number p.state l).reply) =
+          subst (λ (k : FetchLetter). Local c p.number p.state (Receive (Answers b.answer)) (leaves (cut c p.number p.state k).node [] (cut c p.number p.state k).reply)) same goes in
           inr (
-            (cut c p.number p.state (fetch_answer ans)).reply,
-            subst (λ (z : Message). Local c p.number p.state (Receive z) (leaves (cut c p.number p.state (fetch_answer ans)).node [] (cut c p.number p.state (fetch_answer ans)).reply)) (sym b.is) by_letter,
+            (cut c p.number p.state l).reply,
+            subst (λ (z : Message). Local c p.number p.state (Receive z) (leaves (cut c p.number p.state l).node [] (cut c p.number p.state l).reply)) (sym b.is) by_letter,
           );
       mark = λ c. let low = t.2 in let same = ap (λ (x : Node). x.watermark) t.0 in omega arith;
       known = λ n r shows.
@@ -117,37 +117,28 @@ pub record HasCutBack (words : ℕ) (c : LeaderAndIsr) (p p' : NodeView) (m m' :
   pub event : DoesUnder c m m' (Receive message) reply
   pub state : m'.state ≡ (cut c m.number m.state l).node
 
-pub cut_back : (words : ℕ) (c : LeaderAndIsr) (p p' : NodeView) (m m' : NumberedNode) (message : Message) (ans : FetchAnswer) (end : Option EpochEnd) (result : Result Followed Refusal)
-    → Tied words p m → p.told ≡ message ∷ [] → letter_of message ≡ Fetching (fetch_answer ans) → ans.answered ≡ Diverging end → FitsCut c p.number p.state (first_told p.told)
-    → ForAnswer (fetch_answer ans) m.state.log (λ (z : Message). CutsAbove c m z → DoesShown c ans.answered m m' (Receive z) (followed_reply result))
-    → Done m m' ans.request c ans.answered result
-    → p' ≡ record p { state = (cut c p.number p.state (fetch_answer ans)).node; shown = c }
-    → HasCutBack words c p p' m m' message (fetch_answer ans) (followed_reply result)
-cut_back words c p p' m m' message ans end result t told letter diverges fits event is e =
-    let l = fetch_answer ans in
-    let b = answer_in message ans letter in
+pub cut_back : (words : ℕ) (c : LeaderAndIsr) (p p' : NodeView) (m m' : NumberedNode) (message : Message) (r : FetchRequest) (end : Option EpochEnd) (result : Result CutBack Refusal)
+    → Tied words p m → p.told ≡ message ∷ [] → letter_of message ≡ Fetching (diverging r end) → FitsCut c p.number p.state (first_told p.told) → IsCut c r end m m' result
+    → p' ≡ record p { state = (cut c p.number p.state (diverging r end)).node; shown = c }
+    → HasCutBack words c p p' m m' message (diverging r end) (cut_reply result)
+cut_back words c p p' m m' message r end result t told letter fits done e =
+    let l = diverging r end in
+    let b = answer_in message l _ refl letter in
     let a = b.answer in
     let same : answered_letter a ≡ l = fetched (subst (λ (z : Message). letter_of z ≡ Fetching l) b.is letter) in
-    let parted = has_none a ans end same diverges in
+    let parted = has_none a r end same in
     let well : CutsWell c m.number m.state a = subst (λ (z : ℕ × Node). CutsWell c z.0 z.1 a) (λ i. (t.1 i, t.0 i)) (fits a (ap first_told told ∙ b.is)) in
-    let under : IsShown c ans.answered c = subst (λ (z : Answered). IsShown c z c) (sym diverges) refl in
-    let did = event a same well.heard.log well.heard.asked well.heard.own well.heard.kin well.above c under in
-    let state : (cut c m.number m.state l).node ≡ m'.state = by_result result is under did.0 parted same in
-    let mark = marks_stay c m.number m.state (Receive (Answers a)) (becomes m'.state (followed_reply result)) parted did.0 in
+    let did = done.event a same well.heard.log well.heard.asked well.heard.own well.heard.kin well.above in
+    let state : (cut c m.number m.state l).node ≡ m'.state = by_result result done.done a parted same did.0 in
+    let mark = marks_stay c m.number m.state (Receive (Answers a)) (becomes m'.state (cut_reply result)) parted did.0 in
     let low = t.2 in
     let shown : (cut c p.number p.state l).node ≡ m'.state = (λ i. (cut c (t.1 i) (t.0 i) l).node) ∙ state in record {
       tied = subst (λ (q : NodeView). Tied words q m') (sym e) (shown, t.1 ∙ sym did.1.0, omega arith, t.3);
-      event = subst (λ (z : Message). DoesUnder c m m' (Receive z) (followed_reply result)) (sym b.is) did;
+      event = subst (λ (z : Message). DoesUnder c m m' (Receive z) (cut_reply result)) (sym b.is) did;
       state = sym state;
     }
   where
-    effect_is : answer_effect c m ans.request ans.answered ≡ cut c m.number m.state (fetch_answer ans)
-    effect_is =
-        (λ i. answer_effect c m ans.request (diverges i))
-        ∙ (λ i. cut c m.number m.state (record (fetch_request ans.request) { answering = Some (answering (sym diverges i)) }))
-
-    by_result : (res : Result Followed Refusal) → Done m m' ans.request c ans.answered res → IsShown c ans.answered c → Local c m.number m.state (Receive (Answers (answer_in message ans letter).answer)) (becomes m'.state (followed_reply res))
-        → is_covered (answer_in message ans letter).answer.log (answer_in message ans letter).answer.request ≡ false → answered_letter (answer_in message ans letter).answer ≡ fetch_answer ans → (cut c m.number m.state (fetch_answer ans)).node ≡ m'.state
-    by_result (Ok followed) done under local parted same = sym (ap (λ (f : Effect). f.node) (done c under ∙ effect_is))
-    by_result (Err f) done under local parted same =
-        sym (ap (λ (k : FetchLetter). (cut c m.number m.state k).node) same) ∙ refused_cut c m.number m.state m'.state (answer_in message ans letter).answer f parted local
+    by_result : (res : Result CutBack Refusal) → OnOk res (becomes m'.state (cut_reply res) ≡ cut c m.number m.state (diverging r end)) → (a : Answer) → is_covered a.log a.request ≡ false
+        → answered_letter a ≡ diverging r end → Local c m.number m.state (Receive (Answers a)) (becomes m'.state (cut_reply res)) → (cut c m.number m.state (diverging r end)).node ≡ m'.state
+    by_result (Ok back) is a parted same local = sym (ap (λ (f : Effect). f.node) is)
+    by_result (Err f) is a parted same local = sym (ap (λ (k : FetchLetter). (cut c m.number m.state k).node) same) ∙ refused_cut c m.number m.state m'.state a f parted local

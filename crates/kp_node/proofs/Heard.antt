@@ -1,20 +1,18 @@
 -- What a run knows of a message that comes to one of its nodes: the logs in it are logs, and kin.
-use Rattle.std.proofs.Common.{◌≡◌, ℕ, true, false, List, [], ◌∷◌, Option, None, map, refl, sym, ap, subst, ◌∙◌, inl, inr}
-use Rattle.kp_model.specs.declared.message.Answered.TheVariants as answers
+use Rattle.std.proofs.Common.{◌≡◌, ℕ, false, List, [], ◌∷◌, Option, Some, None, refl, sym, ap, subst, ◌∙◌, inl, inr}
 use Rattle.kp_model.specs.declared.message.EpochEnd.{EpochEnd}
-use Rattle.kp_model.specs.declared.message.FetchAnswer.{FetchAnswer}
-use Rattle.kp_model.specs.declared.message.Fetched.{Fetched}
-use Rattle.kp_model.specs.Log.{Batch, IsLog, IsKin, logged}
+use Rattle.kp_model.specs.declared.message.FetchRequest.{FetchRequest}
+use Rattle.kp_model.specs.Log.{Batch, IsLog, IsKin}
 use Rattle.kp_model.specs.World.{Node, Request, Answer, Proposal, Decision, Message, Asks, Answers, Proposes, Decides, IsSent}
 use Rattle.kp_model.specs.Event.{Receive}
-use Rattle.kp_model.specs.Letter.{FetchLetter, Fetching, Proposing, Deciding, answering, answering_of, answered_letter, letter_of, fetch_answer}
+use Rattle.kp_model.specs.Letter.{Answering, Diverging, FetchLetter, Fetching, Proposing, Deciding, answering_of, answered_letter, letter_of}
 use Rattle.kp_model.specs.Fetching.{is_covered}
 use Rattle.kp_model.specs.Laws.{KeepsMark, StandsIn}
 use Rattle.kp_model.specs.Run.{Run, last}
-use Rattle.kp_model.proofs.OneStep.Letters.{hands, tells}
+use Rattle.kp_model.proofs.OneStep.Letters.{tells}
 use Rattle.kp_model.proofs.InRuns.MessageLogs.{runs_keep_logs, runs_keep_kin}
 use Rattle.kp_model.proofs.InRuns.RunLaws.{last_is_of}
-use Rattle.kp_replica.specs.Cutting.{told_end}
+use Rattle.kp_replica.specs.Cutting.{diverging, told_end}
 use Rattle.kp_board.specs.Views.{no_message}
 use Rattle.kp_node.proofs.Judged.{none_some, some_is}
 
@@ -41,10 +39,10 @@ pub record IsAnswer (m : Message) : Type 0 where
   pub answer : Answer
   pub is : m ≡ Answers answer
 
-pub answer_in : (m : Message) (a : FetchAnswer) → letter_of m ≡ Fetching (fetch_answer a) → IsAnswer m
-answer_in (Asks r) a e = absurd (none_some (answering a.answered) (ap (λ (k : FetchLetter). k.answering) (fetched e)))
-answer_in (Answers b) a e = record { answer = b; is = refl }
-answer_in _ a e = absurd cc
+pub answer_in : (m : Message) (l : FetchLetter) (given : Answering) → l.answering ≡ Some given → letter_of m ≡ Fetching l → IsAnswer m
+answer_in (Asks r) l given some e = absurd (none_some given (ap (λ (k : FetchLetter). k.answering) (fetched e) ∙ some))
+answer_in (Answers b) l given some e = record { answer = b; is = refl }
+answer_in _ l given some e = absurd cc
 
 pub proposal_in : (m : Message) (p : Proposal) → letter_of m ≡ Proposing p → m ≡ Proposes p
 proposal_in (Proposes q) p e = let same : q ≡ p = cc in ap Proposes same
@@ -54,14 +52,9 @@ pub decision_in : (m : Message) (d : Decision) → letter_of m ≡ Deciding d �
 decision_in (Decides q) d e = let same : q ≡ d = cc in ap Decides same
 decision_in _ d e = absurd cc
 
-answers_so : (b : Answer) (a : FetchAnswer) → answered_letter b ≡ fetch_answer a → answering_of b ≡ answering a.answered
-answers_so b a e = some_is (answering_of b) (answering a.answered) (ap (λ (k : FetchLetter). k.answering) e)
-
-pub has_batches : (b : Answer) (a : FetchAnswer) (f : Fetched) → answered_letter b ≡ fetch_answer a → a.answered ≡ answers.Batches f → is_covered b.log b.request ≡ true
-has_batches b a f e is = (hands b (map logged f.batches.value.items) f.watermark (answers_so b a e ∙ ap answering is)).covered
-
-pub has_none : (b : Answer) (a : FetchAnswer) (end : Option EpochEnd) → answered_letter b ≡ fetch_answer a → a.answered ≡ answers.Diverging end → is_covered b.log b.request ≡ false
-has_none b a end e is = (tells b (told_end end) (answers_so b a e ∙ ap answering is)).covered
+-- an answer that tells where the logs diverge is one to a request that the leader's log doesn't cover
+pub has_none : (b : Answer) (r : FetchRequest) (end : Option EpochEnd) → answered_letter b ≡ diverging r end → is_covered b.log b.request ≡ false
+has_none b r end e = (tells b (told_end end) (some_is (answering_of b) (Diverging (told_end end)) (ap (λ (k : FetchLetter). k.answering) e))).covered
 
 -- a request keeps the watermark
 pub asks_keep : (m : Message) (l : FetchLetter) → l.answering ≡ None → letter_of m ≡ Fetching l → KeepsMark (Receive m)

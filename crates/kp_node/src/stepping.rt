@@ -3,23 +3,22 @@
 ghost use Rattle.std.specs.Prelude.{◌≡◌, ◌≢◌, ◌≤◌, max, if◌then◌else◌, Option, Err, IfOk, IfErr, IfSome, IfNone, IsTrue};
 ghost use Rattle.kp_types.specs.declared.refusal.Refusal.TheVariants.{Down, Memory, StaleAnswer};
 ghost use Rattle.kp_model.specs.Epochs.{covers};
-ghost use Rattle.kp_model.specs.World.{LeaderAndIsr as ModelRecord};
+ghost use Rattle.kp_model.specs.Calls.{cut};
 ghost use Rattle.kp_model.specs.Event.{Receive, Refused};
-ghost use Rattle.kp_model.specs.Letter.{Fetching, Deciding, letter, letter_of, fetch_request, fetch_answer, decision_of};
+ghost use Rattle.kp_model.specs.Letter.{Fetching, Deciding, letter, letter_of, fetch_request, decision_of};
 ghost use Rattle.kp_model.specs.Effect.{is_down};
-ghost use Rattle.kp_model.specs.declared.message.Answered.TheVariants.{Batches, Diverging};
-ghost use Rattle.kp_model.specs.declared.message.EpochEnd.{EpochEnd};
-ghost use Rattle.kp_model.specs.declared.message.Fetched.{Fetched};
 ghost use Rattle.kp_replica.specs.Broker.{node_at};
 ghost use Rattle.kp_replica.specs.NumberedNode.{Does, DoesUnder};
-ghost use Rattle.kp_replica.specs.Replies.{learned_reply};
-ghost use Rattle.kp_node.specs.Calls.{CutsBack, CutsTo, HasBatches, IsMisplaced, Sent, WantsMemory, WasFollowed, WasTaken};
+ghost use Rattle.kp_replica.specs.Cutting.{diverging};
+ghost use Rattle.kp_replica.specs.Replies.{cut_reply, learned_reply, taken_reply};
+ghost use Rattle.kp_replica.specs.Taking.{carrying};
+ghost use Rattle.kp_node.specs.Calls.{CutsTo, IsMisplaced, Sent, WantsMemory, WasTaken};
 ghost use Rattle.kp_node.specs.Seated.{SeatedNode};
 
 use crate::node::Node;
 use kp_board::{BoardName, Message, MessagePass};
-use kp_model::{Answered, Decision, FetchAnswer, FetchRequest, LeaderAndIsr, MessageBody};
-use kp_replica::{Broker, Followed, Learned};
+use kp_model::{Answered, Decision, EpochEnd, FetchRequest, Fetched, MessageBody};
+use kp_replica::{Broker, CutBack, Learned, Taken};
 use kp_types::Refusal;
 use std::marker::Brand;
 
@@ -69,13 +68,15 @@ impl<B: BoardName> Node<B> {
         }
     }
 
-    // Batches come, which look at no record. Where memory is refused the node is down.
-    fn take(&mut self, answer: &FetchAnswer, sent: MessagePass<B>) -> Result<Followed, Refusal>
-        requires letter { letter_of sent ≡ Fetching (fetch_answer answer.now) }
-        requires batches { (fetched : Fetched) × (answer.now.answered ≡ Batches fetched) }
-        ensures taken { IfOk result (λ _. (c : ModelRecord)
-            → WasFollowed answer.now.answered c self.old.node self.new.node (Receive sent)) }
-        ensures refused { IfErr result (λ refusal. Does self.old.node self.new.node (Receive sent) (Refused refusal)) }
+    // Batches come, which look at no record: the end word and the mark word follow. Where memory is refused the node is down.
+    fn take(
+        &mut self,
+        request: &FetchRequest,
+        fetched: &Fetched,
+        sent: MessagePass<B>,
+    ) -> Result<Taken, Refusal>
+        requires { letter_of sent ≡ Fetching (carrying request.now fetched.now) }
+        ensures event { Does self.old.node self.new.node (Receive sent) (taken_reply result) }
         ensures pass { self.new.pass ≡ record self.old.pass {
           state = self.new.node.state;
           published = max self.old.pass.published self.new.node.state.watermark;
@@ -83,25 +84,26 @@ impl<B: BoardName> Node<B> {
         } }
     {
         self.board.receive(&mut self.pass, sent);
-        let unread = LeaderAndIsr::initial(0);
-        let followed = self.broker.take_fetch(&unread, answer);
+        let taken = self.broker.take(request, fetched);
         let end = self.broker.log().end_offset();
         self.board
             .store_end::<Brand, Broker>(&mut self.pass, end, &self.broker);
         let watermark = self.broker.watermark();
         self.board.publish_mark::<Brand>(&mut self.pass, watermark);
-        followed
+        taken
     }
 
     // A diverging answer comes: the log is cut under the record that the node finds, and the end word follows.
-    fn cut(&mut self, answer: &FetchAnswer, sent: MessagePass<B>) -> Result<Followed, Refusal>
-        requires letter { letter_of sent ≡ Fetching (fetch_answer answer.now) }
-        requires diverging { (end : Option EpochEnd) × (answer.now.answered ≡ Diverging end) }
-        ensures taken { IfOk result (λ _.
-            WasFollowed answer.now.answered self.new.pass.shown self.old.node self.new.node (Receive sent)) }
-        ensures refused { IfErr result (λ refusal.
-            DoesUnder self.new.pass.shown self.old.node self.new.node (Receive sent) (Refused refusal)) }
-        ensures place { CutsBack answer.now.answered (fetch_answer answer.now) self.new.pass.shown self.old.node self.new.node }
+    fn cut(
+        &mut self,
+        request: &FetchRequest,
+        end: Option<EpochEnd>,
+        sent: MessagePass<B>,
+    ) -> Result<CutBack, Refusal>
+        requires { letter_of sent ≡ Fetching (diverging request.now end) }
+        ensures event { DoesUnder self.new.pass.shown self.old.node self.new.node (Receive sent) (cut_reply result) }
+        ensures place { self.new.node.state
+            ≡ (cut self.new.pass.shown self.old.node.number self.old.node.state (diverging request.now end)).node }
         ensures spared { result ≢ Err Memory }
         ensures later { self.old.pass.shown.version ≤ self.new.pass.shown.version }
         ensures pass { self.new.pass ≡ record self.old.pass {
@@ -112,36 +114,17 @@ impl<B: BoardName> Node<B> {
         ensures mark { self.new.node.state.watermark ≤ self.new.pass.published }
     {
         self.board.receive(&mut self.pass, sent);
+        let answered = (*request, end);
         let record = self
             .board
-            .step_under_record::<Brand, FetchAnswer>(&mut self.pass, answer);
-        let followed = self.broker.take_fetch(&record, answer);
+            .step_under_record::<Brand, (FetchRequest, Option<EpochEnd>)>(
+                &mut self.pass,
+                &answered,
+            );
+        let cut = self.broker.cut(&record, request, end);
         let end = self.broker.log().end_offset();
         self.board.publish_end(&mut self.pass, end);
-        followed
-    }
-
-    // A leader's answer comes.
-    fn follow(&mut self, answer: &FetchAnswer, sent: MessagePass<B>) -> Result<Followed, Refusal>
-        requires { letter_of sent ≡ Fetching (fetch_answer answer.now) }
-        ensures taken { IfOk result (λ _.
-            WasFollowed answer.now.answered self.new.pass.shown self.old.node self.new.node (Receive sent)) }
-        ensures refused { IfErr result (λ refusal.
-            DoesUnder self.new.pass.shown self.old.node self.new.node (Receive sent) (Refused refusal)) }
-        ensures place { CutsBack answer.now.answered (fetch_answer answer.now) self.new.pass.shown self.old.node self.new.node }
-        ensures spared { result ≡ Err Memory → HasBatches answer.now.answered }
-        ensures later { self.old.pass.shown.version ≤ self.new.pass.shown.version }
-        ensures pass { self.new.pass ≡ record self.old.pass {
-          state = self.new.node.state;
-          shown = self.new.pass.shown;
-          published = max self.old.pass.published self.new.node.state.watermark;
-          told = self.new.pass.told;
-        } }
-    {
-        match answer.answered {
-            Answered::Batches(_) => self.take(answer, sent),
-            Answered::Diverging(_) => self.cut(answer, sent),
-        }
+        cut
     }
 
     // A message comes that is for no node, as a proposal is for the controller.
@@ -211,9 +194,15 @@ impl<B: BoardName> Node<B> {
                 Ok(answer) => Ok(Some(answer)),
                 Err(refusal) => Err(refusal),
             },
-            MessageBody::FetchAnswer(answer) => match self.follow(&answer, pass) {
-                Ok(_followed) => Ok(None),
-                Err(refusal) => Err(refusal),
+            MessageBody::FetchAnswer(answer) => match &answer.answered {
+                Answered::Batches(fetched) => match self.take(&answer.request, fetched, pass) {
+                    Ok(_taken) => Ok(None),
+                    Err(refusal) => Err(refusal),
+                },
+                Answered::Diverging(end) => match self.cut(&answer.request, end.end(), pass) {
+                    Ok(_cut) => Ok(None),
+                    Err(refusal) => Err(refusal),
+                },
             },
             MessageBody::Proposal(_) => Err(self.turn_away(pass)),
             MessageBody::Decision(decision) => match self.learn(&decision, pass) {

@@ -1,17 +1,18 @@
 -- What comes of what a node did.
 use Rattle.std.proofs.Common.{◌≡◌, false, [], ◌∷◌, Option, Some, Result, Ok, Err, MatchResult, refl, sym, ap, ◌∙◌, subst}
-use Rattle.std.specs.Prelude.{◌≢◌, IsOkAnd, IfOk, IfErr, IfSome, is_some}
+use Rattle.std.specs.Prelude.{◌≢◌, IsOkAnd, IfOk, IfErr, is_some}
 use Rattle.std.proofs.lemmas.Bool.{false≢true}
+use Rattle.kp_types.specs.Causes.{IsRefusedOnlyBy}
+use Rattle.kp_types.proofs.Causes.{only_cause, only_none}
 use Rattle.kp_types.specs.declared.refusal.Refusal.{Refusal}
 use Rattle.kp_types.specs.declared.refusal.Refusal.TheVariants as refusals
-use Rattle.kp_model.specs.World.{LeaderAndIsr, Answer as ModelAnswer, Decision, Proposal, Message, Asks, Answers as AnswersOf, Proposes, Decides}
-use Rattle.kp_model.specs.declared.message.Answered.{Answered}
-use Rattle.kp_model.specs.declared.message.Answered.TheVariants as givens
-use Rattle.kp_model.specs.declared.message.FetchAnswer.{FetchAnswer}
+use Rattle.kp_model.specs.World.{LeaderAndIsr, Decision, Proposal, Message, Asks, Answers as AnswersOf, Proposes, Decides}
+use Rattle.kp_model.specs.declared.message.EpochEnd.{EpochEnd}
 use Rattle.kp_model.specs.declared.message.FetchRequest.{FetchRequest}
-use Rattle.kp_model.specs.Calls.{ForLetter, ForRequest, ForAnswer, sent_reply}
+use Rattle.kp_model.specs.declared.message.Fetched.{Fetched}
+use Rattle.kp_model.specs.Calls.{ForRequest, sent_reply}
 use Rattle.kp_model.specs.Event.{Act, Receive, Reply, Refused}
-use Rattle.kp_model.specs.Letter.{FetchLetter, Fetching, Proposing, Deciding, Letter, answered_letter, answering as answering_in, fetch_answer, fetch_request, letter, letter_of}
+use Rattle.kp_model.specs.Letter.{FetchLetter, Fetching, Proposing, Deciding, Letter, fetch_request, letter, letter_of}
 use Rattle.kp_model.specs.Effect.{becomes, is_down, sends}
 use Rattle.kp_model.specs.Local.{cause}
 use Rattle.kp_replica.proofs.Downs.{refuses_proposal}
@@ -25,11 +26,15 @@ use Rattle.kp_replica.specs.declared.act.PlainAct.{PlainAct}
 use Rattle.kp_replica.specs.declared.act.PlainAct.TheVariants as acts
 use Rattle.kp_replica.specs.NumberedNode.{NumberedNode, Does, DoesUnder}
 use Rattle.kp_replica.specs.Sending.{DoesSending}
-use Rattle.kp_replica.specs.Hearing.{letter_cause, CutsAbove, DoesShown, IsShown}
-use Rattle.kp_replica.specs.declared.taking.Followed.{Followed}
+use Rattle.kp_replica.specs.Cutting.{diverging}
+use Rattle.kp_replica.specs.Hearing.{CutsAbove, IsCut, IsTaken}
+use Rattle.kp_replica.specs.Taking.{carrying, fetch_cause}
+use Rattle.kp_replica.specs.declared.cutting.CutBack.{CutBack}
+use Rattle.kp_replica.specs.declared.taking.Taken.{Taken}
 use Rattle.kp_replica.specs.declared.altering.Learned.{Learned as LearnedIsr}
-use Rattle.kp_replica.specs.Replies.{learned_reply}
-use Rattle.kp_replica.proofs.HearingFacts.{cause_is, fetched, same_cause, told, unanswered}
+use Rattle.kp_replica.specs.Replies.{cut_reply, learned_reply, taken_reply}
+use Rattle.kp_replica.proofs.CuttingFacts.{cause_for}
+use Rattle.kp_replica.proofs.HearingFacts.{carrying_cause, diverging_letter_cause, fetched, told, unanswered}
 use Rattle.kp_replica.specs.declared.act.Answer.{Answer}
 use Rattle.kp_replica.specs.declared.act.Effect.{Effect}
 use Rattle.kp_replica.specs.declared.act.Effect.TheVariants.{Answers, Sends}
@@ -105,6 +110,20 @@ mapped A K reply Q (Ok x) (Ok a) same ok err h = ap answer_reply (same x a h) �
 mapped A K reply Q (Ok x) (Err f) same ok err h = absurd h
 mapped A K reply Q (Err f) m same ok err h = ap answered_reply h ∙ err f
 
+-- what a call answered, as the effect that is made of it
+pub wrapped : (A : Type 0) (K : A → Answer) (reply : Result A Refusal → Reply) (c : LeaderAndIsr) (old new : NumberedNode) (act : Act) (r : Result A Refusal) (a : Result Answer Refusal) (e : Result Effect Refusal)
+    → ((x : A) → answer_reply (K x) ≡ reply (Ok x)) → ((f : Refusal) → Refused f ≡ reply (Err f)) → IsMadeOf A Answer K r a → IsMadeOf Answer Effect Answers a e
+    → DoesUnder c old new act (reply r) → Comes c old new act e
+wrapped A K reply c old new act r a e ok err made then does =
+    answered c old new act a e (subst (λ (p : Reply). DoesUnder c old new act p) (sym (mapped A K reply (λ x y. y ≡ K x) r a (λ x y h. h) ok err made)) does) then
+
+-- what refuses it refuses what is made of it
+pub refused_too : (A B : Type 0) (K : A → B) (why : Option Refusal) (r : Result A Refusal) (m : Result B Refusal) → IsMadeOf A B K r m → IsRefusedOnlyBy why r → IsRefusedOnlyBy why m
+refused_too A B K why (Ok x) (Ok y) is refused = subst (λ (o : Option Refusal). IsRefusedOnlyBy {A = B} o (Ok y)) (sym (only_none A why x refused)) tt
+refused_too A B K why (Ok x) (Err f) is refused = absurd is
+refused_too A B K why (Err f) m is refused =
+    subst (IsRefusedOnlyBy why) (sym is) (subst (λ (o : Option Refusal). IsRefusedOnlyBy {A = B} o (Err f)) (sym (only_cause A why f refused)) refl)
+
 -- what is known of its value is known of what is made of it
 pub made : (A B : Type 0) (K : A → B) (P : A → Type 0) (r : Result A Refusal) (m : Result B Refusal) → IsMadeOf A B K r m → IfOk r P → IfOk m (λ y. (x : A) × (y ≡ K x) × P x)
 made A B K P (Ok x) (Ok y) is holds = (x, is, holds)
@@ -140,35 +159,46 @@ request_came c old new r sent (Asks q) is of event = event q (fetched is) of.0 o
 request_came c old new r sent (AnswersOf a) is of event = absurd (false≢true (sym (ap (λ (l : FetchLetter). is_some l.answering) (fetched is))))
 request_came c old new r sent _ is of event = absurd cc
 
--- the record was shown to what looks at it
-shown_by : (c shown : LeaderAndIsr) (r : FetchRequest) (given : Answered) (a : ModelAnswer) → answered_letter a ≡ record (fetch_request r) { answering = Some (answering_in given) }
-    → (Looks (Receive (AnswersOf a)) → c ≡ shown) → IsShown shown given c
-shown_by c shown r (givens.Batches f) a is under = tt
-shown_by c shown r (givens.Diverging end) a is under = under (told a r end is).covered
+-- what comes of batches
+pub batches_came : (c : LeaderAndIsr) (old new : NumberedNode) (r : FetchRequest) (f : Fetched) (m : Message) (taken : Result Taken Refusal) → letter_of m ≡ Fetching (carrying r f)
+    → IsOfRun c old (Receive m) → IsTaken r f old new taken → DoesUnder c old new (Receive m) (taken_reply taken)
+batches_came c old new r f (Asks q) taken is of done = absurd (unanswered q r _ is)
+batches_came c old new r f (AnswersOf a) taken is of done = done.event a (fetched is) of.0 of.1 of.2 of.3 c
+batches_came c old new r f _ taken is of done = absurd cc
 
--- what comes of an answer
-pub answer_came : (c shown : LeaderAndIsr) (old new : NumberedNode) (answer : FetchAnswer) (m : Message) (reply : Reply) → letter_of m ≡ Fetching (fetch_answer answer) → (Looks (Receive m) → c ≡ shown)
-    → IsOfRun c old (Receive m)
-    → ForAnswer (fetch_answer answer) old.state.log (λ m. CutsAbove shown old m → DoesShown shown answer.answered old new (Receive m) reply) → DoesUnder c old new (Receive m) reply
-answer_came c shown old new answer (Asks q) reply is under of event = absurd (unanswered q answer.request answer.answered is)
-answer_came c shown old new answer (AnswersOf a) reply is under of event =
-    event a (fetched is) of.0 of.1 of.2 of.3 (λ diverges. subst (λ (k : LeaderAndIsr). CutsAbove k old (AnswersOf a)) (under diverges) of.4 diverges) c (shown_by c shown answer.request answer.answered a (fetched is) under)
-answer_came c shown old new answer _ reply is under of event = absurd cc
+-- and what refuses them, whatever logs the message has
+pub batches_refused : (c : LeaderAndIsr) (old new : NumberedNode) (r : FetchRequest) (f : Fetched) (m : Message) (refusal : Refusal) (taken : Result Taken Refusal)
+    → letter_of m ≡ Fetching (carrying r f) → cause c old.number old.state (Receive m) ≡ Some refusal → IsTaken r f old new taken
+    → (taken ≡ Err refusal) × DoesUnder c old new (Receive m) (Refused refusal)
+batches_refused c old new r f (Asks q) refusal taken is held done = absurd (unanswered q r _ is)
+batches_refused c old new r f (AnswersOf a) refusal taken is held done =
+    let why : fetch_cause old.state r f ≡ Some refusal = sym (carrying_cause a r f (fetched is) c old) ∙ held in
+    let refused = rw why at done.refused in
+    (refused.0, refused.1 (AnswersOf a) is c)
+batches_refused c old new r f _ refusal taken is held done = absurd cc
 
--- and what refuses it, whatever logs the message has
-pub answer_refused : (c shown : LeaderAndIsr) (old new : NumberedNode) (answer : FetchAnswer) (m : Message) (refusal : Refusal) (result : Result Followed Refusal) → letter_of m ≡ Fetching (fetch_answer answer)
-    → (Looks (Receive m) → c ≡ shown) → cause c old.number old.state (Receive m) ≡ Some refusal
-    → IfSome (letter_cause shown old answer.request answer.answered)
-    (λ refusal. (result ≡ Err refusal) × ForLetter (Fetching (fetch_answer answer)) (λ m. DoesShown shown answer.answered old new (Receive m) (Refused refusal)))
-    → (result ≡ Err refusal) × DoesUnder c old new (Receive m) (Refused refusal)
-answer_refused c shown old new answer (Asks q) refusal result is under held refused = absurd (unanswered q answer.request answer.answered is)
-answer_refused c shown old new answer (AnswersOf a) refusal result is under held refused =
-    let known = shown_by c shown answer.request answer.answered a (fetched is) under in
-    let why : letter_cause shown old answer.request answer.answered ≡ Some refusal =
-    sym (same_cause shown c old answer.request answer.answered known) ∙ sym (cause_is c old answer.request answer.answered a (fetched is)) ∙ held in
-    let done = subst (λ (o : Option Refusal). IfSome o (λ refusal. (result ≡ Err refusal) × ForLetter (Fetching (fetch_answer answer)) (λ m. DoesShown shown answer.answered old new (Receive m) (Refused refusal)))) why refused in
-    (done.0, done.1 (AnswersOf a) is c known)
-answer_refused c shown old new answer _ refusal result is under held refused = absurd cc
+-- what comes of a diverging answer, which looks at the record that was shown
+pub diverging_came : (c shown : LeaderAndIsr) (old new : NumberedNode) (r : FetchRequest) (end : Option EpochEnd) (m : Message) (back : Result CutBack Refusal)
+    → letter_of m ≡ Fetching (diverging r end) → (Looks (Receive m) → c ≡ shown) → IsOfRun c old (Receive m) → IsCut shown r end old new back
+    → DoesUnder c old new (Receive m) (cut_reply back)
+diverging_came c shown old new r end (Asks q) back is under of done = absurd (unanswered q r _ is)
+diverging_came c shown old new r end (AnswersOf a) back is under of done =
+    let same : c ≡ shown = under (told a r end (fetched is)).covered in
+    subst (λ (k : LeaderAndIsr). DoesUnder k old new (Receive (AnswersOf a)) (cut_reply back)) (sym same)
+    (done.event a (fetched is) of.0 of.1 of.2 of.3 (subst (λ (k : LeaderAndIsr). CutsAbove k old (AnswersOf a)) same of.4))
+diverging_came c shown old new r end _ back is under of done = absurd cc
+
+pub diverging_refused : (c shown : LeaderAndIsr) (old new : NumberedNode) (r : FetchRequest) (end : Option EpochEnd) (m : Message) (refusal : Refusal) (back : Result CutBack Refusal)
+    → letter_of m ≡ Fetching (diverging r end) → (Looks (Receive m) → c ≡ shown) → cause c old.number old.state (Receive m) ≡ Some refusal → IsCut shown r end old new back
+    → (back ≡ Err refusal) × DoesUnder c old new (Receive m) (Refused refusal)
+diverging_refused c shown old new r end (Asks q) refusal back is under held done = absurd (unanswered q r _ is)
+diverging_refused c shown old new r end (AnswersOf a) refusal back is under held done =
+    let same : c ≡ shown = under (told a r end (fetched is)).covered in
+    let why : cause_for shown old.number old.state r ≡ Some refusal =
+    ap (λ (k : LeaderAndIsr). cause_for k old.number old.state r) (sym same) ∙ sym (diverging_letter_cause a r end (fetched is) c old) ∙ held in
+    let refused = rw why at done.refused in
+    (refused.0, subst (λ (k : LeaderAndIsr). DoesUnder k old new (Receive (AnswersOf a)) (Refused refusal)) (sym same) (refused.1 (AnswersOf a) is))
+diverging_refused c shown old new r end _ refusal back is under held done = absurd cc
 
 -- what the controller is asked, and what it decides
 proposed : {l m : Proposal} → Proposing l ≡ Proposing m → l ≡ m

@@ -16,8 +16,6 @@ use Rattle.kp_replica.specs.declared.adopting.Role.TheVariants as roles
 use Rattle.kp_replica.specs.declared.producing.Receipt.{Receipt}
 use Rattle.kp_replica.specs.declared.reading.Shown.{Shown}
 use Rattle.kp_replica.specs.declared.taking.Taken.{Taken}
-use Rattle.kp_replica.specs.declared.taking.Followed.{Followed}
-use Rattle.kp_replica.specs.declared.taking.Followed.TheVariants as follows
 use Rattle.kp_replica.specs.declared.cutting.CutBack.{CutBack}
 use Rattle.kp_replica.specs.declared.altering.Learned.{Learned as LearnedIsr}
 
@@ -41,11 +39,6 @@ taken_reply (Err refusal) = Refused refusal
 abbrev pub cut_reply : Result CutBack Refusal → Reply
 cut_reply (Ok cut) = Cut cut.end
 cut_reply (Err refusal) = Refused refusal
-
-abbrev pub followed_reply : Result Followed Refusal → Reply
-followed_reply (Ok (follows.Took taken)) = taken_reply (Ok taken)
-followed_reply (Ok (follows.Cut cut)) = cut_reply (Ok cut)
-followed_reply (Err refusal) = Refused refusal
 
 abbrev pub learned_reply : Result LearnedIsr Refusal → Reply
 learned_reply (Ok learned) = Learned (members_of learned.isr) learned.version

@@ -1,15 +1,11 @@
 //! What a node may be asked to do, and what comes of it.
 
-ghost use Rattle.std.specs.Prelude.{◌≡◌, Ok};
-ghost use Rattle.kp_replica.specs.Acts.{answer_reply};
-ghost use Rattle.kp_replica.specs.Replies.{followed_reply};
-
 use crate::adopting::Role;
 use crate::altering::{IsrChange, Learned};
 use crate::cutting::CutBack;
 use crate::producing::Receipt;
 use crate::reading::Shown;
-use crate::taking::{Followed, Taken};
+use crate::taking::Taken;
 use kp_batch::Handed;
 use kp_marker::HandedMarker;
 use kp_model::MessageBody;
@@ -83,16 +79,4 @@ pub enum Effect {
     Answers(Answer),
     /// The node sends this message.
     Sends(MessageBody),
-}
-
-impl Followed {
-    /// The same, as what a node answers. O(1).
-    pub(crate) fn answer(self) -> Answer
-        ensures { answer_reply result ≡ followed_reply (Ok self) }
-    {
-        match self {
-            Followed::Took(taken) => Answer::Took(taken),
-            Followed::Cut(cut) => Answer::Cut(cut),
-        }
-    }
 }

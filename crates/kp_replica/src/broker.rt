@@ -5,7 +5,7 @@ use crate::kept::KeptNode;
 use crate::replica::Replica;
 use kp_batch::Handed;
 use kp_log::PartitionLog;
-use kp_model::{LeaderAndIsr, MessageBody};
+use kp_model::{Answered, LeaderAndIsr, MessageBody};
 use kp_types::{Limits, NodeId, Offset, Refusal};
 use std::alloc::Global;
 
@@ -137,7 +137,7 @@ impl Broker {
     }
 
     /// The message comes to the node, under this record of the controller, at which a diverging answer alone looks. F28 where
-    /// the node is down; for what else is refused, and for the cost, see `serve_fetch`, `take_fetch` and `learn` of [`Replica`].
+    /// the node is down; for what else is refused, and for the cost, see `serve_fetch`, `take`, `cut` and `learn`.
     /// Where memory is refused in a take (F33) the node is down. A proposal is for the controller: F29, and it costs O(1).
     pub fn receive(
         &mut self,
@@ -157,17 +157,25 @@ impl Broker {
                 let answer = self.serve_fetch(alloc, request)?;
                 Ok(Effect::Sends(MessageBody::FetchAnswer(answer)))
             }
-            MessageBody::FetchAnswer(answer) => {
-                let followed = self.take_fetch(controller, answer)?;
-                Ok(Effect::Answers(followed.answer()))
-            }
+            MessageBody::FetchAnswer(answer) => match &answer.answered {
+                Answered::Batches(fetched) => {
+                    let took = self.take(&answer.request, fetched).map(Answer::Took);
+                    took.map(Effect::Answers)
+                }
+                Answered::Diverging(end) => {
+                    let cut = self
+                        .cut(controller, &answer.request, end.end())
+                        .map(Answer::Cut);
+                    cut.map(Effect::Answers)
+                }
+            },
             MessageBody::Proposal(_) => {
                 self.up()?;
                 Err(Refusal::StaleAnswer)
             }
             MessageBody::Decision(decision) => {
-                let learned = self.learn(decision)?;
-                Ok(Effect::Answers(Answer::Learned(learned)))
+                let learned = self.learn(decision).map(Answer::Learned);
+                learned.map(Effect::Answers)
             }
         }
     }

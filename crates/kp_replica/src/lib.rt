@@ -17,6 +17,7 @@ mod producing;
 mod raising;
 mod reading;
 mod replica;
+mod restarting;
 mod serving;
 mod stopping;
 mod taking;
@@ -31,7 +32,7 @@ pub use kept::KeptNode;
 pub use producing::Receipt;
 pub use reading::Shown;
 pub use replica::Replica;
-pub use taking::{Followed, Taken};
+pub use taking::Taken;
 
 /// All bytes hand in one thing, and only one: a batch, or the refusal of what they are. It costs nothing.
 pub fn bytes_are_an_offer()

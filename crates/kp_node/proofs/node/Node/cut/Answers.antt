@@ -1,20 +1,15 @@
-use Rattle.std.proofs.Common.{◌≡◌, ◌≤◌, sym, ap, subst, ◌∙◌, refl}
-use Rattle.std.specs.Prelude.{IfOk, IfErr}
+use Rattle.std.proofs.Common.{◌≡◌, ◌≤◌, sym, ap, subst, ◌∙◌}
 use Rattle.kp_model.specs.Set.{record_of}
 use Rattle.kp_model.specs.Calls.{cut}
-use Rattle.kp_model.specs.Event.{Receive, Refused}
-use Rattle.kp_model.specs.Letter.{fetch_answer}
+use Rattle.kp_model.specs.Event.{Receive}
 use Rattle.kp_model.specs.World.{LeaderAndIsr}
-use Rattle.kp_model.specs.declared.message.Answered.{Answered}
 use Rattle.kp_replica.specs.Broker.{node_at}
-use Rattle.kp_replica.specs.Hearing.{IsShown}
+use Rattle.kp_replica.specs.Cutting.{diverging}
 use Rattle.kp_replica.specs.NumberedNode.{DoesUnder}
-use Rattle.kp_replica.specs.Replies.{followed_reply}
+use Rattle.kp_replica.specs.Replies.{cut_reply}
 use Rattle.kp_board.specs.Views.{NodeView}
-use Rattle.kp_node.specs.Calls.{CutsBack, WasFollowed}
 use Rattle.kp_node.specs.Seated.{SeatedNode}
 use Rattle.kp_node.proofs.CutsUnder.{HasCutBack, cut_may, cut_back}
-use Rattle.kp_node.proofs.Takes.{followed_under, refused_under}
 use Rattle.kp_node.proofs.Ties.{Tied, received, was_told, shows_as}
 use Rattle.kp_node.proofs.node.Node.cut.Goals as goal
 
@@ -25,9 +20,7 @@ step_under_record-record-requires g c =
     let m = node_at c.self.inside.broker in
     let sent = c.args.sent in
     let tied : Tied g.B.BoardName.table.words q m = received g.B.BoardName.table.words p q m sent c.self.invariant c.receive.ensures in
-    let told = was_told p q sent c.receive.ensures in
-    let diverging = c.requires.diverging in
-    (Receive sent, cut_may g.B.BoardName.table.words q m sent c.args.answer.now diverging.0 tied told c.requires.letter diverging.1)
+    (Receive sent, cut_may g.B.BoardName.table.words q m sent c.args.request.now c.args.end tied (was_told p q sent c.receive.ensures) c.requires)
 
 pub invariant_of-self : goal.invariant_of-self
 invariant_of-self g c =
@@ -36,60 +29,31 @@ invariant_of-self g c =
     let m = node_at c.self.inside.broker in
     let sent = c.args.sent in
     let tied : Tied g.B.BoardName.table.words q m = received g.B.BoardName.table.words p q m sent c.self.invariant c.receive.ensures in
-    let told = was_told p q sent c.receive.ensures in
-    let call = c.take_fetch-followed in
+    let call = c.cut-cut in
     let new = node_at call.new.self in
-    let diverging = c.requires.diverging in
     let step = c.step_under_record-record in
     let r = record_of step.result in
-    let answer = c.args.answer.now in
-    let back : HasCutBack g.B.BoardName.table.words r q step.new.pass m new sent (fetch_answer answer) (followed_reply call.result) =
-    cut_back g.B.BoardName.table.words r q step.new.pass m new sent answer diverging.0 call.result tied told c.requires.letter diverging.1 step.ensures.known
-    call.ensures.event call.ensures.done step.ensures.shown in
+    let l = diverging c.args.request.now c.args.end in
+    let back : HasCutBack g.B.BoardName.table.words r q step.new.pass m new sent l (cut_reply call.result) =
+    cut_back g.B.BoardName.table.words r q step.new.pass m new sent c.args.request.now c.args.end call.result tied (was_told p q sent c.receive.ensures) c.requires step.ensures.known call.ensures step.ensures.shown in
     subst (λ (z : NodeView). Tied g.B.BoardName.table.words z new) (sym c.publish_end.ensures) back.tied
 
-pub returns-clause-taken : goal.returns-clause-taken
-returns-clause-taken g c =
+pub returns-clause-event : goal.returns-clause-event
+returns-clause-event g c =
     let p = c.self.inside.pass in
     let q = c.receive.new.pass in
     let m = node_at c.self.inside.broker in
     let sent = c.args.sent in
     let tied : Tied g.B.BoardName.table.words q m = received g.B.BoardName.table.words p q m sent c.self.invariant c.receive.ensures in
-    let told = was_told p q sent c.receive.ensures in
-    let call = c.take_fetch-followed in
+    let call = c.cut-cut in
     let new = node_at call.new.self in
-    let diverging = c.requires.diverging in
     let step = c.step_under_record-record in
     let r = record_of step.result in
-    let answer = c.args.answer.now in
-    let back : HasCutBack g.B.BoardName.table.words r q step.new.pass m new sent (fetch_answer answer) (followed_reply call.result) =
-    cut_back g.B.BoardName.table.words r q step.new.pass m new sent answer diverging.0 call.result tied told c.requires.letter diverging.1 step.ensures.known
-    call.ensures.event call.ensures.done step.ensures.shown in
+    let l = diverging c.args.request.now c.args.end in
+    let back : HasCutBack g.B.BoardName.table.words r q step.new.pass m new sent l (cut_reply call.result) =
+    cut_back g.B.BoardName.table.words r q step.new.pass m new sent c.args.request.now c.args.end call.result tied (was_told p q sent c.receive.ensures) c.requires step.ensures.known call.ensures step.ensures.shown in
     let shown : c.publish_end.new.pass.shown ≡ r = ap (λ (z : NodeView). z.shown) (c.publish_end.ensures ∙ step.ensures.shown) in
-    let under : IsShown r answer.answered r = subst (λ (z : Answered). IsShown r z r) (sym diverging.1) refl in
-    let taken = followed_under m new (Receive sent) answer.request r answer.answered r call.result under call.ensures.done back.event in
-    subst (λ (z : LeaderAndIsr × SeatedNode). IfOk call.result (λ followed. WasFollowed answer.answered z.0 z.1.node new (Receive sent))) (λ j. (sym shown j, c.self.view_is j)) taken
-
-pub returns-clause-refused : goal.returns-clause-refused
-returns-clause-refused g c =
-    let p = c.self.inside.pass in
-    let q = c.receive.new.pass in
-    let m = node_at c.self.inside.broker in
-    let sent = c.args.sent in
-    let tied : Tied g.B.BoardName.table.words q m = received g.B.BoardName.table.words p q m sent c.self.invariant c.receive.ensures in
-    let told = was_told p q sent c.receive.ensures in
-    let call = c.take_fetch-followed in
-    let new = node_at call.new.self in
-    let diverging = c.requires.diverging in
-    let step = c.step_under_record-record in
-    let r = record_of step.result in
-    let answer = c.args.answer.now in
-    let back : HasCutBack g.B.BoardName.table.words r q step.new.pass m new sent (fetch_answer answer) (followed_reply call.result) =
-    cut_back g.B.BoardName.table.words r q step.new.pass m new sent answer diverging.0 call.result tied told c.requires.letter diverging.1 step.ensures.known
-    call.ensures.event call.ensures.done step.ensures.shown in
-    let shown : c.publish_end.new.pass.shown ≡ r = ap (λ (z : NodeView). z.shown) (c.publish_end.ensures ∙ step.ensures.shown) in
-    subst (λ (z : LeaderAndIsr × SeatedNode). IfErr call.result (λ refusal. DoesUnder z.0 z.1.node new (Receive sent) (Refused refusal))) (λ j. (sym shown j, c.self.view_is j))
-    (refused_under m new (Receive sent) r call.result back.event)
+    subst (λ (z : LeaderAndIsr × SeatedNode). DoesUnder z.0 z.1.node new (Receive sent) (cut_reply call.result)) (λ j. (sym shown j, c.self.view_is j)) back.event
 
 pub returns-clause-place : goal.returns-clause-place
 returns-clause-place g c =
@@ -98,19 +62,15 @@ returns-clause-place g c =
     let m = node_at c.self.inside.broker in
     let sent = c.args.sent in
     let tied : Tied g.B.BoardName.table.words q m = received g.B.BoardName.table.words p q m sent c.self.invariant c.receive.ensures in
-    let told = was_told p q sent c.receive.ensures in
-    let call = c.take_fetch-followed in
+    let call = c.cut-cut in
     let new = node_at call.new.self in
-    let diverging = c.requires.diverging in
     let step = c.step_under_record-record in
     let r = record_of step.result in
-    let answer = c.args.answer.now in
-    let back : HasCutBack g.B.BoardName.table.words r q step.new.pass m new sent (fetch_answer answer) (followed_reply call.result) =
-    cut_back g.B.BoardName.table.words r q step.new.pass m new sent answer diverging.0 call.result tied told c.requires.letter diverging.1 step.ensures.known
-    call.ensures.event call.ensures.done step.ensures.shown in
+    let l = diverging c.args.request.now c.args.end in
+    let back : HasCutBack g.B.BoardName.table.words r q step.new.pass m new sent l (cut_reply call.result) =
+    cut_back g.B.BoardName.table.words r q step.new.pass m new sent c.args.request.now c.args.end call.result tied (was_told p q sent c.receive.ensures) c.requires step.ensures.known call.ensures step.ensures.shown in
     let shown : c.publish_end.new.pass.shown ≡ r = ap (λ (z : NodeView). z.shown) (c.publish_end.ensures ∙ step.ensures.shown) in
-    let state = subst (λ (z : LeaderAndIsr × SeatedNode). new.state ≡ (cut z.0 z.1.node.number z.1.node.state (fetch_answer answer)).node) (λ j. (sym shown j, c.self.view_is j)) back.state in
-    subst (λ (z : Answered). CutsBack z (fetch_answer answer) c.publish_end.new.pass.shown c.args.self.now.node new) (sym diverging.1) state
+    subst (λ (z : LeaderAndIsr × SeatedNode). new.state ≡ (cut z.0 z.1.node.number z.1.node.state l).node) (λ j. (sym shown j, c.self.view_is j)) back.state
 
 pub returns-clause-pass : goal.returns-clause-pass
 returns-clause-pass g c =
@@ -119,16 +79,13 @@ returns-clause-pass g c =
     let m = node_at c.self.inside.broker in
     let sent = c.args.sent in
     let tied : Tied g.B.BoardName.table.words q m = received g.B.BoardName.table.words p q m sent c.self.invariant c.receive.ensures in
-    let told = was_told p q sent c.receive.ensures in
-    let call = c.take_fetch-followed in
+    let call = c.cut-cut in
     let new = node_at call.new.self in
-    let diverging = c.requires.diverging in
     let step = c.step_under_record-record in
     let r = record_of step.result in
-    let answer = c.args.answer.now in
-    let back : HasCutBack g.B.BoardName.table.words r q step.new.pass m new sent (fetch_answer answer) (followed_reply call.result) =
-    cut_back g.B.BoardName.table.words r q step.new.pass m new sent answer diverging.0 call.result tied told c.requires.letter diverging.1 step.ensures.known
-    call.ensures.event call.ensures.done step.ensures.shown in
+    let l = diverging c.args.request.now c.args.end in
+    let back : HasCutBack g.B.BoardName.table.words r q step.new.pass m new sent l (cut_reply call.result) =
+    cut_back g.B.BoardName.table.words r q step.new.pass m new sent c.args.request.now c.args.end call.result tied (was_told p q sent c.receive.ensures) c.requires step.ensures.known call.ensures step.ensures.shown in
     let whole = c.publish_end.ensures ∙ step.ensures.shown in
     let old = c.args.self.now.pass in
     let was : p ≡ old = ap (λ (s : SeatedNode). s.pass) c.self.view_is in
@@ -145,14 +102,11 @@ returns-clause-mark g c =
     let m = node_at c.self.inside.broker in
     let sent = c.args.sent in
     let tied : Tied g.B.BoardName.table.words q m = received g.B.BoardName.table.words p q m sent c.self.invariant c.receive.ensures in
-    let told = was_told p q sent c.receive.ensures in
-    let call = c.take_fetch-followed in
+    let call = c.cut-cut in
     let new = node_at call.new.self in
-    let diverging = c.requires.diverging in
     let step = c.step_under_record-record in
     let r = record_of step.result in
-    let answer = c.args.answer.now in
-    let back : HasCutBack g.B.BoardName.table.words r q step.new.pass m new sent (fetch_answer answer) (followed_reply call.result) =
-    cut_back g.B.BoardName.table.words r q step.new.pass m new sent answer diverging.0 call.result tied told c.requires.letter diverging.1 step.ensures.known
-    call.ensures.event call.ensures.done step.ensures.shown in
+    let l = diverging c.args.request.now c.args.end in
+    let back : HasCutBack g.B.BoardName.table.words r q step.new.pass m new sent l (cut_reply call.result) =
+    cut_back g.B.BoardName.table.words r q step.new.pass m new sent c.args.request.now c.args.end call.result tied (was_told p q sent c.receive.ensures) c.requires step.ensures.known call.ensures step.ensures.shown in
     subst (λ (z : NodeView). new.state.watermark ≤ z.published) (sym c.publish_end.ensures) back.tied.2

@@ -2,10 +2,11 @@ use Rattle.std.proofs.Common.{sym, ap, subst, ◌∙◌}
 use Rattle.kp_model.specs.Event.{Receive, Refused}
 use Rattle.kp_model.specs.Letter.{letter, letter_of}
 use Rattle.kp_model.specs.World.{Message}
+use Rattle.kp_model.specs.declared.message.Answered.{Answered}
 use Rattle.kp_model.specs.declared.message.MessageBody.{MessageBody}
-use Rattle.kp_model.specs.declared.message.MessageBody.TheVariants.{Decision}
+use Rattle.kp_model.specs.declared.message.MessageBody.TheVariants.{Decision, FetchAnswer}
 use Rattle.kp_replica.specs.NumberedNode.{DoesUnder}
-use Rattle.kp_node.specs.Calls.{WasTaken}
+use Rattle.kp_node.specs.Calls.{WasFollowed, WasTaken}
 use Rattle.kp_node.proofs.Deciding.{proposal_misplaced}
 use Rattle.kp_node.proofs.node.Node.step.Goals as goal
 
@@ -18,6 +19,20 @@ pub returns-in-FetchRequest-clause-refused : goal.returns-in-FetchRequest-clause
 returns-in-FetchRequest-clause-refused g c =
     subst (λ (m : Message). DoesUnder c.serve_fetch.new.self.pass.shown c.args.self.now.node c.serve_fetch.new.self.node (Receive m) (Refused c.in-Err.refusal)) c.into_parts-body.ensures.pass
     (c.in-Err.ensures.refused c.serve_fetch.new.self.pass.shown)
+
+pub returns-in-Ok-take-clause-taken : goal.returns-in-Ok-take-clause-taken
+returns-in-Ok-take-clause-taken g c =
+    let shown = c.take.new.self.pass.shown in
+    let parts = c.into_parts-body.ensures in
+    subst (λ (b : MessageBody). WasTaken b shown c.args.self.now.node c.take.new.self.node (Receive c.args.message.pass)) (sym c.in-FetchAnswer.is ∙ parts.body)
+    (subst (λ (m : Message). WasTaken (FetchAnswer c.in-FetchAnswer.answer) shown c.args.self.now.node c.take.new.self.node (Receive m)) parts.pass
+    (subst (λ (given : Answered). WasFollowed given shown c.args.self.now.node c.take.new.self.node (Receive c.into_parts-body.result.1)) (sym c.in-Batches.is)
+    (c.in-Ok-take._taken, c.in-Ok-take.ensures.event shown)))
+
+pub returns-in-Batches-clause-refused : goal.returns-in-Batches-clause-refused
+returns-in-Batches-clause-refused g c =
+    subst (λ (m : Message). DoesUnder c.take.new.self.pass.shown c.args.self.now.node c.take.new.self.node (Receive m) (Refused c.in-Err-take.refusal)) c.into_parts-body.ensures.pass
+    (c.in-Err-take.ensures.event c.take.new.self.pass.shown)
 
 pub returns-in-Proposal-clause-refused : goal.returns-in-Proposal-clause-refused
 returns-in-Proposal-clause-refused g c =

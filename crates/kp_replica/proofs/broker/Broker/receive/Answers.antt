@@ -1,21 +1,27 @@
-use Rattle.std.proofs.Common.{◌≡◌, Result, Err, sym, ap, ◌∙◌, subst}
+use Rattle.std.proofs.Common.{◌≡◌, Some, Result, Err, refl, sym, ap, ◌∙◌, subst}
 use Rattle.std.proofs.lemmas.Result.{err_from_is_err_and}
 use Rattle.kp_types.specs.declared.refusal.Refusal.{Refusal}
 use Rattle.kp_types.specs.declared.refusal.Refusal.TheVariants.{StaleAnswer}
 use Rattle.kp_model.specs.Set.{record_of}
-use Rattle.kp_model.specs.Event.{Receive, Reply, Refused}
-use Rattle.kp_model.specs.Letter.{Fetching, letter as letter_in, fetch_answer, decision_of}
+use Rattle.kp_model.specs.Event.{Receive}
+use Rattle.kp_model.specs.Letter.{Fetching, Letter, answering as answering_in, letter as letter_in, letter_of, fetch_answer, fetch_request, decision_of}
 use Rattle.kp_model.specs.World.{LeaderAndIsr, Message}
+use Rattle.kp_model.specs.declared.message.Answered.{Answered}
+use Rattle.kp_model.specs.declared.message.Answered.TheVariants.{Diverging}
+use Rattle.kp_model.specs.declared.message.FetchRequest.{FetchRequest}
 use Rattle.kp_model.specs.declared.message.MessageBody.TheVariants as bodies
 use Rattle.kp_replica.specs.Acts.{Comes}
 use Rattle.kp_replica.specs.Broker.{node_at}
+use Rattle.kp_replica.specs.Cutting.{diverging}
 use Rattle.kp_replica.specs.NumberedNode.{NumberedNode, DoesUnder}
-use Rattle.kp_replica.specs.Replies.{followed_reply, learned_reply}
+use Rattle.kp_replica.specs.Replies.{cut_reply, learned_reply, taken_reply}
 use Rattle.kp_replica.specs.declared.act.Answer.TheVariants as answers
 use Rattle.kp_replica.specs.declared.altering.Learned.{Learned}
 use Rattle.kp_replica.specs.declared.act.Effect.{Effect}
-use Rattle.kp_replica.specs.declared.taking.Followed.{Followed}
-use Rattle.kp_replica.proofs.Acting.{answering, answer_came, answer_refused, learned_came, proposal_came, refusing, request_came, same_err, sending}
+use Rattle.kp_replica.specs.declared.cutting.CutBack.{CutBack}
+use Rattle.kp_replica.specs.declared.taking.Taken.{Taken}
+use Rattle.kp_replica.specs.Taking.{carrying}
+use Rattle.kp_replica.proofs.Acting.{batches_came, batches_refused, diverging_came, diverging_refused, learned_came, proposal_came, refusing, request_came, sending, wrapped}
 use Rattle.kp_replica.proofs.Downs.{refuses_message}
 use Rattle.kp_replica.proofs.broker.Broker.receive.Goals as goal
 
@@ -54,77 +60,71 @@ returns-in_ok-answer-in-FetchRequest-clause-acts c = λ m is k under of.
 
 -- ---- answers
 
-pub returns-in_err-followed-in-FetchAnswer-clause-acts : goal.returns-in_err-followed-in-FetchAnswer-clause-acts
-returns-in_err-followed-in-FetchAnswer-clause-acts c = λ m is k under of.
-    let refusal = c.in_err-followed-in-FetchAnswer.field-0.0 in
-    let p = err_from_is_err_and c.from_residual-in_err-followed-in-FetchAnswer.result c.from_residual-in_err-followed-in-FetchAnswer.ensures.1 in
-    let old = node_at c.args.self.now in
-    let new = node_at c.take_fetch.new.self in
-    let came = answer_came k (record_of c.args.controller.now) old new c.in-FetchAnswer.answer m (followed_reply c.take_fetch.result) (is ∙ ap letter_in c.in-FetchAnswer.is) under of
-    c.take_fetch.ensures.event in
-    in_other_words k old new m c.from_residual-in_err-followed-in-FetchAnswer.result (Err refusal) (p.1 ∙ ap Err p.2)
-    (refusing k old new (Receive m) refusal
-    (subst (λ (r : Result Followed Refusal). DoesUnder k old new (Receive m) (followed_reply r)) c.in_err-followed-in-FetchAnswer.was came))
+-- the letter of an answer by what it gives
+letter_by : (r : FetchRequest) → Answered → Letter
+letter_by r given = Fetching (record (fetch_request r) { answering = Some (answering_in given) })
 
-pub returns-in_err-followed-in-FetchAnswer-clause-refused : goal.returns-in_err-followed-in-FetchAnswer-clause-refused
-returns-in_err-followed-in-FetchAnswer-clause-refused c = λ m is k under why held.
-    let refusal = c.in_err-followed-in-FetchAnswer.field-0.0 in
-    let p = err_from_is_err_and c.from_residual-in_err-followed-in-FetchAnswer.result c.from_residual-in_err-followed-in-FetchAnswer.ensures.1 in
+pub returns-in-Batches-clause-acts : goal.returns-in-Batches-clause-acts
+unfolding letter_by
+returns-in-Batches-clause-acts c = λ m is k under of.
     let old = node_at c.args.self.now in
-    let new = node_at c.take_fetch.new.self in
-    let why_not = answer_refused k (record_of c.args.controller.now) old new c.in-FetchAnswer.answer m why c.take_fetch.result (is ∙ ap letter_in c.in-FetchAnswer.is) under held
-    c.take_fetch.ensures.refused in
-    let same : why ≡ refusal = sym (same_err {A = Followed} refusal why (sym c.in_err-followed-in-FetchAnswer.was ∙ why_not.0)) in
-    in_other_words k old new m c.from_residual-in_err-followed-in-FetchAnswer.result (Err refusal) (p.1 ∙ ap Err p.2)
-    (refusing k old new (Receive m) refusal (subst (λ (r : Refusal). DoesUnder k old new (Receive m) (Refused r)) same why_not.1))
+    let new = node_at c.take.new.self in
+    let r = c.in-FetchAnswer.answer.request in
+    let f = c.in-Batches.fetched in
+    let same : letter_of m ≡ Fetching (carrying r f) = is ∙ ap letter_in c.in-FetchAnswer.is ∙ ap (letter_by r) c.in-Batches.is in
+    wrapped Taken answers.Took taken_reply k old new (Receive m) c.take.result c.map-took.result c.map.result (λ x. refl) (λ e. refl) c.map-took.ensures.cases c.map.ensures.cases
+    (batches_came k old new r f m c.take.result same of c.take.ensures)
 
-pub returns-in_ok-followed-in-FetchAnswer-clause-acts : goal.returns-in_ok-followed-in-FetchAnswer-clause-acts
-returns-in_ok-followed-in-FetchAnswer-clause-acts c = λ m is k under of.
+pub returns-in-Batches-clause-refused : goal.returns-in-Batches-clause-refused
+unfolding letter_by
+returns-in-Batches-clause-refused c = λ m is k under why held.
     let old = node_at c.args.self.now in
-    let new = node_at c.take_fetch.new.self in
-    let followed = c.in_ok-followed-in-FetchAnswer in
-    let came = answer_came k (record_of c.args.controller.now) old new c.in-FetchAnswer.answer m (followed_reply c.take_fetch.result) (is ∙ ap letter_in c.in-FetchAnswer.is) under of
-    c.take_fetch.ensures.event in
-    let does = subst (λ (r : Result Followed Refusal). DoesUnder k old new (Receive m) (followed_reply r)) followed.was came in
-    answering k old new (Receive m) c.answer.result (subst (λ (r : Reply). DoesUnder k old new (Receive m) r) (sym c.answer.ensures) does)
+    let new = node_at c.take.new.self in
+    let r = c.in-FetchAnswer.answer.request in
+    let f = c.in-Batches.fetched in
+    let same : letter_of m ≡ Fetching (carrying r f) = is ∙ ap letter_in c.in-FetchAnswer.is ∙ ap (letter_by r) c.in-Batches.is in
+    let refused = batches_refused k old new r f m why c.take.result same held c.take.ensures in
+    wrapped Taken answers.Took taken_reply k old new (Receive m) c.take.result c.map-took.result c.map.result (λ x. refl) (λ e. refl) c.map-took.ensures.cases c.map.ensures.cases
+    (subst (λ (t : Result Taken Refusal). DoesUnder k old new (Receive m) (taken_reply t)) (sym refused.0) refused.1)
+
+pub returns-in-Diverging-clause-acts : goal.returns-in-Diverging-clause-acts
+unfolding letter_by
+returns-in-Diverging-clause-acts c = λ m is k under of.
+    let old = node_at c.args.self.now in
+    let new = node_at c.cut.new.self in
+    let r = c.in-FetchAnswer.answer.request in
+    let end = c.end.result in
+    let same : letter_of m ≡ Fetching (diverging r end) = is ∙ ap letter_in c.in-FetchAnswer.is ∙ ap (letter_by r) (c.in-Diverging.is ∙ ap Diverging (sym c.end.ensures)) in
+    wrapped CutBack answers.Cut cut_reply k old new (Receive m) c.cut.result c.map-cut.result c.map-in-Diverging.result (λ x. refl) (λ e. refl) c.map-cut.ensures.cases c.map-in-Diverging.ensures.cases
+    (diverging_came k (record_of c.args.controller.now) old new r end m c.cut.result same under of c.cut.ensures)
+
+pub returns-in-Diverging-clause-refused : goal.returns-in-Diverging-clause-refused
+unfolding letter_by
+returns-in-Diverging-clause-refused c = λ m is k under why held.
+    let old = node_at c.args.self.now in
+    let new = node_at c.cut.new.self in
+    let r = c.in-FetchAnswer.answer.request in
+    let end = c.end.result in
+    let same : letter_of m ≡ Fetching (diverging r end) = is ∙ ap letter_in c.in-FetchAnswer.is ∙ ap (letter_by r) (c.in-Diverging.is ∙ ap Diverging (sym c.end.ensures)) in
+    let refused = diverging_refused k (record_of c.args.controller.now) old new r end m why c.cut.result same under held c.cut.ensures in
+    wrapped CutBack answers.Cut cut_reply k old new (Receive m) c.cut.result c.map-cut.result c.map-in-Diverging.result (λ x. refl) (λ e. refl) c.map-cut.ensures.cases c.map-in-Diverging.ensures.cases
+    (subst (λ (t : Result CutBack Refusal). DoesUnder k old new (Receive m) (cut_reply t)) (sym refused.0) refused.1)
 
 -- ---- decisions
 
-pub returns-in_err-learned-in-Decision-clause-acts : goal.returns-in_err-learned-in-Decision-clause-acts
-returns-in_err-learned-in-Decision-clause-acts c = λ m is k under of.
-    let refusal = c.in_err-learned-in-Decision.field-0.0 in
-    let p = err_from_is_err_and c.from_residual-in_err-learned-in-Decision.result c.from_residual-in_err-learned-in-Decision.ensures.1 in
+pub returns-in-Decision-clause-acts : goal.returns-in-Decision-clause-acts
+returns-in-Decision-clause-acts c = λ m is k under of.
     let old = node_at c.args.self.now in
     let new = node_at c.learn.new.self in
-    let came = learned_came k old new (decision_of c.in-Decision.decision) m c.learn.result (is ∙ ap letter_in c.in-Decision.is) c.learn.ensures.event in
-    in_other_words k old new m c.from_residual-in_err-learned-in-Decision.result (Err refusal) (p.1 ∙ ap Err p.2)
-    (refusing k old new (Receive m) refusal (subst (λ (r : Result Learned Refusal). DoesUnder k old new (Receive m) (learned_reply r)) c.in_err-learned-in-Decision.was came))
+    wrapped Learned answers.Learned learned_reply k old new (Receive m) c.learn.result c.map-learned.result c.map-in-Decision.result (λ x. refl) (λ e. refl) c.map-learned.ensures.cases c.map-in-Decision.ensures.cases
+    (learned_came k old new (decision_of c.in-Decision.decision) m c.learn.result (is ∙ ap letter_in c.in-Decision.is) c.learn.ensures.event)
 
-pub returns-in_err-learned-in-Decision-clause-refused : goal.returns-in_err-learned-in-Decision-clause-refused
-returns-in_err-learned-in-Decision-clause-refused c = λ m is k under why held.
-    let refusal = c.in_err-learned-in-Decision.field-0.0 in
-    let p = err_from_is_err_and c.from_residual-in_err-learned-in-Decision.result c.from_residual-in_err-learned-in-Decision.ensures.1 in
+pub returns-in-Decision-clause-refused : goal.returns-in-Decision-clause-refused
+returns-in-Decision-clause-refused c = λ m is k under why held.
     let old = node_at c.args.self.now in
     let new = node_at c.learn.new.self in
-    let came = learned_came k old new (decision_of c.in-Decision.decision) m c.learn.result (is ∙ ap letter_in c.in-Decision.is) c.learn.ensures.event in
-    in_other_words k old new m c.from_residual-in_err-learned-in-Decision.result (Err refusal) (p.1 ∙ ap Err p.2)
-    (refusing k old new (Receive m) refusal (subst (λ (r : Result Learned Refusal). DoesUnder k old new (Receive m) (learned_reply r)) c.in_err-learned-in-Decision.was came))
-
-pub returns-in_ok-learned-in-Decision-clause-acts : goal.returns-in_ok-learned-in-Decision-clause-acts
-returns-in_ok-learned-in-Decision-clause-acts c = λ m is k under of.
-    let old = node_at c.args.self.now in
-    let new = node_at c.learn.new.self in
-    let came = learned_came k old new (decision_of c.in-Decision.decision) m c.learn.result (is ∙ ap letter_in c.in-Decision.is) c.learn.ensures.event in
-    answering k old new (Receive m) (answers.Learned c.in_ok-learned-in-Decision.learned)
-    (subst (λ (r : Result Learned Refusal). DoesUnder k old new (Receive m) (learned_reply r)) c.in_ok-learned-in-Decision.was came)
-
-pub returns-in_ok-learned-in-Decision-clause-refused : goal.returns-in_ok-learned-in-Decision-clause-refused
-returns-in_ok-learned-in-Decision-clause-refused c = λ m is k under why held.
-    let old = node_at c.args.self.now in
-    let new = node_at c.learn.new.self in
-    let came = learned_came k old new (decision_of c.in-Decision.decision) m c.learn.result (is ∙ ap letter_in c.in-Decision.is) c.learn.ensures.event in
-    answering k old new (Receive m) (answers.Learned c.in_ok-learned-in-Decision.learned)
-    (subst (λ (r : Result Learned Refusal). DoesUnder k old new (Receive m) (learned_reply r)) c.in_ok-learned-in-Decision.was came)
+    wrapped Learned answers.Learned learned_reply k old new (Receive m) c.learn.result c.map-learned.result c.map-in-Decision.result (λ x. refl) (λ e. refl) c.map-learned.ensures.cases c.map-in-Decision.ensures.cases
+    (learned_came k old new (decision_of c.in-Decision.decision) m c.learn.result (is ∙ ap letter_in c.in-Decision.is) c.learn.ensures.event)
 
 -- ---- proposals
 
