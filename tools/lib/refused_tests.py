@@ -19,9 +19,9 @@ NAMED = r"F33 Memory( in place of .*)?\n|assertion `left == right` failed.*\n  l
 
 # Those that hold also where one growth is refused. Where all later ones are, too, they may say a text that has F33 in it.
 ALWAYS = (
-    "exchange_tests::a_request_without_memory_reports_nothing",
-    "exchange_tests::a_take_without_memory_keeps_a_beginning",
-    "restart_tests::a_restart_without_memory_keeps_the_node",
+    "replica_tests::a_request_without_memory_reports_nothing",
+    "replica_tests::a_take_without_memory_keeps_a_beginning",
+    "replica_restart_tests::a_restart_without_memory_keeps_the_node",
 )
 
 
@@ -34,11 +34,11 @@ def found(left):
 # behind it then don't come, nor the sends that are counted.
 OWN = {
     "cluster_tests::gate_two_nodes": found(r"Ok\(false\)"),
-    "worker_tests::refused_threads_and_sends_leave_what_stops": found(r"Ok\(Ended \{ .* \}\)"),
+    "race_tests::refused_threads_and_sends_leave_what_stops": found(r"Ok\(Ended \{ .* \}\)"),
 }
 # Tests of workers end once these are told so, for which there has to be memory again; so of them one growth at a time is refused. Nor
 # could words then tell nodes that disagree from nodes that do nothing.
-WORKERS = ("cluster_tests::", "worker_tests::")
+WORKERS = ("cluster_tests::", "race_tests::")
 
 
 class Test(Row):

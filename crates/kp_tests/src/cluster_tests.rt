@@ -4,8 +4,8 @@ ghost use Rattle.std.specs.Prelude.{◌≡◌, ◌≤◌, IfOk, vec_len};
 ghost use Rattle.kp_model.specs.World.{most_nodes};
 
 use crate::board_tests::board_of;
-use crate::node_tests::bytes_of;
 use crate::shown::unrefused;
+use crate::world_tests::bytes_of;
 use kp_board::{Board, BoardName, Callers, Opened, Pass};
 use kp_cluster::{Cluster, Gate, Open, start};
 use kp_model::LeaderAndIsr;

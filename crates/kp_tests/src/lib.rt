@@ -8,42 +8,44 @@ mod batch_tests;
 #[cfg(test)]
 mod board_tests;
 #[cfg(test)]
-mod carrier_tests;
-#[cfg(test)]
 mod cli_tests;
 #[cfg(test)]
 mod cluster_tests;
+#[cfg(test)]
+mod control_tests;
 #[cfg(test)]
 mod device_tests;
 #[cfg(test)]
 mod epoch_tests;
 #[cfg(test)]
-mod exchange_tests;
-#[cfg(test)]
 mod index_tests;
 #[cfg(test)]
 mod log_tests;
 #[cfg(test)]
+mod log_truncation_tests;
+#[cfg(test)]
 mod logs;
 #[cfg(test)]
-mod meet_tests;
+mod node_meeting_tests;
+#[cfg(test)]
+mod node_seated;
 #[cfg(test)]
 mod node_tests;
 #[cfg(test)]
-mod played;
-#[cfg(test)]
 mod producer_tests;
+#[cfg(test)]
+mod race_tests;
 #[cfg(test)]
 mod record_tests;
 #[cfg(test)]
-mod restart_tests;
+mod replica_played;
 #[cfg(test)]
-mod seat_tests;
+mod replica_restart_tests;
 #[cfg(test)]
-mod seated;
+mod replica_tests;
 #[cfg(test)]
 mod shown;
 #[cfg(test)]
-mod truncation_tests;
+mod transport_tests;
 #[cfg(test)]
-mod worker_tests;
+mod world_tests;

@@ -1,224 +1,257 @@
-//! A record as a word, a marker that is handed in, and the receipts of a run.
+//! Nodes with passes: what a caller is told, and runs of several nodes.
 
-ghost use Rattle.std.specs.Prelude.{◌≡◌, ◌<◌, ◌≤◌};
-ghost use Rattle.std.specs.List.{AllByRecursion};
-ghost use Rattle.kp_world.specs.declared.event.Event.TheVariants.{Acts};
-ghost use Rattle.kp_world.specs.Events.{IsAmong};
-
-use crate::logs::batch_of;
+use crate::node_seated::{Turn, seated};
 use crate::shown::is;
-use bytes::Bytes;
-use kp_batch::Handed;
-use kp_control::{decided, elected, pack, unpack};
-use kp_marker::{HandedMarker, Kind, Marker};
-use kp_model::{LeaderAndIsr, Proposal};
-use kp_replica::{Act, Answer, PlainAct, Receipt};
-use kp_script::{Call, Line, Section, push_trace};
-use kp_types::{Limits, MAX_BATCH, NodeId, Refusal};
-use kp_world::{Event, EventAnswer, Trace, run};
-use std::alloc::{AllocError, Global};
+use kp_replica::IsrChange;
 
-// The bytes of the batch of a word.
-pub(crate) fn bytes_of(alloc: Global, word: &str) -> Result<Handed, Refusal> {
-    let mut out = Vec::new(alloc);
-    batch_of(alloc, word)?.write(&mut out)?;
-    Ok(Handed::raw(Bytes::from_vec(out)?))
-}
+static READ: [Turn; 12] = [
+    Turn::Append(0, "v1000"),
+    Turn::Elect(0),
+    Turn::Adopt(0),
+    Turn::Append(0, "v1000"),
+    Turn::Receipt,
+    Turn::Acked(0),
+    Turn::Read(0, 0),
+    Turn::Raise(0),
+    Turn::Acked(0),
+    Turn::Watermark(0),
+    Turn::ReadBytes(0, 0),
+    Turn::Read(0, 2),
+];
 
-// The text of a trace of events that show node 5, the first in line 2.
-fn trace_of(alloc: Global, outcomes: &[Result<EventAnswer, Refusal>]) -> Result<String, Refusal> {
-    let mut lines = Vec::new(alloc);
-    for number in 0..outcomes.len() {
-        lines.push(Line {
-            number: number as u64 + 2,
-            call: Call::Acts {
-                node: 5,
-                act: PlainAct::Show,
-            },
-        })?;
-    }
-    if lines.len() != outcomes.len() {
-        return Err(Refusal::BadCount);
-    }
-    let mut text = Vec::new(alloc);
-    push_trace(&mut text, lines.as_slice(), outcomes)?;
-    match String::from_utf8(text) {
-        Ok(text) => Ok(text),
-        Err(_) => Err(Refusal::BadRecord(0)),
-    }
-}
-
-// Whether a section gives back the events that are put into it.
-fn is_kept(alloc: Global) -> Result<bool, Refusal> {
-    let first = Line {
-        number: 2,
-        call: Call::Elect { node: 1 },
-    };
-    let last = Line {
-        number: 5,
-        call: Call::Raw {
-            node: 0,
-            digits: b"7f",
-        },
-    };
-    let mut section = Section::new(alloc);
-    section.push(first)?;
-    section.push(Line { number: 3, ..last })?;
-    section.push(last)?;
-    if section.len() != 3 {
-        return Ok(false);
-    }
-    Ok(match (section.line(0).call, section.line(2).call) {
-        (
-            Call::Elect { node: 1 },
-            Call::Raw {
-                node: 0,
-                digits: b"7f",
-            },
-        ) => { (section.line(0).number, section.line(2).number) == (2, 5) }
-        _ => false,
-    })
-}
-
-// The word of three nodes' record, at the start and after an election.
-fn words() -> Result<[u64; 2], Refusal> {
-    let initial = LeaderAndIsr::initial(3);
-    Ok([pack(&initial), pack(&elected(&initial, 0)?)])
-}
-
-// The version after one more election of the record that has this word.
-fn version_after(word: u64) -> Option<Result<u32, Refusal>> {
-    let record = unpack(word)?;
-    Some(elected(&record, 0).map(|changed| changed.version))
-}
+// The bytes are those of the batch at offset 0 in leader epoch 0.
+static READ_TOLD: &str =
+    "F15 NotLeader\nrecord leader 0 epoch 0 version 1\nleads epoch 0 from 0\nat 0\nreceipt 0 to 0 epoch 0\nnot yet\n\
+     batches 0\nmark 1\nyes\nmark 1\nbytes 0000000000000000000000390000000002ebf1884b00000000000000000000000003e800000000000003e8ffffffffffffffffffffffffffff000000010e00000001026100\n\
+     F16 OffsetOutOfRange\n";
 
 #[test]
-fn a_record_is_one_word(rt: HostRuntime) {
-    assert_eq!(rt; words(), Ok([0xf070_0000_0000_0000, 0x0070_0000_1000_0001]));
-    assert_eq!(rt; version_after(0xf070_0000_0fff_fffe), Some(Ok(0x0fff_ffff)));
-    assert_eq!(rt;
-        version_after(0xf070_0000_0fff_ffff),
-        Some(Err(Refusal::RecordFull))
+fn read_back(rt: HostRuntime) {
+    is(&rt, seated(rt.alloc(), 1, &[], &READ), READ_TOLD);
+}
+
+static CHANGED: [Turn; 25] = [
+    Turn::Alter(0, IsrChange::Leave(1)),
+    Turn::Elect(0),
+    Turn::Adopt(0),
+    Turn::Alter(0, IsrChange::Join(1)),
+    Turn::Alter(0, IsrChange::Leave(1)),
+    Turn::Record,
+    Turn::Deliver(0),
+    Turn::InSync,
+    Turn::Record,
+    Turn::Alter(0, IsrChange::Join(1)),
+    Turn::Hand(1, 0),
+    Turn::Deliver(1),
+    Turn::Elect(0),
+    Turn::Alter(0, IsrChange::Leave(1)),
+    Turn::Elect(1),
+    Turn::Append(0, "p10"),
+    Turn::Raise(0),
+    Turn::Checkpoint(0),
+    Turn::Stop(0),
+    Turn::Raise(0),
+    Turn::Acked(0),
+    Turn::Restart(0),
+    Turn::Restart(0),
+    Turn::Checkpoint(0),
+    Turn::Watermark(0),
+];
+
+static CHANGED_TOLD: &str =
+    "F15 NotLeader\nrecord leader 0 epoch 0 version 1\nleads epoch 0 from 0\nF23 NotCaughtUp\nsent 0 proposes isr 0 version 1\n\
+     record leader 0 epoch 0 version 1\nsent 1 record leader 0 epoch 0 version 2\nisr 0 version 2\n\
+     record leader 0 epoch 0 version 2\n\
+     F34 ChangePending\nF29 StaleAnswer\ntaken\nrecord leader 0 epoch 1 version 3\nF21 NotInSync\nF21 NotInSync\nat 0\nmark 1\n\
+     checkpoint 1\nstopped\nF28 Down\nF28 Down\nlife 1 end 1 mark 1\nF28 Down\n\
+     checkpoint 1\nmark 1\n";
+
+#[test]
+fn alter_shows(rt: HostRuntime) {
+    is(&rt, seated(rt.alloc(), 2, &[], &CHANGED), CHANGED_TOLD);
+}
+
+// Node 0 leads and has two batches, of which node 1 has the first; node 1 is elected and commits another second one.
+static DIVERGED: [Turn; 18] = [
+    Turn::Elect(0),
+    Turn::Adopt(0),
+    Turn::Adopt(1),
+    Turn::Append(0, "p10"),
+    Turn::Ask(1),
+    Turn::Deliver(0),
+    Turn::Deliver(1),
+    Turn::Append(0, "p20"),
+    Turn::Elect(1),
+    Turn::Adopt(1),
+    Turn::Alter(1, IsrChange::Leave(0)),
+    Turn::Deliver(2),
+    Turn::Deliver(3),
+    Turn::Append(1, "p30"),
+    Turn::Raise(1),
+    Turn::Adopt(0),
+    Turn::Ask(0),
+    Turn::Deliver(4),
+];
+
+static DIVERGED_TOLD: &str =
+    "record leader 0 epoch 0 version 1\nleads epoch 0 from 0\nfollows 0 epoch 0\nat 0\nsent 0 asks from 0 no epoch\n\
+     sent 1 batches 1 mark 0\ntaken\nat 1\nrecord leader 1 epoch 1 version 2\nleads epoch 1 from 1\n\
+     sent 2 proposes isr 1 version 2\nsent 3 record leader 1 epoch 1 version 3\ntaken\nat 1\nmark 2\nfollows 1 epoch 1\n\
+     sent 4 asks from 2 epoch 0\nsent 5 diverges epoch 0 end 1\n";
+
+// Node 0 cuts, and joins once it has caught up; the proposal and its decision come twice.
+static CUT: [Turn; 18] = [
+    Turn::Deliver(5),
+    Turn::Alter(1, IsrChange::Join(0)),
+    Turn::Ask(0),
+    Turn::Deliver(6),
+    Turn::Alter(1, IsrChange::Join(0)),
+    Turn::Deliver(7),
+    Turn::Deliver(7),
+    Turn::Ask(0),
+    Turn::Decide(8),
+    Turn::Deliver(8),
+    Turn::Alter(1, IsrChange::Join(0)),
+    Turn::Deliver(10),
+    Turn::Deliver(11),
+    Turn::Deliver(10),
+    Turn::Deliver(12),
+    Turn::Record,
+    Turn::Read(0, 1),
+    Turn::Acked(0),
+];
+
+static CUT_TOLD: &str =
+    "taken\nF23 NotCaughtUp\nsent 6 asks from 1 epoch 0\nsent 7 batches 1 mark 2\nF23 NotCaughtUp\ntaken\nF29 StaleAnswer\n\
+     sent 8 asks from 2 epoch 1\nF29 StaleAnswer\nsent 9 batches 0 mark 2\nsent 10 proposes isr 0 1 version 3\n\
+     sent 11 record leader 1 epoch 1 version 4\ntaken\nsent 12 record leader 1 epoch 1 version 4\nF29 StaleAnswer\n\
+     record leader 1 epoch 1 version 4\nbatches 1, 1 time 30\nyes\n";
+
+#[test]
+fn cut_shows(rt: HostRuntime) {
+    is(&rt, seated(rt.alloc(), 2, &[], &DIVERGED), DIVERGED_TOLD);
+    is(&rt, seated(rt.alloc(), 2, &DIVERGED, &CUT), CUT_TOLD);
+}
+
+static CUT_LATE: [Turn; 3] = [Turn::Elect(1), Turn::Deliver(5), Turn::Ask(0)];
+
+// The record has left the epoch in which node 0 asked.
+#[test]
+fn a_cut_of_an_older_record_is_refused(rt: HostRuntime) {
+    is(
+        &rt,
+        seated(rt.alloc(), 2, &DIVERGED, &CUT_LATE),
+        "record leader 1 epoch 2 version 4\nF22 StaleRecord\nsent 6 asks from 2 epoch 0\n",
     );
 }
 
-// The word of the record that stands after a proposal that node 1 leaves, by a leader that knows the record of the first word.
-fn word_decided(known: u64, current: u64) -> Option<Result<u64, Refusal>> {
-    let known = unpack(known)?;
-    let isr = known.isr.without(1);
-    let proposal = Proposal {
-        from: 0,
-        known,
-        isr,
-    };
-    let decision = decided(&unpack(current)?, &proposal);
-    Some(decision.map(|made| pack(&made.decided)))
-}
+// Node 0 leads and has a batch, which node 1 takes.
+static FOLLOWED: [Turn; 7] = [
+    Turn::Elect(0),
+    Turn::Adopt(0),
+    Turn::Adopt(1),
+    Turn::Append(0, "p10"),
+    Turn::Ask(1),
+    Turn::Deliver(0),
+    Turn::Deliver(1),
+];
 
-// By the greatest version but one, and by the greatest.
+static RESTARTED: [Turn; 4] = [
+    Turn::Stop(0),
+    Turn::Restart(0),
+    Turn::Adopt(0),
+    Turn::Deliver(5),
+];
+
+static FOLLOWER_RESTARTED: [Turn; 6] = [
+    Turn::Ask(1),
+    Turn::Deliver(2),
+    Turn::Stop(1),
+    Turn::Restart(1),
+    Turn::Adopt(1),
+    Turn::Deliver(3),
+];
+
+// A diverging answer of an earlier life cuts nothing; one with batches is taken, as the log is the one asked by.
 #[test]
-fn a_proposal_is_followed_by_the_record_that_it_names(rt: HostRuntime) {
-    let (last, full) = (0xf070_0000_0fff_fffe, 0xf070_0000_0fff_ffff);
-    assert_eq!(rt; word_decided(last, last), Some(Ok(0xf050_0000_0fff_ffff)));
-    assert_eq!(rt; word_decided(last, full), Some(Ok(full)));
-    assert_eq!(rt; word_decided(full, full), Some(Err(Refusal::RecordFull)));
-}
-
-// Of which a segment has room for one batch of 69 bytes.
-const LIMITS: Limits = Limits {
-    segment_bytes: 137,
-    index_interval: 0,
-    max_batch: MAX_BATCH,
-};
-
-// The answers of a run, as the trace of events that name node 5, and the whole of each receipt. A run stops where its own lists
-// can't grow.
-fn played(alloc: Global, count: NodeId, events: Vec<Event>) -> Result<String, Refusal>
-    requires some { 0 < count }
-    requires most { count ≤ 7 }
-    requires nodes { AllByRecursion (IsAmong count) events.items }
-{
-    match run(alloc, count, &LIMITS, events) {
-        Ok(trace) => told_run(alloc, &trace),
-        Err(_) => Err(Refusal::Memory),
-    }
-}
-
-fn told_run(alloc: Global, trace: &Trace) -> Result<String, Refusal> {
-    let mut text = trace_of(alloc, &trace.outcomes)?;
-    for outcome in trace.outcomes.iter() {
-        if let Ok(EventAnswer::Answered(Answer::Appended(receipt))) = outcome {
-            push_receipt(&mut text, receipt)?;
-        }
-    }
-    Ok(text)
-}
-
-fn push_receipt(text: &mut String, receipt: &Receipt) -> Result<(), AllocError> {
-    let (base, last) = (receipt.base, receipt.last);
-    write!(
-        text,
-        "{base} to {last} epoch {} {}, ",
-        receipt.epoch, receipt.duplicate
-    )
-}
-
-fn acts(node: NodeId, act: Act) -> Event
-    ensures { result ≡ Acts node act }
-{
-    Event::Acts { node, act }
-}
-
-pub(crate) const MARKER: Marker = Marker {
-    producer_id: 5,
-    producer_epoch: 0,
-    coordinator_epoch: 7,
-    kind: Kind::Abort,
-    timestamp: 20,
-};
-
-// A marker with a field out of its range is none that can be handed in.
-#[test]
-fn markers_have_ranges(rt: HostRuntime) {
-    assert!(rt; HandedMarker::new(MARKER).is_some());
-    let late = Marker {
-        timestamp: 1 << 62,
-        ..MARKER
-    };
-    assert!(rt; HandedMarker::new(late).is_none());
-}
-
-// Three records come twice, the second time in the leader's next epoch.
-fn three_twice(alloc: Global) -> Result<String, Refusal> {
-    let marker = HandedMarker::new(MARKER).ok_or(Refusal::BadCount)?;
-    let bytes = bytes_of(alloc, "d9.0.0.3")?;
-    let again = bytes.share()?;
-    let events = vec![in alloc;
-        Event::Elect { node: 0 },
-        acts(0, Act::Plain(PlainAct::Adopt)),
-        acts(0, Act::Plain(PlainAct::Mark { marker })),
-        acts(0, Act::Produce { bytes }),
-        Event::Elect { node: 0 },
-        acts(0, Act::Plain(PlainAct::Adopt)),
-        acts(0, Act::Produce { bytes: again }),
-        acts(0, Act::Plain(PlainAct::Mark { marker })),
-        acts(0, Act::Plain(PlainAct::Raise)),
-        acts(0, Act::Plain(PlainAct::Committed { from: 2 })),
-        acts(0, Act::Plain(PlainAct::Read { from: 3 })),
-    ]?;
-    played(alloc, 1, events)
-}
-
-// The duplicate's receipt has the last offset and the epoch of the batch that stands.
-#[test]
-fn receipts_name_what_stands(rt: HostRuntime) {
-    assert_eq!(rt; is_kept(rt.alloc()), Ok(true));
+fn an_answer_of_an_earlier_life_cuts_nothing(rt: HostRuntime) {
     is(
         &rt,
-        three_twice(rt.alloc()),
-        "2 record leader 0 epoch 0 isr 0 version 1\n3 leads epoch 0 from 0\n4 at 0\n5 at 1\n\
-         6 record leader 0 epoch 1 isr 0 version 2\n7 leads epoch 1 from 4\n8 duplicate 1\n9 at 4\n10 mark 5\n\
-         11 read 2 2=61 3=61\n12 read 1 3=61\n\
-         0 to 0 epoch 0 false, 1 to 3 epoch 0 false, 1 to 3 epoch 0 true, 4 to 4 epoch 1 false, ",
+        seated(rt.alloc(), 2, &DIVERGED, &RESTARTED),
+        "stopped\nlife 1 end 2 mark 0\nfollows 1 epoch 1\nF29 StaleAnswer\n",
+    );
+    is(
+        &rt,
+        seated(rt.alloc(), 2, &FOLLOWED, &FOLLOWER_RESTARTED),
+        "sent 2 asks from 1 epoch 0\nsent 3 batches 0 mark 0\nstopped\nlife 1 end 1 mark 0\nfollows 0 epoch 0\ntaken\n",
+    );
+}
+
+static REPEATED: [Turn; 8] = [
+    Turn::Deliver(1),
+    Turn::Raise(0),
+    Turn::Ask(1),
+    Turn::Deliver(2),
+    Turn::Raise(0),
+    Turn::Deliver(3),
+    Turn::Watermark(0),
+    Turn::Watermark(1),
+];
+
+#[test]
+fn a_message_comes_twice(rt: HostRuntime) {
+    is(
+        &rt,
+        seated(rt.alloc(), 2, &FOLLOWED, &REPEATED),
+        "F29 StaleAnswer\nmark 0\nsent 2 asks from 1 epoch 0\nsent 3 batches 0 mark 0\nmark 1\ntaken\nmark 1\nmark 0\n",
+    );
+}
+
+static FENCED: [Turn; 11] = [
+    Turn::Elect(0),
+    Turn::Adopt(0),
+    Turn::Adopt(1),
+    Turn::Ask(1),
+    Turn::Elect(0),
+    Turn::Adopt(1),
+    Turn::Ask(1),
+    Turn::Append(0, "p10"),
+    Turn::Deliver(1),
+    Turn::Adopt(0),
+    Turn::Deliver(0),
+];
+
+static FENCED_TOLD: &str =
+    "record leader 0 epoch 0 version 1\nleads epoch 0 from 0\nfollows 0 epoch 0\nsent 0 asks from 0 no epoch\n\
+     record leader 0 epoch 1 version 2\nfollows 0 epoch 1\nsent 1 asks from 0 no epoch\nat 0\nF18 UnknownLeaderEpoch\n\
+     leads epoch 1 from 1\nF17 FencedLeaderEpoch\n";
+
+#[test]
+fn leader_epochs_fence(rt: HostRuntime) {
+    is(&rt, seated(rt.alloc(), 2, &[], &FENCED), FENCED_TOLD);
+}
+
+static APPENDED_TWICE: [Turn; 9] = [
+    Turn::Elect(0),
+    Turn::Adopt(0),
+    Turn::Append(0, "d9.0.0.1"),
+    Turn::Append(0, "d9.0.0.1"),
+    Turn::Append(0, "d9.0.2.1"),
+    Turn::Mark(0),
+    Turn::Acked(0),
+    Turn::Raise(0),
+    Turn::Acked(0),
+];
+
+static APPENDED_TWICE_TOLD: &str =
+    "record leader 0 epoch 0 version 1\nleads epoch 0 from 0\nat 0\nduplicate 0\nF12 OutOfOrderSequence\nat 1\nnot yet\n\
+     mark 2\nyes\n";
+
+#[test]
+fn a_batch_that_comes_twice_is_kept_once(rt: HostRuntime) {
+    is(
+        &rt,
+        seated(rt.alloc(), 1, &[], &APPENDED_TWICE),
+        APPENDED_TWICE_TOLD,
     );
 }

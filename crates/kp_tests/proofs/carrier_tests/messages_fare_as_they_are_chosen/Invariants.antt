@@ -1,4 +1,0 @@
-use Rattle.kp_tests.proofs.carrier_tests.messages_fare_as_they_are_chosen.Given as goal
-
-abbrev pub ghosts-comes : goal.ghosts-comes
-ghosts-comes g a = record { table = a.opened }

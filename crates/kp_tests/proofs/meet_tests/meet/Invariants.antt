@@ -1,4 +1,0 @@
-use Rattle.kp_tests.proofs.meet_tests.meet.Given as goal
-
-abbrev pub ghosts-read_by_two : goal.ghosts-read_by_two
-ghosts-read_by_two g a = record { table = a.opened }

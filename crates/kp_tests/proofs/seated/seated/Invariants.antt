@@ -1,4 +1,0 @@
-use Rattle.kp_tests.proofs.seated.seated.Given as goal
-
-abbrev pub ghosts-answers : goal.ghosts-answers
-ghosts-answers a = record { table = a.opened }

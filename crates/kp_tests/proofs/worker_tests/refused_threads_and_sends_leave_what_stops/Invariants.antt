@@ -1,4 +1,0 @@
-use Rattle.kp_tests.proofs.worker_tests.refused_threads_and_sends_leave_what_stops.Given as goal
-
-abbrev pub ghosts-stopped_after : goal.ghosts-stopped_after
-ghosts-stopped_after g a = record { table = a.opened }

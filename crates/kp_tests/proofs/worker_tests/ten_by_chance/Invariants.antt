@@ -1,4 +1,0 @@
-use Rattle.kp_tests.proofs.worker_tests.ten_by_chance.Given as goal
-
-abbrev pub ghosts-raced : goal.ghosts-raced
-ghosts-raced g a = record { table = a.opened }
