@@ -9,7 +9,9 @@ use kp_model::MessageBody;
 /// pass shows, one that was sent in the board's run, has this body's letter: who sent it to whom, what it asks for, and what it
 /// answers. (Own rule.)
 pub struct Message<B: BoardName> {
+    /// What goes over the wire.
     pub body: MessageBody,
+    /// What is known of it: that it was sent.
     pub pass: MessagePass<B>,
     pub ghost tied: { letter_of pass ≡ letter body },
 }

@@ -53,6 +53,7 @@ impl<B: BoardName> Model for NodePass<B> {
 /// A node's pass that nobody has used: its node is as at the start. `Board::new` gives each node's once.
 #[derive(Drop)]
 pub struct FreshPass<B: BoardName> {
+    /// The pass of a node that is idle, with an empty log.
     pub pass: NodePass<B>,
     pub ghost fresh: { pass ≡ new_node (B.table.words / 2) pass.number },
     pub ghost inside: { 2 * pass.number + 2 < B.table.words },

@@ -82,7 +82,9 @@ impl NodeSet {
 /// Who leads, in which leader epoch.
 #[derive(Clone, Copy, PartialEq, Eq)]
 pub struct Leader {
+    /// The number of the node that leads.
     pub node: NodeId,
+    /// Its leader epoch.
     pub epoch: Epoch,
 }
 
@@ -93,6 +95,7 @@ pub struct LeaderAndIsr {
     pub leader: Option<Leader>,
     /// The in-sync replicas.
     pub isr: NodeSet,
+    /// Every change raises it by 1; below 2^28.
     pub version: u32,
     pub ghost lawful: { ForSome leader (λ l. l.epoch + 1 < 2 ^ 24) },
     pub ghost numbered: { ForSome leader (λ l. l.node < most_nodes) },

@@ -16,6 +16,7 @@ pub struct Plan {
 /// What came of a race. (Own rule.)
 #[derive(Clone, Copy, PartialEq, Eq)]
 pub struct Outcome {
+    /// How many nodes there were.
     pub nodes: NodeId,
     /// How many batches producers have a receipt of, each counted once.
     pub receipts: u64,

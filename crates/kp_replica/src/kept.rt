@@ -75,7 +75,7 @@ impl KeptNode {
         ensures value { result ≡ IsDown }
         ensures down { is_down self.now.state.mode ≡ true }
     {
-        let _ = &self.life;
+        let _ = &self.life; // proof: by a field it is known what the node shows
         Refusal::Down
     }
 

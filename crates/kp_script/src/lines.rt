@@ -12,8 +12,11 @@ pub const LONGEST_LINE: usize = 2_100_000;
 /// A line that counts, its number, and what follows it.
 #[derive(Clone, Copy)]
 pub struct CountedLine<'a> {
+    /// The line's number, from 1 on.
     pub number: u64,
+    /// Its bytes, without the line feed.
     pub line: &'a [u8],
+    /// The bytes behind it.
     pub rest: &'a [u8],
 }
 

@@ -31,12 +31,15 @@ pub enum EventAnswer {
 /// The answers to the events, in their order. A refused event stands in it too.
 #[derive(Drop)]
 pub struct Trace {
+    /// One for each event.
     pub outcomes: Vec<Result<EventAnswer, Refusal>>,
 }
 
 /// The run's own lists couldn't grow: the answers so far, and the events that haven't happened.
 #[derive(Drop)]
 pub struct Stopped {
+    /// The answers to the events that have happened.
     pub trace: Trace,
+    /// The events that are left, the next one first.
     pub rest: VecDeque<Event>,
 }
