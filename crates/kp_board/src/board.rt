@@ -1,6 +1,6 @@
 //! The board, and a caller's steps.
-ghost use Rattle.std.specs.Prelude.{◌≡◌, ◌⊎◌, ℕ, ◌+◌, ◌*◌, ◌<◌, ◌≤◌, ◌∷◌, length, slice_get, Some, Ok, Err, IfOk, IfErr, OnErr, MatchBool, None, map, [], Contains};
-ghost use Rattle.kp_types.specs.declared.refusal.Refusal.TheVariants.{Memory, StaleRecord};
+ghost use Rattle.std.specs.Prelude.{◌≡◌, ℕ, ◌+◌, ◌*◌, ◌<◌, ◌≤◌, ◌∷◌, length, slice_get, Some, Ok, Err, IfOk, IfErr, MatchBool, None, map, [], Contains};
+ghost use Rattle.kp_types.specs.declared.refusal.Refusal.TheVariants.{Memory};
 ghost use Rattle.kp_model.specs.World.{LeaderAndIsr as ModelRecord, most_nodes};
 ghost use Rattle.kp_model.specs.Controller.{elected};
 ghost use Rattle.kp_model.specs.Step.{elect_cause};
@@ -8,12 +8,11 @@ ghost use Rattle.kp_model.specs.Set.{record_of};
 ghost use Rattle.kp_control.specs.Word.{packed};
 ghost use Rattle.kp_board.specs.Views.{KeptReceipt, new_node, new_caller};
 ghost use Rattle.kp_board.specs.Rule.{ShowsLastRecord, ShowsElection};
-ghost use Rattle.kp_board.specs.Plays.{Finds, IsPassedBy, Learned, electing};
+ghost use Rattle.kp_board.specs.Plays.{Finds, Learned, electing};
+ghost use Rattle.kp_board.specs.Calls.{Elects, Looks};
 
 use crate::passes::{BoardName, Callers, FreshPass, NodePass, Pass};
-use crate::plays::{
-    Admits, Election, Elects, Founds, KeepsReceipt, Looks, LooksAtMark, ReceiptFiling,
-};
+use crate::plays::{self, Admits, Election, Founds, KeepsReceipt, LooksAtMark, ReceiptFiling};
 use crate::rule::{BoardSeat, BoardTable};
 use crate::word::record_of_word;
 use kp_control::{elected, pack};
@@ -164,7 +163,7 @@ impl<B: BoardName> Board<B> {
         ensures { (s : ModelRecord) × Finds pass.old.shown s result × (pass.new ≡ record pass.old { shown = s })
             × ShowsLastRecord (record pass.old { shown = s }) }
     {
-        self.table.shared.load::<Looks>(&mut pass.seat, 0)
+        self.table.shared.load::<plays::Looks>(&mut pass.seat, 0)
     }
 
     // The word of the record that is then the one shown, and that record.
@@ -181,9 +180,7 @@ impl<B: BoardName> Board<B> {
     /// The controller's record, which is then the one shown: some run has all that the pass shows, and this is its last record.
     /// Its version is not below the one shown before. One load, without memory or waiting. (Own rule.)
     pub fn record(&self, pass: &mut Pass<B>) -> LeaderAndIsr
-        ensures shown { pass.new ≡ record pass.old { shown = record_of result } }
-        ensures later { pass.old.shown.version ≤ (record_of result).version }
-        ensures of_run { ShowsLastRecord pass.new }
+        ensures { Looks pass.old pass.new result }
     {
         let found = self.found(pass);
         found.1
@@ -217,7 +214,7 @@ impl<B: BoardName> Board<B> {
         let _nodes = self.nodes;
         self.table
             .shared
-            .compare_exchange::<Elects<E>>(&mut pass.seat, 0, shown, next)
+            .compare_exchange::<plays::Elects<E>>(&mut pass.seat, 0, shown, next)
             == shown
     }
 
@@ -226,12 +223,7 @@ impl<B: BoardName> Board<B> {
     /// full, F22 where another change came first; nothing has changed then but the record shown. A load and one exchange, without
     /// memory or waiting. (Own rule.)
     pub fn elect(&self, pass: &mut Pass<B>, node: NodeId) -> Result<LeaderAndIsr, Refusal>
-        ensures elected { IfOk result (λ r. (c : ModelRecord) × (pass.old.shown.version ≤ c.version) × (elect_cause c node ≡ None)
-            × (record_of r ≡ elected c node) × (pass.new ≡ electing (record_of r) pass.old) × ShowsElection node c pass.new) }
-        ensures refused { IfErr result (λ f. ((f ≡ StaleRecord) × IsPassedBy pass.old.shown pass.new.shown node)
-            ⊎ (elect_cause pass.new.shown node ≡ Some f)) }
-        ensures later { pass.old.shown.version ≤ pass.new.shown.version }
-        ensures pass { OnErr result ((pass.new ≡ record pass.old { shown = pass.new.shown }) × ShowsLastRecord pass.new) }
+        ensures { Elects node pass.old pass.new result }
     {
         let shown = self.found(pass);
         let next = elected(&shown.1, node)?;

@@ -1,16 +1,18 @@
 //! The controller's decisions: each is one exchange of word 0, with a caller's pass that was told of the proposal.
-ghost use Rattle.std.specs.Prelude.{◌≡◌, ◌<◌, ◌≤◌, [], ◌∷◌, IfOk, IfErr, OnErr, None};
-ghost use Rattle.kp_model.specs.World.{LeaderAndIsr as ModelRecord, Message as ModelMessage, Proposal as ModelProposal, Decision as ModelDecision, Proposes, Decides};
-ghost use Rattle.kp_model.specs.Letter.{letter, proposal_of, Proposing, Deciding};
-ghost use Rattle.kp_model.specs.Step.{decide_cause, decision};
+ghost use Rattle.std.specs.Prelude.{◌≡◌, [], ◌∷◌};
+ghost use Rattle.kp_model.specs.World.{LeaderAndIsr as ModelRecord, Proposes};
+ghost use Rattle.kp_model.specs.Letter.{proposal_of};
+ghost use Rattle.kp_model.specs.Step.{decide_cause};
 ghost use Rattle.kp_control.specs.Word.{packed};
 ghost use Rattle.kp_board.specs.Plays.{Finds};
-ghost use Rattle.kp_board.specs.Decisions.{IsUndecided, ShowsAfter, ShowsDecision, deciding, record_after};
+ghost use Rattle.kp_board.specs.Decisions.{ShowsAfter, record_after};
+ghost use Rattle.kp_board.specs.Posts.{posted, post_of};
+ghost use Rattle.kp_board.specs.Calls.{DecidesOn};
 
 use crate::board::Board;
 use crate::message::Message;
 use crate::passes::{BoardName, Pass};
-use crate::plays::DecidesOn;
+use crate::plays;
 use crate::word::record_of_word;
 use kp_control::{decided, pack};
 use kp_model::{MessageBody, Proposal};
@@ -40,7 +42,7 @@ impl<B: BoardName> Board<B> {
         let new = word_after(proposal);
         self.table
             .shared
-            .compare_exchange::<DecidesOn>(&mut pass.seat, 0, old, new)
+            .compare_exchange::<plays::DecidesOn>(&mut pass.seat, 0, old, new)
     }
 
     /// The controller's decision on a proposal: one event of the run decided on it. Where the record still is the one that the
@@ -50,14 +52,7 @@ impl<B: BoardName> Board<B> {
     /// is gone then, and nothing has changed but the record shown. One exchange of word 0 and two loads, without memory or
     /// waiting. (KIP-497; own rule.)
     pub fn decide(&self, pass: &mut Pass<B>, message: Message<B>) -> Result<Message<B>, Refusal>
-        ensures decided { IfOk result (λ answer. (p : ModelProposal) × (c : ModelRecord) × (letter message.body ≡ Proposing p)
-            × (answer.pass ≡ Decides (decision c p)) × (letter answer.body ≡ Deciding (decision c p))
-            × (decide_cause c p ≡ None) × (pass.old.shown.version ≤ c.version) × (pass.new ≡ deciding c p pass.old)
-            × ShowsDecision p c pass.new) }
-        ensures newer { IfOk result (λ answer. (d : ModelDecision) × (letter answer.body ≡ Deciding d)
-            × (d.proposal.known.version < d.decided.version)) }
-        ensures refused { IfErr result (IsUndecided (letter message.body) pass.old pass.new) }
-        ensures pass { OnErr result (pass.new ≡ record pass.old { sent = pass.new.sent; shown = pass.new.shown }) }
+        ensures { DecidesOn (posted message) pass.old pass.new (post_of result) }
     {
         let (body, told) = message.into_parts();
         let MessageBody::Proposal(proposal) = body else {
@@ -65,11 +60,15 @@ impl<B: BoardName> Board<B> {
         };
         self.hear(pass, told);
         let found = self.exchange_decided(pass, &proposal);
-        let decision = decided(&record_of_word(found), &proposal)?;
-        let answer = self.heard(pass);
-        Ok(Message {
-            body: MessageBody::Decision(decision),
-            pass: answer,
-        })
+        match decided(&record_of_word(found), &proposal) {
+            Ok(decision) => {
+                let answer = self.heard(pass);
+                Ok(Message {
+                    body: MessageBody::Decision(decision),
+                    pass: answer,
+                })
+            }
+            Err(refusal) => Err(refusal),
+        }
     }
 }

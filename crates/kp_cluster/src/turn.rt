@@ -1,6 +1,6 @@
 //! What a node does when it is its turn.
 
-ghost use Rattle.kp_model.specs.Letter.{letter};
+ghost use Rattle.kp_board.specs.Posts.{posts_of};
 ghost use Rattle.kp_cluster.specs.Turn.{BringsUp, CatchesUp, AsksOrRaises, CatchesUpAndAsks, TakesTurn};
 
 use kp_board::{BoardName, Message};
@@ -29,7 +29,7 @@ fn catch_up<B: BoardName>(node: &mut Node<B>) -> Result<(), Refusal>
 
 // F15 says that it follows nobody, or that it doesn't lead.
 fn ask_or_raise<B: BoardName>(node: &mut Node<B>) -> Result<Option<Message<B>>, Refusal>
-    ensures { AsksOrRaises (λ m. m.pass) (λ m. m.body) node.old node.new result }
+    ensures { AsksOrRaises node.old node.new (posts_of result) }
 {
     match node.ask() {
         Ok(message) => Ok(Some(message)),
@@ -42,7 +42,7 @@ fn ask_or_raise<B: BoardName>(node: &mut Node<B>) -> Result<Option<Message<B>>, 
 }
 
 fn catch_up_and_ask<B: BoardName>(node: &mut Node<B>) -> Result<Option<Message<B>>, Refusal>
-    ensures { CatchesUpAndAsks (λ m. m.pass) (λ m. m.body) node.old node.new result }
+    ensures { CatchesUpAndAsks node.old node.new (posts_of result) }
 {
     catch_up(node)?;
     ask_or_raise(node)
@@ -52,7 +52,7 @@ fn catch_up_and_ask<B: BoardName>(node: &mut Node<B>) -> Result<Option<Message<B
 /// high watermark if it leads: the calls of `Node` of these names, of which the first that is refused is the last. No refusal is
 /// F28 of a node that is up, F22 of a record that is no news, F15 of a node that follows nobody or doesn't lead. (Own rule.)
 pub fn take_turn<B: BoardName>(node: &mut Node<B>) -> Result<Option<Message<B>>, Refusal>
-    ensures { TakesTurn (λ m. m.pass) (λ m. m.body) node.old node.new result }
+    ensures { TakesTurn node.old node.new (posts_of result) }
 {
     bring_up(node)?;
     catch_up_and_ask(node)

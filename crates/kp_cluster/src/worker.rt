@@ -1,7 +1,8 @@
 //! A worker's steps.
 
-ghost use Rattle.std.specs.Prelude.{◌≡◌, unwrap_or};
+ghost use Rattle.std.specs.Prelude.{◌≡◌, option_map, unwrap_or};
 ghost use Rattle.kp_model.specs.Letter.{goes_to, letter};
+ghost use Rattle.kp_board.specs.Posts.{posted, posts_of};
 ghost use Rattle.kp_cluster.specs.Turn.{Handles};
 
 use crate::gate::Gate;
@@ -50,7 +51,7 @@ pub fn handle<B: BoardName>(
     node: &mut Node<B>,
     message: Option<Message<B>>,
 ) -> Result<Option<Message<B>>, Refusal>
-    ensures { Handles (λ m. m.pass) (λ m. m.body) message node.old node.new result }
+    ensures { Handles (option_map posted message) node.old node.new (posts_of result) }
 {
     match message {
         Some(message) => node.step(message),

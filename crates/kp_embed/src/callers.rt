@@ -4,10 +4,12 @@ ghost use Rattle.kp_types.specs.declared.refusal.Refusal.{Refusal};
 ghost use Rattle.kp_model.specs.declared.record.LeaderAndIsr.{LeaderAndIsr};
 ghost use Rattle.kp_handles.specs.declared.misuse.Misuse.{Misuse};
 ghost use Rattle.kp_handles.specs.Called.{AreOfOne, CallerCalled};
-ghost use Rattle.kp_handles.specs.CallerCalls.{Elects, Looks, LearnsMark, ReceiptsTold};
+ghost use Rattle.kp_board.specs.Calls.{Elects, Looks};
+ghost use Rattle.kp_handles.specs.CallerCalls.{Answers, LearnsMark, ReceiptsTold};
 ghost use Rattle.kp_handles.specs.Numbers.{answer_number, done_number, mark_number};
 ghost use Rattle.kp_handles.specs.Outs.{WritesMark, WritesOut, record_out};
 
+use crate::answers::{done, told};
 use kp_handles::{
     Handle, Misuse, RecordOut, elect, misuse_number, record, refusal_number, tell_receipts,
     watermark,
@@ -19,43 +21,29 @@ use std::marker::Brand;
 #[unsafe(no_mangle)]
 pub extern "C" fn kp_elect(alloc: Global, pass: &mut Handle, node: u8, found: &mut RecordOut) -> u32
     ensures called { (answer : Result (Result LeaderAndIsr Refusal) Misuse) × (result ≡ answer_number answer)
-        × CallerCalled pass.old.object pass.new.object answer (Elects node)
+        × CallerCalled pass.old.object pass.new.object answer (λ _. Elects node)
         × WritesOut record_out answer found.old found.new }
     ensures cluster { pass.new.table ≡ pass.old.table }
 {
-    match elect::<Brand>(alloc, pass, node) {
-        Ok(Ok(seen)) => {
-            *found = RecordOut::of(&seen);
-            0
-        }
-        Ok(Err(refusal)) => refusal_number(&refusal),
-        Err(misuse) => misuse_number(&misuse),
-    }
+    told(elect::<Brand>(alloc, pass, node), found)
 }
 
 /// Looks at the controller's record.
 #[unsafe(no_mangle)]
 pub extern "C" fn kp_record(alloc: Global, pass: &mut Handle, found: &mut RecordOut) -> u32
     ensures called { (answer : Result (Result LeaderAndIsr Refusal) Misuse) × (result ≡ answer_number answer)
-        × CallerCalled pass.old.object pass.new.object answer Looks
+        × CallerCalled pass.old.object pass.new.object answer (λ _ c d. Answers (Looks c d))
         × WritesOut record_out answer found.old found.new }
     ensures cluster { pass.new.table ≡ pass.old.table }
 {
-    match record::<Brand>(alloc, pass) {
-        Ok(Ok(seen)) => {
-            *found = RecordOut::of(&seen);
-            0
-        }
-        Ok(Err(refusal)) => refusal_number(&refusal),
-        Err(misuse) => misuse_number(&misuse),
-    }
+    told(record::<Brand>(alloc, pass), found)
 }
 
 /// Looks at a node's high watermark.
 #[unsafe(no_mangle)]
 pub extern "C" fn kp_watermark(alloc: Global, pass: &mut Handle, node: u8, offset: &mut u64) -> u32
     ensures called { (answer : Result (Result (Option ℕ) Refusal) Misuse) × (result ≡ mark_number answer)
-        × CallerCalled pass.old.object pass.new.object answer (LearnsMark node)
+        × CallerCalled pass.old.object pass.new.object answer (λ n c d. Answers (LearnsMark node n c d))
         × WritesMark answer offset.old offset.new }
     ensures cluster { pass.new.table ≡ pass.old.table }
 {
@@ -79,8 +67,5 @@ pub extern "C" fn kp_tell_receipts(alloc: Global, from: &mut Handle, to: &mut Ha
         × ReceiptsTold from.old.object from.new.object to.old.object to.new.object answer }
     ensures cluster { (from.new.table ≡ from.old.table) × (to.new.table ≡ to.old.table) }
 {
-    match tell_receipts::<Brand>(alloc, from, to) {
-        Ok(()) => 0,
-        Err(misuse) => misuse_number(&misuse),
-    }
+    done(tell_receipts::<Brand>(alloc, from, to))
 }

@@ -6,10 +6,9 @@ ghost use Rattle.kp_handles.specs.Outs.{limits_in};
 ghost use Rattle.kp_handles.specs.declared.misuse.Misuse.{Misuse};
 ghost use Rattle.kp_handles.specs.declared.misuse.Misuse.TheVariants.{Closed};
 
+use crate::answers::done;
 use kp_board::Opened;
-use kp_handles::{
-    Handle, LimitsIn, Misuse, close, is_open, misuse_number, open, open_caller, open_node,
-};
+use kp_handles::{Handle, LimitsIn, Misuse, close, is_open, open, open_caller, open_node};
 use kp_types::{Limits, MOST_NODES};
 use std::alloc::Global;
 use std::marker::Brand;
@@ -42,10 +41,7 @@ pub extern "C" fn kp_open(alloc: Global, cluster: &mut Handle, nodes: u8, limits
         × OnOk answer (IsCluster nodes (limits_in limits.now) cluster.new.object × (cluster.old.object ≡ None))
         × OnErr answer (cluster.new ≡ cluster.old) × IfErr answer (BadBoard nodes cluster.old.object) }
 {
-    match open_board(alloc, cluster, nodes, &limits.limits()) {
-        Ok(()) => 0,
-        Err(misuse) => misuse_number(&misuse),
-    }
+    done(open_board(alloc, cluster, nodes, &limits.limits()))
 }
 
 /// Opens the cluster's next node.
@@ -57,10 +53,7 @@ pub extern "C" fn kp_open_node(alloc: Global, cluster: &mut Handle, node: &mut H
         × IfErr answer (BadNodeOpening cluster.old.object node.old.object) }
     ensures table { cluster.new.table ≡ cluster.old.table }
 {
-    match open_node::<Brand>(alloc, cluster, node) {
-        Ok(()) => 0,
-        Err(misuse) => misuse_number(&misuse),
-    }
+    done(open_node::<Brand>(alloc, cluster, node))
 }
 
 /// Opens a new caller's pass of the cluster.
@@ -72,10 +65,7 @@ pub extern "C" fn kp_open_pass(alloc: Global, cluster: &mut Handle, pass: &mut H
         × IfErr answer (BadCallerOpening cluster.old.object pass.old.object) }
     ensures table { cluster.new.table ≡ cluster.old.table }
 {
-    match open_caller::<Brand>(alloc, cluster, pass) {
-        Ok(()) => 0,
-        Err(misuse) => misuse_number(&misuse),
-    }
+    done(open_caller::<Brand>(alloc, cluster, pass))
 }
 
 /// Closes a handle, with all that it holds.
@@ -85,8 +75,5 @@ pub extern "C" fn kp_close(alloc: Global, handle: &mut Handle) -> u32
     ensures called { (answer : Result (Unit {0}) Misuse) × (result ≡ done_number answer)
         × OnErr answer (handle.new ≡ handle.old) × IfErr answer (λ why. (why ≡ Closed) × (handle.old.object ≡ None)) }
 {
-    match close::<Brand>(alloc, handle) {
-        Ok(()) => 0,
-        Err(misuse) => misuse_number(&misuse),
-    }
+    done(close::<Brand>(alloc, handle))
 }

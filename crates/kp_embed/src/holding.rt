@@ -5,6 +5,7 @@ ghost use Rattle.kp_handles.specs.Numbers.{done_number};
 ghost use Rattle.kp_handles.specs.declared.misuse.Misuse.{Misuse};
 ghost use Rattle.kp_handles.specs.declared.outs.ValueOut.{ValueOut};
 
+use crate::answers::done;
 use kp_handles::{
     Handle, ValueOut, addressee, batch_size, count, misuse_number, record_at, write_batch,
     write_value,
@@ -58,10 +59,7 @@ pub extern "C" fn kp_batch(alloc: Global, batches: &mut Handle, index: usize, to
         × IfErr answer (BadBatch index (length to.old) batches.old.object) × OnErr answer (to.new ≡ to.old) }
     ensures same { batches.new.object ≡ batches.old.object }
 {
-    match write_batch::<Brand>(alloc, batches, index, to) {
-        Ok(()) => 0,
-        Err(misuse) => misuse_number(&misuse),
-    }
+    done(write_batch::<Brand>(alloc, batches, index, to))
 }
 
 /// One of the records, but for the bytes of its value.
@@ -93,10 +91,7 @@ pub extern "C" fn kp_value(alloc: Global, records: &mut Handle, index: usize, to
         × IfErr answer (BadValue index (length to.old) records.old.object) × OnErr answer (to.new ≡ to.old) }
     ensures same { records.new.object ≡ records.old.object }
 {
-    match write_value::<Brand>(alloc, records, index, to) {
-        Ok(()) => 0,
-        Err(misuse) => misuse_number(&misuse),
-    }
+    done(write_value::<Brand>(alloc, records, index, to))
 }
 
 /// The node that a message goes to, or 255 for the controller.

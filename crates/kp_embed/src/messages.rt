@@ -2,12 +2,14 @@
 ghost use Rattle.std.specs.Prelude.{◌≡◌, Result, IfSome};
 ghost use Rattle.kp_types.specs.declared.refusal.Refusal.{Refusal};
 ghost use Rattle.kp_handles.specs.Called.{AreOfOne};
-ghost use Rattle.kp_handles.specs.Messages.{Alters, Asks, DecideCalled, SendCalled, StepCalled};
+ghost use Rattle.kp_node.specs.MessageCalls.{Alters, Asks};
+ghost use Rattle.kp_handles.specs.Messages.{DecideCalled, SendCalled, StepCalled};
 ghost use Rattle.kp_handles.specs.Numbers.{answer_number};
 ghost use Rattle.kp_handles.specs.Outs.{change_in};
 ghost use Rattle.kp_handles.specs.declared.misuse.Misuse.{Misuse};
 
-use kp_handles::{Handle, change_in, decide, misuse_number, refusal_number, send, step};
+use crate::answers::number;
+use kp_handles::{Handle, change_in, decide, send, step};
 use std::alloc::Global;
 use std::marker::Brand;
 
@@ -19,11 +21,7 @@ pub extern "C" fn kp_ask(alloc: Global, node: &mut Handle, message: &mut Handle)
     ensures cluster { node.new.table ≡ node.old.table }
     ensures named { result ≡ 0 → message.new.table ≡ node.old.table }
 {
-    match send::<Brand>(alloc, node, None, message) {
-        Ok(Ok(())) => 0,
-        Ok(Err(refusal)) => refusal_number(&refusal),
-        Err(misuse) => misuse_number(&misuse),
-    }
+    number(send::<Brand>(alloc, node, None, message))
 }
 
 /// A node proposes a change of the in-sync replicas, into a closed handle.
@@ -40,11 +38,7 @@ pub extern "C" fn kp_alter(
     ensures cluster { node.new.table ≡ node.old.table }
     ensures named { result ≡ 0 → message.new.table ≡ node.old.table }
 {
-    match send::<Brand>(alloc, node, Some(change_in(joins, which)), message) {
-        Ok(Ok(())) => 0,
-        Ok(Err(refusal)) => refusal_number(&refusal),
-        Err(misuse) => misuse_number(&misuse),
-    }
+    number(send::<Brand>(alloc, node, Some(change_in(joins, which)), message))
 }
 
 /// A message comes to a node; its handle holds the answer then, or is closed.
@@ -57,11 +51,7 @@ pub extern "C" fn kp_step(alloc: Global, node: &mut Handle, message: &mut Handle
     ensures cluster { node.new.table ≡ node.old.table }
     ensures named { IfSome message.new.object (λ _. message.new.table ≡ message.old.table) }
 {
-    match step::<Brand>(alloc, node, message) {
-        Ok(Ok(())) => 0,
-        Ok(Err(refusal)) => refusal_number(&refusal),
-        Err(misuse) => misuse_number(&misuse),
-    }
+    number(step::<Brand>(alloc, node, message))
 }
 
 /// The controller decides on a proposal; its handle holds the answer then, or is closed.
@@ -74,9 +64,5 @@ pub extern "C" fn kp_decide(alloc: Global, pass: &mut Handle, message: &mut Hand
     ensures cluster { pass.new.table ≡ pass.old.table }
     ensures named { IfSome message.new.object (λ _. message.new.table ≡ message.old.table) }
 {
-    match decide::<Brand>(alloc, pass, message) {
-        Ok(Ok(())) => 0,
-        Ok(Err(refusal)) => refusal_number(&refusal),
-        Err(misuse) => misuse_number(&misuse),
-    }
+    number(decide::<Brand>(alloc, pass, message))
 }

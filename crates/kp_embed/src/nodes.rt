@@ -5,14 +5,12 @@ ghost use Rattle.kp_replica.specs.declared.act.Answer.{Answer};
 ghost use Rattle.kp_replica.specs.declared.adopting.Role.{Role};
 ghost use Rattle.kp_handles.specs.declared.misuse.Misuse.{Misuse};
 ghost use Rattle.kp_handles.specs.Called.{NodeCalled};
-ghost use Rattle.kp_handles.specs.NodeCalls.{Adopts, Raises, Checkpoints, Stops, Restarts};
+ghost use Rattle.kp_node.specs.NodeCalls.{Adopts, Checkpoints, Raises, Restarts, Stops};
 ghost use Rattle.kp_handles.specs.Numbers.{answer_number};
 ghost use Rattle.kp_handles.specs.Outs.{WritesOut, restart_out, role_out};
 
-use kp_handles::{
-    Handle, RestartOut, RoleOut, adopt, checkpoint, misuse_number, raise, refusal_number, restart,
-    stop,
-};
+use crate::answers::{number, told};
+use kp_handles::{Handle, RestartOut, RoleOut, adopt, checkpoint, raise, restart, stop};
 use std::alloc::Global;
 use std::marker::Brand;
 
@@ -24,14 +22,7 @@ pub extern "C" fn kp_adopt(alloc: Global, node: &mut Handle, role: &mut RoleOut)
         × WritesOut role_out answer role.old role.new }
     ensures cluster { node.new.table ≡ node.old.table }
 {
-    match adopt::<Brand>(alloc, node) {
-        Ok(Ok(found)) => {
-            *role = RoleOut::of(found);
-            0
-        }
-        Ok(Err(refusal)) => refusal_number(&refusal),
-        Err(misuse) => misuse_number(&misuse),
-    }
+    told(adopt::<Brand>(alloc, node), role)
 }
 
 /// Raises the high watermark.
@@ -42,14 +33,7 @@ pub extern "C" fn kp_raise(alloc: Global, node: &mut Handle, offset: &mut u64) -
         × WritesOut (λ mark. mark) answer offset.old offset.new }
     ensures cluster { node.new.table ≡ node.old.table }
 {
-    match raise::<Brand>(alloc, node) {
-        Ok(Ok(found)) => {
-            *offset = found;
-            0
-        }
-        Ok(Err(refusal)) => refusal_number(&refusal),
-        Err(misuse) => misuse_number(&misuse),
-    }
+    told(raise::<Brand>(alloc, node), offset)
 }
 
 /// Notes the high watermark as the checkpoint.
@@ -60,14 +44,7 @@ pub extern "C" fn kp_checkpoint(alloc: Global, node: &mut Handle, offset: &mut u
         × WritesOut (λ mark. mark) answer offset.old offset.new }
     ensures cluster { node.new.table ≡ node.old.table }
 {
-    match checkpoint::<Brand>(alloc, node) {
-        Ok(Ok(found)) => {
-            *offset = found;
-            0
-        }
-        Ok(Err(refusal)) => refusal_number(&refusal),
-        Err(misuse) => misuse_number(&misuse),
-    }
+    told(checkpoint::<Brand>(alloc, node), offset)
 }
 
 /// Stops the node.
@@ -77,11 +54,7 @@ pub extern "C" fn kp_stop(alloc: Global, node: &mut Handle) -> u32
         × NodeCalled node.old.object node.new.object answer Stops }
     ensures cluster { node.new.table ≡ node.old.table }
 {
-    match stop::<Brand>(alloc, node) {
-        Ok(Ok(())) => 0,
-        Ok(Err(refusal)) => refusal_number(&refusal),
-        Err(misuse) => misuse_number(&misuse),
-    }
+    number(stop::<Brand>(alloc, node))
 }
 
 /// Starts the node again.
@@ -92,12 +65,5 @@ pub extern "C" fn kp_restart(alloc: Global, node: &mut Handle, restarted: &mut R
         × WritesOut restart_out answer restarted.old restarted.new }
     ensures cluster { node.new.table ≡ node.old.table }
 {
-    match restart::<Brand>(alloc, node) {
-        Ok(Ok(found)) => {
-            *restarted = RestartOut::of(&found);
-            0
-        }
-        Ok(Err(refusal)) => refusal_number(&refusal),
-        Err(misuse) => misuse_number(&misuse),
-    }
+    told(restart::<Brand>(alloc, node), restarted)
 }

@@ -8,11 +8,13 @@ ghost use Rattle.kp_handles.specs.Handing.{BadHand, HandedCalled, IsFree};
 ghost use Rattle.kp_handles.specs.Numbers.{answer_number, done_number};
 ghost use Rattle.kp_handles.specs.Objects.{handed as HandedBytes};
 ghost use Rattle.kp_handles.specs.Outs.{WritesOut, WritesReceipt, ack_out, marker_in, receipt_in};
-ghost use Rattle.kp_handles.specs.PairCalls.{Acks, BadBytes, BadMarker, FitsBatch, Marks, Produces};
+ghost use Rattle.kp_node.specs.CallerCalls.{Acks, Marks, Produces};
+ghost use Rattle.kp_handles.specs.PairCalls.{BadBytes, BadMarker, FitsBatch};
 ghost use Rattle.kp_handles.specs.declared.misuse.Misuse.{Misuse};
 
+use crate::answers::{done, told};
 use kp_handles::{
-    Called, Handle, MarkerIn, ReceiptOut, ack_out, acked, hand, mark_in, misuse_number, produce,
+    Called, Handle, MarkerIn, ReceiptOut, acked, hand, mark_in, misuse_number, produce,
     produce_handed, refusal_number,
 };
 use kp_replica::Receipt;
@@ -20,7 +22,7 @@ use std::alloc::Global;
 use std::marker::Brand;
 
 // The number of what was answered, whose receipt, or the place that it names, goes to the caller.
-fn told(answer: Called<Receipt>, receipt: &mut ReceiptOut) -> u32
+fn told_receipt(answer: Called<Receipt>, receipt: &mut ReceiptOut) -> u32
     ensures number { result ≡ answer_number answer }
     ensures receipt { WritesReceipt answer receipt.old receipt.new }
 {
@@ -53,7 +55,7 @@ pub extern "C" fn kp_produce(
         × OnOk answer (FitsBatch (length bytes.now)) × WritesReceipt answer receipt.old receipt.new }
     ensures cluster { (node.new.table ≡ node.old.table) × (pass.new.table ≡ pass.old.table) }
 {
-    told(produce::<Brand>(alloc, node, pass, bytes), receipt)
+    told_receipt(produce::<Brand>(alloc, node, pass, bytes), receipt)
 }
 
 /// Copies the bytes of a batch into a handle, and tests them.
@@ -65,10 +67,7 @@ pub extern "C" fn kp_hand(alloc: Global, handed: &mut Handle, bytes: &[u8]) -> u
         × OnErr answer (handed.new.object ≡ handed.old.object)
         × IfErr answer (BadHand (length bytes.now) handed.old.object) }
 {
-    match hand::<Brand>(alloc, handed, bytes) {
-        Ok(()) => 0,
-        Err(misuse) => misuse_number(&misuse),
-    }
+    done(hand::<Brand>(alloc, handed, bytes))
 }
 
 /// Hands a node the bytes that a handle holds, which it holds on.
@@ -88,7 +87,7 @@ pub extern "C" fn kp_produce_handed(
     ensures same { handed.new.object ≡ handed.old.object }
     ensures cluster { (node.new.table ≡ node.old.table) × (pass.new.table ≡ pass.old.table) }
 {
-    told(
+    told_receipt(
         produce_handed::<Brand, Brand>(alloc, node, pass, handed),
         receipt,
     )
@@ -110,7 +109,7 @@ pub extern "C" fn kp_mark(
         × WritesReceipt answer receipt.old receipt.new }
     ensures cluster { (node.new.table ≡ node.old.table) × (pass.new.table ≡ pass.old.table) }
 {
-    told(
+    told_receipt(
         mark_in::<Brand>(alloc, node, pass, marker.marker()),
         receipt,
     )
@@ -132,12 +131,5 @@ pub extern "C" fn kp_acked(
         × WritesOut ack_out answer ack.old ack.new }
     ensures cluster { (node.new.table ≡ node.old.table) × (pass.new.table ≡ pass.old.table) }
 {
-    match acked::<Brand>(alloc, node, pass, &receipt.receipt()) {
-        Ok(Ok(found)) => {
-            *ack = ack_out(found);
-            0
-        }
-        Ok(Err(refusal)) => refusal_number(&refusal),
-        Err(misuse) => misuse_number(&misuse),
-    }
+    told(acked::<Brand>(alloc, node, pass, &receipt.receipt()), ack)
 }

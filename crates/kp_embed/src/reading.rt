@@ -6,7 +6,8 @@ ghost use Rattle.kp_handles.specs.Numbers.{answer_number};
 ghost use Rattle.kp_handles.specs.Reading.{CommittedCalled, ReadCalled};
 ghost use Rattle.kp_handles.specs.declared.misuse.Misuse.{Misuse};
 
-use kp_handles::{Handle, misuse_number, read, read_committed, refusal_number};
+use crate::answers::number;
+use kp_handles::{Handle, read, read_committed};
 use std::alloc::Global;
 use std::marker::Brand;
 
@@ -25,11 +26,7 @@ pub extern "C" fn kp_read(
         × ReadCalled from node.old.object node.new.object pass.old.object pass.new.object batches.old.object batches.new.object answer }
     ensures cluster { (node.new.table ≡ node.old.table) × (pass.new.table ≡ pass.old.table) }
 {
-    match read::<Brand>(alloc, node, pass, from, batches) {
-        Ok(Ok(())) => 0,
-        Ok(Err(refusal)) => refusal_number(&refusal),
-        Err(misuse) => misuse_number(&misuse),
-    }
+    number(read::<Brand>(alloc, node, pass, from, batches))
 }
 
 /// Reads the records that a read-committed consumer gets into a closed handle.
@@ -47,9 +44,5 @@ pub extern "C" fn kp_read_committed(
         × CommittedCalled from node.old.object node.new.object pass.old.object pass.new.object records.old.object records.new.object answer }
     ensures cluster { (node.new.table ≡ node.old.table) × (pass.new.table ≡ pass.old.table) }
 {
-    match read_committed::<Brand>(alloc, node, pass, from, records) {
-        Ok(Ok(())) => 0,
-        Ok(Err(refusal)) => refusal_number(&refusal),
-        Err(misuse) => misuse_number(&misuse),
-    }
+    number(read_committed::<Brand>(alloc, node, pass, from, records))
 }

@@ -5,7 +5,8 @@ ghost use Rattle.kp_handles.specs.Numbers.{answer_number};
 ghost use Rattle.kp_handles.specs.Segments.{SegmentCalled, SegmentsCalled};
 ghost use Rattle.kp_handles.specs.declared.misuse.Misuse.{Misuse};
 
-use kp_handles::{Handle, misuse_number, refusal_number, segment, segments_of};
+use crate::answers::number;
+use kp_handles::{Handle, segment, segments_of};
 use std::alloc::Global;
 use std::marker::Brand;
 
@@ -16,11 +17,7 @@ pub extern "C" fn kp_segments(alloc: Global, node: &mut Handle, segments: &mut H
         × SegmentsCalled node.old.object node.new.object segments.old.object segments.new.object answer }
     ensures cluster { node.new.table ≡ node.old.table }
 {
-    match segments_of::<Brand>(alloc, node, segments) {
-        Ok(Ok(())) => 0,
-        Ok(Err(refusal)) => refusal_number(&refusal),
-        Err(misuse) => misuse_number(&misuse),
-    }
+    number(segments_of::<Brand>(alloc, node, segments))
 }
 
 /// Writes the name of a segment's file, and puts the segment's batches into a closed handle.
@@ -36,9 +33,5 @@ pub extern "C" fn kp_segment(
         × SegmentCalled segments.old.object index name.old name.new batches.old.object batches.new.object answer }
     ensures same { segments.new.object ≡ segments.old.object }
 {
-    match segment::<Brand>(alloc, segments, index, name, batches) {
-        Ok(Ok(())) => 0,
-        Ok(Err(refusal)) => refusal_number(&refusal),
-        Err(misuse) => misuse_number(&misuse),
-    }
+    number(segment::<Brand>(alloc, segments, index, name, batches))
 }

@@ -13,13 +13,14 @@ use Rattle.kp_types.specs.declared.refusal.Refusal.{Refusal}
 use Rattle.kp_board.specs.Views.{NodeView}
 use Rattle.kp_replica.specs.declared.producing.Receipt.{Receipt}
 use Rattle.kp_handles.specs.CallerCalls.{BadCallers, ReceiptsTold}
-use Rattle.kp_handles.specs.Called.{BadNode, BadPair, BadRoom, NoReason, PairCalled, PairMet}
+use Rattle.kp_handles.specs.Called.{BadCaller, BadNode, BadPair, BadRoom, NoReason, PairCalled}
 use Rattle.kp_handles.specs.Handing.{BadHand, BadHanded, BadShare, HandedCalled, IsFree}
 use Rattle.kp_handles.specs.Holding.{BadCount, BadLetter, BadPart, BadPartOf}
 use Rattle.kp_handles.specs.Messages.{BadDecide, BadStep}
 use Rattle.kp_handles.specs.Objects.{ObjectView, caller, cluster, handed, is_open, message, node, segments}
 use Rattle.kp_handles.specs.Opening.{BadCallerOpening, BadNodeOpening}
-use Rattle.kp_handles.specs.PairCalls.{BadBytes, FitsBatch, Produces}
+use Rattle.kp_node.specs.CallerCalls.{Produces}
+use Rattle.kp_handles.specs.PairCalls.{BadBytes, FitsBatch}
 use Rattle.kp_handles.specs.Segments.{BadName, BadSegment}
 use Rattle.kp_handles.specs.declared.misuse.Misuse.{Misuse}
 use Rattle.kp_handles.specs.declared.misuse.Misuse.TheVariants.{Closed, OtherKind, InUse, NoRoom, OutOfRange, BadLength}
@@ -28,7 +29,7 @@ unwrap : ObjectView → Option ObjectView → ObjectView
 unwrap d None = d
 unwrap d (Some o) = o
 
-same_object : (o p : ObjectView) (x : Option ObjectView) → x ≡ Some o → x ≡ Some p → o ≡ p
+pub same_object : (o p : ObjectView) (x : Option ObjectView) → x ≡ Some o → x ≡ Some p → o ≡ p
 unfolding unwrap
 same_object o p x e f = ap (unwrap o) (sym e ∙ f)
 
@@ -48,18 +49,26 @@ module _ (why : Misuse) (n m : Option ObjectView) where
   pub node_closed : (Own : Misuse → Type 0) → why ≡ Closed → n ≡ None → BadNode Own n why
   node_closed Own e none = subst (BadNode Own n) (sym e) none
 
+  pub caller_closed : why ≡ Closed → n ≡ None → BadCaller n why
+  caller_closed e none = subst (BadCaller n) (sym e) none
+
 -- what is so of objects is so of the handles that hold them
 module _ (why : Misuse) (n m out : Option ObjectView) (o l : ObjectView) (en : n ≡ Some o) where
   pub pair_bad : (Own : Misuse → Type 0) → m ≡ Some l → BadPair Own (Some o) (Some l) why → BadPair Own n m why
   pair_bad Own em bad =
       subst (λ (a : Option ObjectView). BadPair Own a m why) (sym en) (subst (λ (b : Option ObjectView). BadPair Own (Some o) b why) (sym em) bad)
 
-  pub give_bad : m ≡ Some l → out ≡ None → BadPair (BadRoom None) (Some o) (Some l) why → BadPair (BadRoom out) n m why
-  give_bad em eo bad = pair_bad (BadRoom out) em (subst (λ (r : Option ObjectView). BadPair (BadRoom r) (Some o) (Some l) why) (sym eo) bad)
+  pub pair_room : m ≡ Some l → out ≡ None → BadPair (BadRoom None) (Some o) (Some l) why → BadPair (BadRoom out) n m why
+  pair_room em eo bad = pair_bad (BadRoom out) em (subst (λ (r : Option ObjectView). BadPair (BadRoom r) (Some o) (Some l) why) (sym eo) bad)
 
-  pub node_bad : out ≡ None → BadNode (BadRoom None) (Some o) why → BadNode (BadRoom out) n why
-  node_bad eo bad =
-      subst (λ (a : Option ObjectView). BadNode (BadRoom out) a why) (sym en) (subst (λ (r : Option ObjectView). BadNode (BadRoom r) (Some o) why) (sym eo) bad)
+  pub node_bad : (Own : Misuse → Type 0) → BadNode Own (Some o) why → BadNode Own n why
+  node_bad Own bad = subst (λ (a : Option ObjectView). BadNode Own a why) (sym en) bad
+
+  pub node_room : out ≡ None → BadNode (BadRoom None) (Some o) why → BadNode (BadRoom out) n why
+  node_room eo bad = node_bad (BadRoom out) (subst (λ (r : Option ObjectView). BadNode (BadRoom r) (Some o) why) (sym eo) bad)
+
+  pub caller_bad : BadCaller (Some o) why → BadCaller n why
+  caller_bad bad = subst (λ (a : Option ObjectView). BadCaller a why) (sym en) bad
 
   pub node_opening : out ≡ None → BadNodeOpening (Some o) None why → BadNodeOpening n out why
   node_opening eo bad =
@@ -121,11 +130,12 @@ module _ (n m : Option ObjectView) (count : ℕ) where
 
 pub pair_copy : (bytes : List ℕ) (old new other then : ObjectView) (x y : SeatedNode) (k : ℕ) (c d : CallerView) (r : Result (Result Receipt Refusal) Misuse)
     → old ≡ node x → new ≡ node y → other ≡ caller k c → then ≡ caller k d → IfOk r (Produces bytes x y c d)
-    → OnErr r ((y ≡ x) × (d ≡ c)) → IfErr r (BadBytes (length bytes)) → PairMet (BadBytes (length bytes)) old new other then r (Produces bytes)
-pair_copy bytes old new other then x y k c d (Ok answer) e e' f f' made same only = (x, y, k, c, d, e, e', f, f', made)
+    → OnErr r ((y ≡ x) × (d ≡ c)) → IfErr r (BadBytes (length bytes)) → PairCalled (BadBytes (length bytes)) (Some old) (Some new) (Some other) (Some then) r (Produces bytes)
+pair_copy bytes old new other then x y k c d (Ok answer) e e' f f' made same only =
+    (x, y, k, c, d, ap (λ (v : ObjectView). Some v) e, ap (λ (v : ObjectView). Some v) e', ap (λ (v : ObjectView). Some v) f, ap (λ (v : ObjectView). Some v) f', made)
 pair_copy bytes old new other then x y k c d (Err why) e e' f f' made (is, js) only = (
-  e' ∙ ap (λ (z : SeatedNode). node z) is ∙ sym e,
-  f' ∙ ap (λ (z : CallerView). caller k z) js ∙ sym f,
+  ap (λ (v : ObjectView). Some v) (e' ∙ ap (λ (z : SeatedNode). node z) is ∙ sym e),
+  ap (λ (v : ObjectView). Some v) (f' ∙ ap (λ (z : CallerView). caller k z) js ∙ sym f),
   pair_bytes (Some old) (Some other) (length bytes) x k c why (ap (λ (v : ObjectView). Some v) e) (ap (λ (v : ObjectView). Some v) f) only,
 )
 

@@ -1,10 +1,10 @@
 pub mod Bad
+pub mod Giving
 pub mod Handles
 pub mod Names
 pub mod Naming
 pub mod Parts
 pub mod Posts
-pub mod ReadCauses
 pub mod Values
 pub mod Waiting
 pub mod Words

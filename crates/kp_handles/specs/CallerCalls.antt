@@ -1,37 +1,21 @@
--- What each call of a caller's pass does, as kp_board's contracts say it.
-use Rattle.std.specs.Prelude.{◌≡◌, ◌⊎◌, ◌<◌, ◌≤◌, ℕ, true, Option, Some, None, Result, Ok, Err, IfOk, IfErr, OnErr}
+-- What calls of callers' passes do that kp_board's contracts don't say (own rule).
+use Rattle.std.specs.Prelude.{◌≡◌, ◌⊎◌, ◌<◌, ◌≤◌, ℕ, true, Option, Some, None, Result, Ok, Err}
 use Rattle.kp_types.specs.declared.refusal.Refusal.{Refusal}
-use Rattle.kp_types.specs.declared.refusal.Refusal.TheVariants.{StaleRecord}
-use Rattle.kp_model.specs.Controller.{elected}
-use Rattle.kp_model.specs.Set.{record_of}
-use Rattle.kp_model.specs.Step.{elect_cause}
-use Rattle.kp_model.specs.World.{LeaderAndIsr as ModelRecord}
-use Rattle.kp_model.specs.declared.record.LeaderAndIsr.{LeaderAndIsr}
-use Rattle.kp_board.specs.Plays.{IsPassedBy, Learned, electing}
-use Rattle.kp_board.specs.Rule.{ShowsLastRecord, ShowsElection}
+use Rattle.kp_board.specs.Plays.{Learned}
 use Rattle.kp_board.specs.Views.{CallerView, with_receipts}
 use Rattle.kp_handles.specs.Objects.{ObjectView, caller, is_open}
 use Rattle.kp_handles.specs.declared.misuse.Misuse.{Misuse}
 use Rattle.kp_handles.specs.declared.misuse.Misuse.TheVariants.{Closed, OtherKind}
 
--- the pass, which was c and is d now, tried to elect this node
-abbrev pub Elects : ℕ → ℕ → CallerView → CallerView → Result LeaderAndIsr Refusal → Type 0
-Elects m n c d answer =
-    IfOk answer (λ r. (s : ModelRecord) × (c.shown.version ≤ s.version) × (elect_cause s m ≡ None) × (record_of r ≡ elected s m)
-    × (d ≡ electing (record_of r) c) × ShowsElection m s d)
-    × IfErr answer (λ f. ((f ≡ StaleRecord) × IsPassedBy c.shown d.shown m) ⊎ (elect_cause d.shown m ≡ Some f))
-    × (c.shown.version ≤ d.shown.version) × OnErr answer ((d ≡ record c { shown = d.shown }) × ShowsLastRecord d)
+-- of a call that isn't refused, by what it answers
+abbrev pub Answers : {X : Type 0} → (X → Type 0) → Result X Refusal → Type 0
+Answers P (Ok x) = P x
+Answers P (Err refusal) = ⊥
 
--- it looked at the record
-abbrev pub Looks : ℕ → CallerView → CallerView → Result LeaderAndIsr Refusal → Type 0
-Looks n c d answer =
-    (r : LeaderAndIsr) × (answer ≡ Ok r) × (d ≡ record c { shown = record_of r }) × (c.shown.version ≤ (record_of r).version) × ShowsLastRecord d
-
--- it looked at this node's watermark, where the board has such a node
-abbrev pub LearnsMark : ℕ → ℕ → CallerView → CallerView → Result (Option ℕ) Refusal → Type 0
-LearnsMark m n c d (Ok (Some w)) = (m < n) × Learned c d m w
-LearnsMark m n c d (Ok None) = (n ≤ m) × (d ≡ c)
-LearnsMark m n c d (Err refusal) = ⊥
+-- the pass, which was c and is d now, looked at this node's watermark, where the board of n nodes has such a node
+abbrev pub LearnsMark : (m n : ℕ) → (c d : CallerView) → Option ℕ → Type 0
+LearnsMark m n c d (Some w) = (m < n) × Learned c d m w
+LearnsMark m n c d None = (n ≤ m) × (d ≡ c)
 
 -- why they took over none
 abbrev pub BadCallers : Option ObjectView → Option ObjectView → Misuse → Type 0

@@ -4,7 +4,8 @@ use Rattle.kp_types.specs.declared.refusal.Refusal.{Refusal}
 use Rattle.kp_replica.specs.declared.producing.Receipt.{Receipt}
 use Rattle.kp_handles.specs.Called.{ArePair, AreNoPair, NoReason, PairCalled}
 use Rattle.kp_handles.specs.Objects.{ObjectView, handed, is_open}
-use Rattle.kp_handles.specs.PairCalls.{BadBytes, FitsBatch, Produces}
+use Rattle.kp_node.specs.CallerCalls.{Produces}
+use Rattle.kp_handles.specs.PairCalls.{BadBytes, FitsBatch}
 use Rattle.kp_handles.specs.declared.misuse.Misuse.{Misuse}
 use Rattle.kp_handles.specs.declared.misuse.Misuse.TheVariants.{Closed, OtherKind, InUse, NoRoom}
 

@@ -1,9 +1,9 @@
 pub mod Called
+pub mod Calling
 pub mod CallerCalls
 pub mod Handing
 pub mod Holding
 pub mod Messages
-pub mod NodeCalls
 pub mod Numbers
 pub mod Objects
 pub mod Opening

@@ -1,5 +1,5 @@
 -- A log as segments in a handle (own rule).
-use Rattle.std.specs.Prelude.{◌≡◌, ◌<◌, ◌≤◌, ℕ, true, List, length, Option, Some, None, Result, Ok, Err}
+use Rattle.std.specs.Prelude.{◌≡◌, ◌<◌, ◌≤◌, ℕ, true, List, length, Option, Some, None, Result, Ok, Err, IfOk, IfErr}
 use Rattle.std.specs.Global.{Box}
 use Rattle.kp_types.specs.declared.refusal.Refusal.{Refusal}
 use Rattle.kp_types.specs.declared.refusal.Refusal.TheVariants.{Memory}
@@ -8,27 +8,21 @@ use Rattle.kp_segment.specs.Name.{segment_name}
 use Rattle.kp_segment.specs.Runs.{AreRunsOf}
 use Rattle.kp_segment.specs.declared.name.SegmentName.{SegmentName}
 use Rattle.kp_node.specs.Seated.{SeatedNode}
-use Rattle.kp_handles.specs.Called.{BadNode, BadRoom}
+use Rattle.kp_handles.specs.Called.{NodeGives}
 use Rattle.kp_handles.specs.Holding.{BadPart, HasPart, Writes}
-use Rattle.kp_handles.specs.Objects.{ObjectView, batches, node, segments, is_open}
+use Rattle.kp_handles.specs.Objects.{ObjectView, batches, segments, is_open}
 use Rattle.kp_handles.specs.declared.misuse.Misuse.{Misuse}
 use Rattle.kp_handles.specs.declared.misuse.Misuse.TheVariants.{BadLength, InUse, NoRoom}
 
--- A node's log as segments, each by its name with its batches, stands in a handle that was closed; or memory was refused, and the
--- handle is as it was.
-abbrev pub SegmentsCalled : (old new out wrote : Option ObjectView) → Result (Result (Unit {0}) Refusal) Misuse → Type 0
-SegmentsCalled old new out wrote (Ok (Ok done)) =
-    (x : SeatedNode) × (ss : List (SegmentName × List Written)) × (old ≡ Some (node x)) × (new ≡ old)
-    × (out ≡ None) × (wrote ≡ Some (segments ss)) × AreRunsOf x.node.limits x.node.state.log ss
-SegmentsCalled old new out wrote (Ok (Err refusal)) = (x : SeatedNode) × (old ≡ Some (node x)) × (new ≡ old) × (wrote ≡ out) × (refusal ≡ Memory)
-SegmentsCalled old new out wrote (Err why) = (new ≡ old) × (wrote ≡ out) × BadNode (BadRoom out) old why
+-- A node's log was told as segments, each by its name with its batches; or memory was refused.
+pub record TellsSegments (old new : SeatedNode) (result : Result (List (SegmentName × List Written)) Refusal) : Type 0 where
+  pub same : new ≡ old
+  pub runs : IfOk result (AreRunsOf old.node.limits old.node.state.log)
+  pub only : IfErr result (λ refusal. refusal ≡ Memory)
 
--- the same of an object
-abbrev pub SegmentsMet : ObjectView → Result (Result (Box ObjectView) Refusal) Misuse → Type 0
-SegmentsMet object (Ok (Ok made)) =
-    (x : SeatedNode) × (ss : List (SegmentName × List Written)) × (object ≡ node x) × (made.value ≡ segments ss) × AreRunsOf x.node.limits x.node.state.log ss
-SegmentsMet object (Ok (Err refusal)) = (x : SeatedNode) × (object ≡ node x) × (refusal ≡ Memory)
-SegmentsMet object (Err why) = BadNode (BadRoom None) (Some object) why
+-- they stand in a handle that was closed
+abbrev pub SegmentsCalled : (old new out wrote : Option ObjectView) → Result (Result (Unit {0}) Refusal) Misuse → Type 0
+SegmentsCalled old new out wrote done = NodeGives segments TellsSegments old new out wrote done
 
 abbrev pub name_size : SegmentName × List Written → ℕ
 name_size s = length (segment_name s.0.base)

@@ -1,26 +1,18 @@
 //! Calls of a caller's pass, and of two.
 
-ghost use Rattle.std.specs.Prelude.{◌≡◌, IfSome, Some, Ok};
-ghost use Rattle.kp_handles.specs.Called.{CallerCalled, CallerMet};
-ghost use Rattle.kp_handles.specs.CallerCalls.{Elects, Looks, LearnsMark, ReceiptsTold};
+ghost use Rattle.std.specs.Prelude.{◌≡◌, IfSome, Some};
+ghost use Rattle.kp_board.specs.Calls.{Elects, Looks};
+ghost use Rattle.kp_handles.specs.Called.{CallerCalled};
+ghost use Rattle.kp_handles.specs.CallerCalls.{Answers, LearnsMark, ReceiptsTold};
 
-use crate::handle::{Handle, Unnamed, put, take, take_two};
+use crate::calling::{Called, with_pass};
+use crate::handle::{Handle, Unnamed, put, take_two};
 use crate::misuse::Misuse;
-use crate::nodes::Called;
-use crate::object::{Caller, Kind, Object};
-use kp_board::BoardName;
+use crate::object::{Kind, Object};
+use kp_board::{Board, BoardName, Pass};
 use kp_model::LeaderAndIsr;
 use kp_types::{NodeId, Offset};
 use std::alloc::Global;
-
-fn elect_object<B: BoardName>(object: &mut Object<B>, node: NodeId) -> Called<LeaderAndIsr>
-    ensures { CallerMet object.old object.new result (Elects node) }
-{
-    match &mut object.kind {
-        Kind::Caller(caller) => Ok(caller.board.elect(&mut caller.pass, node)),
-        _ => Err(Misuse::OtherKind),
-    }
-}
 
 /// Tries once to elect the node, as by `Board::elect`, for the caller's pass that the handle holds. Closed, OtherKind.
 pub fn elect<B: BoardName + Unnamed>(
@@ -29,56 +21,29 @@ pub fn elect<B: BoardName + Unnamed>(
     node: NodeId,
 ) -> Called<LeaderAndIsr>
     requires { IfSome handle.old.object (λ _. handle.old.table ≡ B.table) }
-    ensures called { CallerCalled handle.old.object handle.new.object result (Elects node) }
+    ensures called { CallerCalled handle.old.object handle.new.object result (λ _. Elects node) }
     ensures cluster { handle.new.table ≡ handle.old.table }
 {
-    let mut object = take::<B>(alloc, handle)?;
-    let answer = elect_object(&mut object, node);
-    put(handle, object);
-    answer
-}
-
-fn look<B: BoardName>(caller: &mut Caller<B>) -> LeaderAndIsr
-    ensures board { caller.new.board.value ≡ caller.old.board.value }
-    ensures looks { Looks caller.old.board.value caller.old.pass caller.new.pass (Ok result) }
-{
-    caller.board.record(&mut caller.pass)
-}
-
-fn record_object<B: BoardName>(object: &mut Object<B>) -> Called<LeaderAndIsr>
-    ensures { CallerMet object.old object.new result Looks }
-{
-    match &mut object.kind {
-        Kind::Caller(caller) => Ok(Ok(look(caller))),
-        _ => Err(Misuse::OtherKind),
-    }
+    with_pass::<B, _, _>(
+        alloc,
+        handle,
+        |board: &Board<B>, pass: &mut Pass<B>| board.elect(pass, node),
+    )
 }
 
 /// Looks at the controller's record, as by `Board::record`. Closed, OtherKind.
 pub fn record<B: BoardName + Unnamed>(alloc: Global, handle: &mut Handle) -> Called<LeaderAndIsr>
     requires { IfSome handle.old.object (λ _. handle.old.table ≡ B.table) }
-    ensures called { CallerCalled handle.old.object handle.new.object result Looks }
+    ensures called { CallerCalled handle.old.object handle.new.object result (λ _ c d. Answers (Looks c d)) }
     ensures cluster { handle.new.table ≡ handle.old.table }
 {
-    let mut object = take::<B>(alloc, handle)?;
-    let answer = record_object(&mut object);
-    put(handle, object);
-    answer
-}
-
-fn watermark_object<B: BoardName>(object: &mut Object<B>, node: NodeId) -> Called<Option<Offset>>
-    ensures { CallerMet object.old object.new result (LearnsMark node) }
-{
-    match &mut object.kind {
-        Kind::Caller(caller) => {
-            if node < caller.board.nodes() {
-                Ok(Ok(Some(caller.board.watermark(&mut caller.pass, node))))
-            } else {
-                Ok(Ok(None))
-            }
-        }
-        _ => Err(Misuse::OtherKind),
-    }
+    with_pass::<B, _, _>(
+        alloc,
+        handle,
+        |board: &Board<B>, pass: &mut Pass<B>|
+            ensures { Answers (Looks pass.old pass.new) result }
+        { Ok(board.record(pass)) },
+    )
 }
 
 /// Looks at a node's high watermark, as by `Board::watermark`; None where the board has no such node. Closed, OtherKind.
@@ -88,13 +53,16 @@ pub fn watermark<B: BoardName + Unnamed>(
     node: NodeId,
 ) -> Called<Option<Offset>>
     requires { IfSome handle.old.object (λ _. handle.old.table ≡ B.table) }
-    ensures called { CallerCalled handle.old.object handle.new.object result (LearnsMark node) }
+    ensures called { CallerCalled handle.old.object handle.new.object result (λ n c d. Answers (LearnsMark node n c d)) }
     ensures cluster { handle.new.table ≡ handle.old.table }
 {
-    let mut object = take::<B>(alloc, handle)?;
-    let answer = watermark_object(&mut object, node);
-    put(handle, object);
-    answer
+    with_pass::<B, _, _>(alloc, handle, |board: &Board<B>, pass: &mut Pass<B>| {
+        if node < board.nodes() {
+            Ok(Some(board.watermark(pass, node)))
+        } else {
+            Ok(None)
+        }
+    })
 }
 
 fn tell_objects<B: BoardName>(one: &mut Object<B>, other: &mut Object<B>) -> Result<(), Misuse>

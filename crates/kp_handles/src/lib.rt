@@ -4,6 +4,7 @@
 #![tactic(auto)]
 
 mod callers;
+mod calling;
 mod clusters;
 mod handing;
 mod handle;
@@ -20,13 +21,14 @@ mod reading;
 mod segments;
 
 pub use callers::{elect, record, tell_receipts, watermark};
+pub use calling::Called;
 pub use clusters::{close, open, open_caller, open_node};
 pub use handing::hand;
 pub use handle::{Handle, Unnamed, is_open};
 pub use holding::{addressee, batch_size, count, record_at, write_batch, write_value};
 pub use messages::{decide, send, step};
 pub use misuse::Misuse;
-pub use nodes::{Called, adopt, checkpoint, raise, restart, stop};
+pub use nodes::{adopt, checkpoint, raise, restart, stop};
 pub use numbers::{misuse_number, refusal_number, write_name};
 pub use outs::{
     LimitsIn, MarkerIn, ReceiptOut, RecordOut, RestartOut, RoleOut, ValueOut, ack_out, change_in,

@@ -4,12 +4,13 @@ ghost use Rattle.std.specs.Prelude.{◌≡◌, IfSome, IfOk, IfErr, OnOk, OnErr}
 ghost use Rattle.kp_model.specs.World.{Message as ModelMessage};
 ghost use Rattle.kp_model.specs.declared.message.MessageBody.{MessageBody};
 ghost use Rattle.kp_handles.specs.Objects.{message};
-ghost use Rattle.kp_handles.specs.Messages.{DecideCalled, DecideMet, SendCalled, SendMet, Sends, StepCalled, Decided, StepMet, Took, answer_of, handle_left, post_of, posted, posts_of, refusal_of};
+ghost use Rattle.kp_board.specs.Posts.{post_of, posted, posts_of};
+ghost use Rattle.kp_handles.specs.Messages.{DecideCalled, DecideMet, SendCalled, Sends, StepCalled, Decided, StepMet, Took, answer_of, handle_left, refusal_of};
 
-use crate::handle::{Handle, Unnamed, is_open, put, take, take_two};
+use crate::calling::{Called, give_by_node};
+use crate::handle::{Handle, Unnamed, put, take_two};
 use crate::misuse::Misuse;
-use crate::nodes::Called;
-use crate::object::{Kind, Object, filled, room};
+use crate::object::{Kind, Object};
 use kp_board::{Board, BoardName, Message, Pass};
 use kp_node::Node;
 use kp_replica::IsrChange;
@@ -29,31 +30,8 @@ fn sent_by<B: BoardName>(
     }
 }
 
-fn send_object<B: BoardName>(
-    alloc: Global,
-    object: &mut Object<B>,
-    proposed: Option<IsrChange>,
-) -> Called<Box<Object<B>>>
-    ensures { SendMet object.old object.new result (Sends proposed) }
-{
-    match &mut object.kind {
-        Kind::Node(node) => {
-            let made = room::<B>(alloc)?;
-            match sent_by(node, proposed) {
-                Ok(sent) => {
-                    let kind = Kind::Message(sent);
-                    Ok(Ok(filled(made, Object { kind })))
-                }
-                Err(refusal) => Ok(Err(refusal)),
-            }
-        }
-        _ => Err(Misuse::OtherKind),
-    }
-}
-
 /// Proposes a change of the in-sync replicas, as `Node::alter` does, or asks the node's leader, as `Node::ask` does, where there is none.
 /// The message comes into a closed handle. InUse, Closed, OtherKind, NoRoom.
-#[tactic(auto, using(crate::proofs::Bad::node_closed, crate::proofs::Bad::node_bad))]
 pub fn send<B: BoardName + Unnamed>(
     alloc: Global,
     node: &mut Handle,
@@ -65,20 +43,12 @@ pub fn send<B: BoardName + Unnamed>(
     ensures cluster { node.new.table ≡ node.old.table }
     ensures named { IfOk result (λ done. OnOk done (out.new.table ≡ B.table)) }
 {
-    if is_open(out) {
-        return Err(Misuse::InUse);
-    }
-    let mut object = take::<B>(alloc, node)?;
-    let answer = send_object(alloc, &mut object, proposed);
-    put(node, object);
-    match answer {
-        Ok(Ok(made)) => {
-            put(out, made);
-            Ok(Ok(()))
-        }
-        Ok(Err(refusal)) => Ok(Err(refusal)),
-        Err(misuse) => Err(misuse),
-    }
+    give_by_node::<B, _, _>(
+        alloc,
+        node,
+        out,
+        |node: &mut Node<B>| sent_by(node, proposed),
+    )
 }
 
 // What is left of a message, and what is answered.
@@ -99,7 +69,7 @@ fn leave<B: BoardName>(
 }
 
 // The node takes the message.
-#[tactic(auto, using(crate::proofs::Posts::took))]
+#[tactic(auto, unfolding(crate::specs::Messages::Took))]
 fn taken<B: BoardName>(
     node: &mut Node<B>,
     message: Message<B>,
@@ -180,7 +150,7 @@ pub fn step<B: BoardName + Unnamed>(
 }
 
 // The controller decides on the message, with a caller's pass.
-#[tactic(auto, using(crate::proofs::Posts::chosen, crate::proofs::Posts::undecided))]
+#[tactic(auto, unfolding(crate::specs::Messages::Decided))]
 fn decided<B: BoardName>(
     board: &Board<B>,
     pass: &mut Pass<B>,

@@ -92,6 +92,57 @@ impl<B: BoardName> Object<B> {
     }
 }
 
+/// What a call may put into a handle.
+pub(crate) trait Held<B: BoardName> {
+    ghost use Rattle.kp_handles.specs.Objects.{ObjectView};
+
+    ghost held: { Self → ObjectView };
+
+    /// The same, by its kind.
+    fn into_kind(self) -> Kind<B>
+        ensures { object_view result ≡ Self.held self };
+}
+
+impl<B: BoardName> Held<B> for Message<B> {
+    ghost use Rattle.kp_handles.specs.Objects.{message};
+
+    ghost held = { λ m. message m.body m.pass };
+
+    fn into_kind(self) -> Kind<B> {
+        Kind::Message(self)
+    }
+}
+
+impl<B: BoardName> Held<B> for Vec<Batch> {
+    ghost use Rattle.kp_handles.specs.Objects.{batches};
+
+    ghost held = { λ read. batches read.items };
+
+    fn into_kind(self) -> Kind<B> {
+        Kind::Batches(self)
+    }
+}
+
+impl<B: BoardName> Held<B> for ReadRecords {
+    ghost use Rattle.kp_handles.specs.Objects.{records};
+
+    ghost held = { records };
+
+    fn into_kind(self) -> Kind<B> {
+        Kind::Records(self)
+    }
+}
+
+impl<B: BoardName> Held<B> for Vec<SegmentShare> {
+    ghost use Rattle.kp_handles.specs.Objects.{segments};
+
+    ghost held = { λ shares. segments shares.items };
+
+    fn into_kind(self) -> Kind<B> {
+        Kind::Segments(self)
+    }
+}
+
 /// An object in its room.
 pub(crate) fn filled<B: BoardName>(mut room: Box<Object<B>>, object: Object<B>) -> Box<Object<B>>
     ensures { result.value ≡ object }

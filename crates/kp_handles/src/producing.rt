@@ -1,21 +1,21 @@
 //! Calls of a node for a caller's pass.
 
 ghost use Rattle.std.specs.Prelude.{◌≡◌, ℕ, List, Some, length, IfSome, IfOk, IfErr, OnOk, OnErr};
-ghost use Rattle.kp_handles.specs.Called.{NoReason, PairCalled, PairMet};
+ghost use Rattle.kp_node.specs.CallerCalls.{Acks, Marks, Produces};
+ghost use Rattle.kp_handles.specs.Called.{NoReason, PairCalled};
 ghost use Rattle.kp_handles.specs.Handing.{BadShare, HandedCalled};
 ghost use Rattle.kp_handles.specs.Objects.{handed};
-ghost use Rattle.kp_handles.specs.PairCalls.{Acks, BadBytes, BadMarker, FitsBatch, Marks, Produces};
+ghost use Rattle.kp_handles.specs.PairCalls.{BadBytes, BadMarker, FitsBatch};
 
+use crate::calling::{Called, with_pair};
 use crate::handing::{copied, shared};
 use crate::handle::{Handle, Unnamed, put, take_two};
 use crate::misuse::Misuse;
-use crate::nodes::Called;
 use crate::object::{Caller, Kind, Object};
 use kp_board::{BoardName, Pass};
 use kp_marker::{HandedMarker, Marker};
 use kp_node::{Ack, Node};
 use kp_replica::Receipt;
-use kp_types::Refusal;
 use std::alloc::Global;
 
 // The bytes are copied into memory of the pass.
@@ -40,7 +40,7 @@ fn produce_objects<B: BoardName>(
     other: &mut Object<B>,
     bytes: &[u8],
 ) -> Called<Receipt>
-    ensures met { PairMet (BadBytes (length bytes.now)) one.old one.new other.old other.new result (Produces bytes.now) }
+    ensures met { PairCalled (BadBytes (length bytes.now)) (Some one.old) (Some one.new) (Some other.old) (Some other.new) result (Produces bytes.now) }
     ensures fits { OnOk result (FitsBatch (length bytes.now)) }
 {
     match &mut one.kind {
@@ -133,42 +133,6 @@ pub fn produce_handed<B: BoardName + Unnamed, C: BoardName + Unnamed>(
     answer
 }
 
-fn mark_objects<B: BoardName>(
-    one: &mut Object<B>,
-    other: &mut Object<B>,
-    marker: &HandedMarker,
-) -> Called<Receipt>
-    ensures { PairMet NoReason one.old one.new other.old other.new result (Marks marker.now.marker) }
-{
-    match &mut one.kind {
-        Kind::Node(node) => match &mut other.kind {
-            Kind::Caller(caller) => Ok(node.mark(&mut caller.pass, marker)),
-            _ => Err(Misuse::OtherKind),
-        },
-        _ => Err(Misuse::OtherKind),
-    }
-}
-
-/// Hands the node a transaction's marker, as `Node::mark` does.
-#[tactic(auto, using(crate::proofs::Bad::pair_closed, crate::proofs::Bad::pair_bad))]
-fn mark<B: BoardName + Unnamed>(
-    alloc: Global,
-    node: &mut Handle,
-    caller: &mut Handle,
-    marker: &HandedMarker,
-) -> Called<Receipt>
-    requires node { IfSome node.old.object (λ _. node.old.table ≡ B.table) }
-    requires caller { IfSome caller.old.object (λ _. caller.old.table ≡ B.table) }
-    ensures called { PairCalled NoReason node.old.object node.new.object caller.old.object caller.new.object result (Marks marker.now.marker) }
-    ensures cluster { (node.new.table ≡ node.old.table) × (caller.new.table ≡ caller.old.table) }
-{
-    let (mut first, mut second) = take_two::<B>(alloc, node, caller)?;
-    let answer = mark_objects(&mut first, &mut second, marker);
-    put(node, first);
-    put(caller, second);
-    answer
-}
-
 /// Hands the node a transaction's marker, as by `Node::mark`. Closed, OtherKind; OutOfRange where one of its fields is.
 pub fn mark_in<B: BoardName + Unnamed>(
     alloc: Global,
@@ -184,38 +148,15 @@ pub fn mark_in<B: BoardName + Unnamed>(
     let Some(handed) = HandedMarker::new(marker) else {
         return Err(Misuse::OutOfRange);
     };
-    mark::<B>(alloc, node, caller, &handed)
-}
-
-#[tactic(auto, unfolding(crate::specs::PairCalls::Acks))]
-fn acked_by<B: BoardName>(
-    node: &mut Node<B>,
-    pass: &mut Pass<B>,
-    receipt: &Receipt,
-) -> Result<Ack, Refusal>
-    ensures { Acks receipt.now node.old node.new pass.old pass.new result }
-{
-    node.acked(pass, receipt)
-}
-
-fn acked_objects<B: BoardName>(
-    one: &mut Object<B>,
-    other: &mut Object<B>,
-    receipt: &Receipt,
-) -> Called<Ack>
-    ensures { PairMet NoReason one.old one.new other.old other.new result (Acks receipt.now) }
-{
-    match &mut one.kind {
-        Kind::Node(node) => match &mut other.kind {
-            Kind::Caller(caller) => Ok(acked_by(node, &mut caller.pass, receipt)),
-            _ => Err(Misuse::OtherKind),
-        },
-        _ => Err(Misuse::OtherKind),
-    }
+    with_pair::<B, _, _>(
+        alloc,
+        node,
+        caller,
+        |node: &mut Node<B>, pass: &mut Pass<B>| node.mark(pass, &handed),
+    )
 }
 
 /// Whether the receipt's batch is committed, as by `Node::acked`. Closed, OtherKind.
-#[tactic(auto, using(crate::proofs::Bad::pair_closed, crate::proofs::Bad::pair_bad))]
 pub fn acked<B: BoardName + Unnamed>(
     alloc: Global,
     node: &mut Handle,
@@ -227,9 +168,10 @@ pub fn acked<B: BoardName + Unnamed>(
     ensures called { PairCalled NoReason node.old.object node.new.object caller.old.object caller.new.object result (Acks receipt.now) }
     ensures cluster { (node.new.table ≡ node.old.table) × (caller.new.table ≡ caller.old.table) }
 {
-    let (mut first, mut second) = take_two::<B>(alloc, node, caller)?;
-    let answer = acked_objects(&mut first, &mut second, receipt);
-    put(node, first);
-    put(caller, second);
-    answer
+    with_pair::<B, _, _>(
+        alloc,
+        node,
+        caller,
+        |node: &mut Node<B>, pass: &mut Pass<B>| node.acked(pass, receipt),
+    )
 }

@@ -3,16 +3,17 @@
 ghost use Rattle.std.specs.Prelude.{◌≡◌, IfOk, IfErr, IfSome};
 ghost use Rattle.kp_types.specs.declared.refusal.Refusal.TheVariants.{Memory};
 ghost use Rattle.kp_segment.specs.Runs.{AreRunsOf};
-ghost use Rattle.kp_handles.specs.Segments.{GivesSegment, SegmentCalled, SegmentMet, SegmentsCalled, SegmentsMet};
+ghost use Rattle.kp_handles.specs.Segments.{GivesSegment, SegmentCalled, SegmentMet, SegmentsCalled};
 
+use crate::calling::{Called, give_by_node};
 use crate::handle::{Handle, Unnamed, is_open, put, take};
 use crate::holding::copy_front;
 use crate::misuse::Misuse;
-use crate::nodes::Called;
 use crate::object::{Kind, Object, filled, room};
 use kp_batch::{Batch, share_all};
 use kp_board::BoardName;
 use kp_log::PartitionLog;
+use kp_node::Node;
 use kp_segment::SegmentName;
 use kp_types::Refusal;
 use std::alloc::Global;
@@ -48,27 +49,8 @@ fn shares_of(alloc: Global, log: &PartitionLog) -> Result<Vec<SegmentShare>, Ref
     Ok(shares)
 }
 
-fn shares_object<B: BoardName>(alloc: Global, object: &Object<B>) -> Called<Box<Object<B>>>
-    ensures { SegmentsMet object.now result }
-{
-    match &object.kind {
-        Kind::Node(node) => {
-            let made = room::<B>(alloc)?;
-            match shares_of(alloc, node.log()) {
-                Ok(shares) => {
-                    let kind = Kind::Segments(shares);
-                    Ok(Ok(filled(made, Object { kind })))
-                }
-                Err(refusal) => Ok(Err(refusal)),
-            }
-        }
-        _ => Err(Misuse::OtherKind),
-    }
-}
-
 /// Puts the node's log as segments, with shares of all its batches, into a closed handle. F33; InUse, Closed, OtherKind, NoRoom.
 /// O(batches).
-#[tactic(auto, using(crate::proofs::Bad::node_closed, crate::proofs::Bad::node_bad))]
 pub fn segments_of<B: BoardName + Unnamed>(
     alloc: Global,
     node: &mut Handle,
@@ -78,20 +60,12 @@ pub fn segments_of<B: BoardName + Unnamed>(
     ensures called { SegmentsCalled node.old.object node.new.object out.old.object out.new.object result }
     ensures cluster { node.new.table ≡ node.old.table }
 {
-    if is_open(out) {
-        return Err(Misuse::InUse);
-    }
-    let object = take::<B>(alloc, node)?;
-    let answer = shares_object(alloc, &object);
-    put(node, object);
-    match answer {
-        Ok(Ok(made)) => {
-            put(out, made);
-            Ok(Ok(()))
-        }
-        Ok(Err(refusal)) => Ok(Err(refusal)),
-        Err(misuse) => Err(misuse),
-    }
+    give_by_node::<B, _, _>(
+        alloc,
+        node,
+        out,
+        |node: &mut Node<B>| shares_of(alloc, node.log()),
+    )
 }
 
 // Shares of the segment's batches, once the name of its file is known to fit.

@@ -1,16 +1,11 @@
 //! How a node asks for a change of the in-sync replicas.
 
-ghost use Rattle.std.specs.Prelude.{◌≡◌, ◌∷◌, IfOk, IfErr, None, OnErr};
+ghost use Rattle.std.specs.Prelude.{IfOk, None};
 ghost use Rattle.kp_types.specs.Causes.{IsRefusedOnlyBy};
 ghost use Rattle.kp_model.specs.Effect.{unless_leads};
-ghost use Rattle.kp_model.specs.Event.{Refused};
-ghost use Rattle.kp_model.specs.Letter.{letter};
-ghost use Rattle.kp_model.specs.Local.{cause};
-ghost use Rattle.kp_model.specs.World.{LeaderAndIsr as ModelRecord};
-ghost use Rattle.kp_replica.specs.Altering.{change_act, IsKnownBy, IsProposal};
-ghost use Rattle.kp_replica.specs.NumberedNode.{Does};
-ghost use Rattle.kp_node.specs.Calls.{Sent};
-ghost use Rattle.kp_node.specs.Seated.{SeatedNode};
+ghost use Rattle.kp_replica.specs.Altering.{IsKnownBy};
+ghost use Rattle.kp_board.specs.Posts.{post_of};
+ghost use Rattle.kp_node.specs.MessageCalls.{Alters};
 
 use crate::node::Node;
 use kp_board::{BoardName, Message};
@@ -34,15 +29,7 @@ impl<B: BoardName> Node<B> {
     /// that was sent; a set that is pending already is proposed once more, untested. The refusals are those of `Replica::alter`, and
     /// F28 where the node is down; none changes anything. O(1), and no memory. (KIP-497; Kafka protocol guide, 'AlterPartition'.)
     pub fn alter(&mut self, change: IsrChange) -> Result<Message<B>, Refusal>
-        ensures sent { IfOk result (λ m. Sent self.old.node self.new.node (change_act change) m.pass (letter m.body)) }
-        ensures proposed { IfOk result (λ m. IsProposal self.old.node change (letter m.body)) }
-        ensures refused { IfErr result (λ refusal. Does self.old.node self.new.node (change_act change) (Refused refusal)) }
-        ensures causes { (c : ModelRecord) → IsRefusedOnlyBy (cause c self.old.node.number self.old.node.state (change_act change)) result }
-        ensures pass { IfOk result (λ m. self.new.pass ≡ record self.old.pass {
-          state = self.new.node.state;
-          told = m.pass ∷ self.old.pass.told;
-        }) }
-        ensures same { OnErr result (self.new ≡ self.old) }
+        ensures { Alters change self.old self.new (post_of result) }
     {
         match self.broker.alter(change) {
             Ok(body) => {

@@ -1,12 +1,7 @@
 //! What a node asks its leader.
 
-ghost use Rattle.std.specs.Prelude.{◌≡◌, ◌∷◌, ◌≢◌, IfOk, IfErr, OnErr};
-ghost use Rattle.kp_types.specs.declared.refusal.Refusal.TheVariants.{Memory};
-ghost use Rattle.kp_model.specs.Event.{Ask, Refused};
-ghost use Rattle.kp_model.specs.Letter.{letter};
-ghost use Rattle.kp_replica.specs.NumberedNode.{Does};
-ghost use Rattle.kp_node.specs.Calls.{Sent};
-ghost use Rattle.kp_node.specs.Seated.{SeatedNode};
+ghost use Rattle.kp_board.specs.Posts.{post_of};
+ghost use Rattle.kp_node.specs.MessageCalls.{Asks};
 
 use crate::node::Node;
 use kp_board::{BoardName, Message};
@@ -21,17 +16,20 @@ impl<B: BoardName> Node<B> {
     /// changes anything. O(1), and no memory. (Kafka protocol guide, 'Fetch'; KIP-320; KIP-595's truncation on fetch is the idea's
     /// source, the profile is our own.)
     pub fn ask(&mut self) -> Result<Message<B>, Refusal>
-        ensures sent { IfOk result (λ m. Sent self.old.node self.new.node Ask m.pass (letter m.body)) }
-        ensures refused { IfErr result (λ refusal. Does self.old.node self.new.node Ask (Refused refusal)) }
-        ensures spared { IfErr result (λ refusal. refusal ≢ Memory) }
-        ensures node { self.new.node ≡ self.old.node }
-        ensures pass { IfOk result (λ m. self.new.pass ≡ record self.old.pass { told = m.pass ∷ self.old.pass.told }) }
-        ensures same { OnErr result (self.new ≡ self.old) }
+        ensures { Asks self.old self.new (post_of result) }
     {
-        let body = self.broker.ask()?;
-        let pass = self
-            .board
-            .load_end_sending::<Brand, Broker, MessageBody>(&mut self.pass, &self.broker, &body);
-        Ok(Message { body, pass })
+        match self.broker.ask() {
+            Ok(body) => {
+                let pass = self
+                    .board
+                    .load_end_sending::<Brand, Broker, MessageBody>(
+                        &mut self.pass,
+                        &self.broker,
+                        &body,
+                    );
+                Ok(Message { body, pass })
+            }
+            Err(refusal) => Err(refusal),
+        }
     }
 }

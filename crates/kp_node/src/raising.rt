@@ -1,10 +1,6 @@
 //! How a node adopts the controller's record, raises its high watermark and notes it.
 
-ghost use Rattle.std.specs.Prelude.{◌≡◌, ◌≤◌, max};
-ghost use Rattle.kp_model.specs.Event.{Adopt, Checkpoint, Raise};
-ghost use Rattle.kp_replica.specs.NumberedNode.{Does, DoesUnder};
-ghost use Rattle.kp_replica.specs.Replies.{checkpoint_reply, role_reply, watermark_reply};
-ghost use Rattle.kp_node.specs.Seated.{SeatedNode};
+ghost use Rattle.kp_node.specs.NodeCalls.{Adopts, Checkpoints, Raises};
 
 use crate::node::Node;
 use kp_board::BoardName;
@@ -18,9 +14,7 @@ impl<B: BoardName> Node<B> {
     /// above its own, or, where the record names it, above the one that it last took up in whatever life; either leaves the node as
     /// it was. O(1), and no memory. (Kafka replication design, KIP-320; own: the epoch that is kept.)
     pub fn adopt(&mut self) -> Result<Role, Refusal>
-        ensures event { DoesUnder self.new.pass.shown self.old.node self.new.node Adopt (role_reply result) }
-        ensures later { self.old.pass.shown.version ≤ self.new.pass.shown.version }
-        ensures pass { self.new.pass ≡ record self.old.pass { state = self.new.node.state; shown = self.new.pass.shown } }
+        ensures { Adopts self.old self.new result }
     {
         let record = self
             .board
@@ -31,11 +25,7 @@ impl<B: BoardName> Node<B> {
     /// Raises the high watermark, as `Replica::raise` does, by the in-sync set that the leader knows and the pending one, and the
     /// node's mark word with it. F28 where it is down, F15 where it doesn't lead. The cost is that of `Replica::raise`. (KIP-497.)
     pub fn raise(&mut self) -> Result<Offset, Refusal>
-        ensures event { Does self.old.node self.new.node Raise (watermark_reply result) }
-        ensures pass { self.new.pass ≡ record self.old.pass {
-          state = self.new.node.state;
-          published = max self.old.pass.published self.new.node.state.watermark;
-        } }
+        ensures { Raises self.old self.new result }
     {
         let raised = self.broker.raise();
         let watermark = self.broker.watermark();
@@ -47,8 +37,7 @@ impl<B: BoardName> Node<B> {
     /// Notes the high watermark as the checkpoint, and answers it. F28 where the node is down. O(1), and no memory. (Own rule, after
     /// Kafka's replication-offset-checkpoint.)
     pub fn checkpoint(&mut self) -> Result<Offset, Refusal>
-        ensures event { Does self.old.node self.new.node Checkpoint (checkpoint_reply result) }
-        ensures pass { self.new.pass ≡ record self.old.pass { state = self.new.node.state } }
+        ensures { Checkpoints self.old self.new result }
     {
         let noted = self.broker.checkpoint();
         self.board

@@ -1,6 +1,6 @@
 //! What a node does with a message that comes.
 
-ghost use Rattle.std.specs.Prelude.{◌≡◌, ◌≢◌, ◌≤◌, max, if◌then◌else◌, Option, Err, IfOk, IfErr, IfSome, IfNone, IsTrue};
+ghost use Rattle.std.specs.Prelude.{◌≡◌, ◌≢◌, ◌≤◌, max, if◌then◌else◌, Option, Err, IfOk, IfErr, IsTrue};
 ghost use Rattle.kp_types.specs.declared.refusal.Refusal.TheVariants.{Down, Memory, StaleAnswer};
 ghost use Rattle.kp_model.specs.Epochs.{covers};
 ghost use Rattle.kp_model.specs.Calls.{cut};
@@ -12,8 +12,9 @@ ghost use Rattle.kp_replica.specs.NumberedNode.{Does, DoesUnder};
 ghost use Rattle.kp_replica.specs.Cutting.{diverging};
 ghost use Rattle.kp_replica.specs.Replies.{cut_reply, learned_reply, taken_reply};
 ghost use Rattle.kp_replica.specs.Taking.{carrying};
-ghost use Rattle.kp_node.specs.Calls.{CutsTo, IsMisplaced, Sent, WantsMemory, WasTaken};
-ghost use Rattle.kp_node.specs.Seated.{SeatedNode};
+ghost use Rattle.kp_board.specs.Posts.{posted, posts_of};
+ghost use Rattle.kp_node.specs.Calls.{IsMisplaced, Sent};
+ghost use Rattle.kp_node.specs.MessageCalls.{Steps};
 
 use crate::node::Node;
 use kp_board::{BoardName, Message, MessagePass};
@@ -172,21 +173,7 @@ impl<B: BoardName> Node<B> {
     /// was. (Kafka protocol guide, 'Fetch', 'AlterPartition'; KIP-101,
     /// KIP-279, KIP-320, KIP-497; KIP-595's truncation on fetch is the idea's source, the profile is our own.)
     pub fn step(&mut self, message: Message<B>) -> Result<Option<Message<B>>, Refusal>
-        ensures served { IfOk result (λ o. IfSome o (λ m.
-            Sent self.old.node self.new.node (Receive message.pass) m.pass (letter m.body))) }
-        ensures taken { IfOk result (λ o. IfNone o
-            (WasTaken message.body self.new.pass.shown self.old.node self.new.node (Receive message.pass))) }
-        ensures refused { IfErr result (λ refusal.
-            DoesUnder self.new.pass.shown self.old.node self.new.node (Receive message.pass) (Refused refusal)) }
-        ensures spared { IfErr result (λ refusal. refusal ≡ Memory → WantsMemory message.body self.old.node) }
-        ensures place { CutsTo message.body self.new.pass.shown self.old.node self.new.node }
-        ensures later { self.old.pass.shown.version ≤ self.new.pass.shown.version }
-        ensures pass { self.new.pass ≡ record self.old.pass {
-          state = self.new.node.state;
-          shown = self.new.pass.shown;
-          published = max self.old.pass.published self.new.node.state.watermark;
-          told = self.new.pass.told;
-        } }
+        ensures { Steps (posted message) self.old self.new (posts_of result) }
     {
         let (body, pass) = message.into_parts();
         match body {

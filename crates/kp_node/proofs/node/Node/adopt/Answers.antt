@@ -1,4 +1,4 @@
-use Rattle.std.proofs.Common.{sym, ap, subst}
+use Rattle.std.proofs.Common.{sym, ap, subst, rules}
 use Rattle.kp_model.specs.Event as model
 use Rattle.kp_replica.specs.NumberedNode.{DoesUnder}
 use Rattle.kp_replica.specs.Broker.{node_at}
@@ -19,15 +19,20 @@ invariant_of-self g c =
     adopt_tied g.B.BoardName.table.words (record_of c.step_under_record-record.result) c.self.inside.pass c.step_under_record-record.new.pass (node_at c.self.inside.broker) (node_at c.adopt.new.self) (role_reply c.adopt.result)
     c.self.invariant c.step_under_record-record.ensures.known c.adopt.ensures c.step_under_record-record.ensures.shown
 
-pub returns-clause-event : goal.returns-clause-event
-returns-clause-event g c =
-    let does = adopt_event g.B.BoardName.table.words (record_of c.step_under_record-record.result) c.self.inside.pass (node_at c.self.inside.broker) (node_at c.adopt.new.self) (role_reply c.adopt.result) c.self.invariant c.step_under_record-record.ensures.known c.adopt.ensures in
-    let shown = ap (λ (p : NodeView). p.shown) c.step_under_record-record.ensures.shown in
-    subst (λ (z : LeaderAndIsr × SeatedNode). DoesUnder z.0 z.1.node (node_at c.adopt.new.self) model.Adopt (role_reply c.adopt.result)) (λ j. (sym shown j, c.self.view_is j)) does
-
-pub returns-clause-pass : goal.returns-clause-pass
-returns-clause-pass g c =
-    let tied = adopt_tied g.B.BoardName.table.words (record_of c.step_under_record-record.result) c.self.inside.pass c.step_under_record-record.new.pass (node_at c.self.inside.broker) (node_at c.adopt.new.self) (role_reply c.adopt.result)
-    c.self.invariant c.step_under_record-record.ensures.known c.adopt.ensures c.step_under_record-record.ensures.shown in
-    pass_is c.self.inside.pass c.step_under_record-record.new.pass c.args.self.now.pass (adopted (record_of c.step_under_record-record.result) c.self.inside.pass.number c.self.inside.pass.state).node (node_at c.adopt.new.self).state (record_of c.step_under_record-record.result)
-    c.step_under_record-record.ensures.shown tied.0 (ap (λ (s : SeatedNode). s.pass) c.self.view_is)
+pub returns : goal.returns
+returns g c =
+    let found = record_of c.step_under_record-record.result in
+    let p = c.self.inside.pass in
+    let q = c.step_under_record-record.new.pass in
+    let old = node_at c.self.inside.broker in
+    let new = node_at c.adopt.new.self in
+    let reply = role_reply c.adopt.result in
+    let step = c.step_under_record-record.ensures in
+    let does = adopt_event g.B.BoardName.table.words found p old new reply c.self.invariant step.known c.adopt.ensures in
+    let tied = adopt_tied g.B.BoardName.table.words found p q old new reply c.self.invariant step.known c.adopt.ensures step.shown in
+    let shown = ap (λ (p : NodeView). p.shown) step.shown in
+    record {
+      event = subst (λ (z : LeaderAndIsr × SeatedNode). DoesUnder z.0 z.1.node new model.Adopt reply) (λ j. (sym shown j, c.self.view_is j)) does;
+      later = search rules;
+      pass = pass_is p q c.args.self.now.pass (adopted found p.number p.state).node new.state found step.shown tied.0 (ap (λ (s : SeatedNode). s.pass) c.self.view_is);
+    }

@@ -1,4 +1,4 @@
-use Rattle.std.proofs.Common.{subst}
+use Rattle.std.proofs.Common.{subst, rules}
 use Rattle.kp_model.specs.Event as model
 use Rattle.kp_model.specs.World.{initial}
 use Rattle.kp_replica.specs.NumberedNode.{Does}
@@ -21,5 +21,8 @@ invariant_of-self g c =
     tied_on g.B.BoardName.table.words c.self.inside.pass c.load_end.new.pass old new i (c.checkpoint-noted.ensures (initial 0)).1.0
     (kept_low old new model.Checkpoint (checkpoint_reply c.checkpoint-noted.result) c.self.inside.pass.published tt c.checkpoint-noted.ensures i.2) c.load_end.ensures
 
-pub returns-clause-event : goal.returns-clause-event
-returns-clause-event g c = subst (λ (s : SeatedNode). Does s.node (node_at c.checkpoint-noted.new.self) model.Checkpoint (checkpoint_reply c.checkpoint-noted.result)) c.self.view_is c.checkpoint-noted.ensures
+pub returns : goal.returns
+returns g c = record {
+  event = subst (λ (s : SeatedNode). Does s.node (node_at c.checkpoint-noted.new.self) model.Checkpoint (checkpoint_reply c.checkpoint-noted.result)) c.self.view_is c.checkpoint-noted.ensures;
+  pass = search rules;
+}

@@ -47,15 +47,4 @@ invariant_of-self g c =
     tied_under g.B.BoardName.table.words q step.new.pass m new (record_of step.result) tied (call.ensures.event (initial 0)).1.0 low step.ensures.shown
 
 pub returns-clause-mark : goal.returns-clause-mark
-returns-clause-mark g c =
-    let p = c.self.inside.pass in
-    let q = c.receive.new.pass in
-    let m = node_at c.self.inside.broker in
-    let sent = c.args.sent in
-    let tied : Tied g.B.BoardName.table.words q m = received g.B.BoardName.table.words p q m sent c.self.invariant c.receive.ensures in
-    let call = c.learn-learned in
-    let new = node_at call.new.self in
-    let step = c.step_under_record-record in
-    let low = kept_low m new (Receive (Decides (decision_of c.args.decision.now))) (learned_reply call.result) q.published tt call.ensures.event tied.2 in
-    let after : Tied g.B.BoardName.table.words step.new.pass new = tied_under g.B.BoardName.table.words q step.new.pass m new (record_of step.result) tied (call.ensures.event (initial 0)).1.0 low step.ensures.shown in
-    after.2
+returns-clause-mark g c = (invariant_of-self g c).2

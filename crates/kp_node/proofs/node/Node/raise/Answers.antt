@@ -1,4 +1,4 @@
-use Rattle.std.proofs.Common.{subst}
+use Rattle.std.proofs.Common.{subst, rules}
 use Rattle.kp_model.specs.Event as model
 use Rattle.kp_model.specs.World.{initial}
 use Rattle.kp_replica.specs.NumberedNode.{Does}
@@ -19,5 +19,8 @@ invariant_of-self g c =
     tied_at g.B.BoardName.table.words c.watermark-watermark.result c.self.inside.pass c.raise_mark.new.pass (node_at c.self.inside.broker) (node_at c.raise-raised.new.self) i (c.raise-raised.ensures (initial 0)).1.0
     c.watermark-watermark.ensures.value c.raise_mark.ensures
 
-pub returns-clause-event : goal.returns-clause-event
-returns-clause-event g c = subst (λ (s : SeatedNode). Does s.node (node_at c.raise-raised.new.self) model.Raise (watermark_reply c.raise-raised.result)) c.self.view_is c.raise-raised.ensures
+pub returns : goal.returns
+returns g c = record {
+  event = subst (λ (s : SeatedNode). Does s.node (node_at c.raise-raised.new.self) model.Raise (watermark_reply c.raise-raised.result)) c.self.view_is c.raise-raised.ensures;
+  pass = search rules;
+}

@@ -1,4 +1,4 @@
-use Rattle.std.proofs.Common.{ℕ, ◌≤◌, subst, arith}
+use Rattle.std.proofs.Common.{ℕ, ◌≤◌, subst, arith, rules}
 use Rattle.kp_model.specs.Event as model
 use Rattle.kp_model.specs.World.{initial}
 use Rattle.kp_replica.specs.Acts.{answered_reply}
@@ -26,6 +26,9 @@ invariant_of-self g c =
     let was = i.2 in
     tied_on g.B.BoardName.table.words c.self.inside.pass c.load_end.new.pass old new i (c.restart-restarted.ensures.event (initial 0)).1.0 (omega arith) c.load_end.ensures
 
-pub returns-clause-event : goal.returns-clause-event
-returns-clause-event g c =
-    subst (λ (s : SeatedNode). Does s.node (node_at c.restart-restarted.new.self) model.Restart (answered_reply c.restart-restarted.result)) c.self.view_is c.restart-restarted.ensures.event
+pub returns : goal.returns
+returns g c = record {
+  event = subst (λ (s : SeatedNode). Does s.node (node_at c.restart-restarted.new.self) model.Restart (answered_reply c.restart-restarted.result)) c.self.view_is c.restart-restarted.ensures.event;
+  fits = search rules;
+  pass = search rules;
+}

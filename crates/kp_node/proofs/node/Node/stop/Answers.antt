@@ -1,4 +1,4 @@
-use Rattle.std.proofs.Common.{◌≡◌, sym, ap, subst, ◌∙◌}
+use Rattle.std.proofs.Common.{◌≡◌, sym, ap, subst, ◌∙◌, rules}
 use Rattle.kp_model.specs.Event as model
 use Rattle.kp_model.specs.Event.{Reply}
 use Rattle.kp_model.specs.World.{initial}
@@ -27,11 +27,14 @@ invariant_of-self g c =
     tied_on g.B.BoardName.table.words c.self.inside.pass c.load_end.new.pass old new i (c.stop-stopped.ensures.event (initial 0)).1.0
     (kept_low old new model.Stop (answered_reply c.stop-stopped.result) c.self.inside.pass.published tt c.stop-stopped.ensures.event i.2) c.load_end.ensures
 
-pub returns-clause-event : goal.returns-clause-event
-returns-clause-event g c =
+pub returns : goal.returns
+returns g c =
     let new = node_at c.stop-stopped.new.self in
     let same : answered_reply c.stop-stopped.result ≡ stop_reply c.match-stopped.result = elim c.match-stopped.branch [
       | in-Ok w ↦ ap answered_reply w.in-Ok.is ∙ ap answer_reply w.in-Ok.ensures.fits ∙ sym (ap stop_reply w.result-is)
       | in-Err w ↦ ap answered_reply w.in-Err.is ∙ sym (ap stop_reply w.result-is)
     ] in
-    subst (λ (z : SeatedNode × Reply). Does z.0.node new model.Stop z.1) (λ j. (c.self.view_is j, same j)) c.stop-stopped.ensures.event
+    record {
+      event = subst (λ (z : SeatedNode × Reply). Does z.0.node new model.Stop z.1) (λ j. (c.self.view_is j, same j)) c.stop-stopped.ensures.event;
+      pass = search rules;
+    }
