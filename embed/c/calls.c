@@ -1,5 +1,5 @@
 /* A test of the C face: each field of each struct by a value that no other field has, each misuse by its number, and every block of
- * memory given back once all handles are closed. `tools/embed gate` builds and runs it:
+ * memory given back once all handles are closed, and each refusal of the header by its name. `tools/embed gate` builds and runs it:
  *
  *   cc -std=c11 -Wl,--wrap=malloc,--wrap=realloc,--wrap=free -Iembed embed/c/calls.c LIBRARY HEAP -o calls && ./calls embed/rust/tests
  *
@@ -495,6 +495,79 @@ static void misuses_have_their_numbers(void) {
     closes(&w);
 }
 
+/* ---- the header's names of refusals */
+
+#define NAMED(word) {#word, word}
+
+static const struct {
+    const char *word;
+    uint32_t number;
+} refusals[] = {
+    NAMED(KP_F1_TRUNCATED),
+    NAMED(KP_F2_BAD_MAGIC),
+    NAMED(KP_F3_BAD_LENGTH),
+    NAMED(KP_F4_BAD_CRC),
+    NAMED(KP_F5_COMPRESSED),
+    NAMED(KP_F6_BAD_ATTRIBUTES),
+    NAMED(KP_F7_BAD_COUNT),
+    NAMED(KP_F8_BAD_RECORD),
+    NAMED(KP_F9_TOO_LARGE),
+    NAMED(KP_F10_BAD_PRODUCER_FIELDS),
+    NAMED(KP_F11_INVALID_PRODUCER_EPOCH),
+    NAMED(KP_F12_OUT_OF_ORDER_SEQUENCE),
+    NAMED(KP_F13_INVALID_TXN_STATE),
+    NAMED(KP_F14_COORDINATOR_FENCED),
+    NAMED(KP_F15_NOT_LEADER),
+    NAMED(KP_F16_OFFSET_OUT_OF_RANGE),
+    NAMED(KP_F17_FENCED_LEADER_EPOCH),
+    NAMED(KP_F18_UNKNOWN_LEADER_EPOCH),
+    NAMED(KP_F19_NOT_BOUNDARY),
+    NAMED(KP_F20_BELOW_SETTLED),
+    NAMED(KP_F21_NOT_IN_SYNC),
+    NAMED(KP_F22_STALE_RECORD),
+    NAMED(KP_F23_NOT_CAUGHT_UP),
+    NAMED(KP_F24_RECORD_FULL),
+    NAMED(KP_F25_OFFSETS_EXHAUSTED),
+    NAMED(KP_F26_NOT_NEXT),
+    NAMED(KP_F27_EPOCH_BACK),
+    NAMED(KP_F28_DOWN),
+    NAMED(KP_F29_STALE_ANSWER),
+    NAMED(KP_F30_CONTROL_FROM_CLIENT),
+    NAMED(KP_F31_BAD_SCRIPT),
+    NAMED(KP_F32_DEVICE),
+    NAMED(KP_F33_MEMORY),
+    NAMED(KP_F34_CHANGE_PENDING),
+};
+
+/* Writes the header's word for what kp_text says, as KP_F22_STALE_RECORD for "F22 StaleRecord". */
+static void header_word(uint32_t number, char *word) {
+    uint8_t text[64];
+    const size_t length = kp_text(number, text, sizeof text);
+    char *to = word + sprintf(word, "KP_");
+    for (size_t i = 0; i < length; i++) {
+        const bool begins = text[i] >= 'A' && text[i] <= 'Z';
+        if (begins && i > 0 && text[i - 1] != ' ')
+            *to++ = '_';
+        *to++ = text[i] == ' ' ? '_' : text[i] >= 'a' && text[i] <= 'z' ? (char)(text[i] - 32) : (char)text[i];
+    }
+    *to = 0;
+}
+
+static void refusals_have_the_librarys_names(void) {
+    test = "names of refusals";
+    const uint32_t count = sizeof refusals / sizeof *refusals;
+    char word[128];
+    uint8_t text[64];
+    WANT(count, 34);
+    for (uint32_t i = 0; i < count; i++) {
+        header_word(i + 1, word);
+        WANT(refusals[i].number, i + 1);
+        WANT(strcmp(refusals[i].word, word), 0);
+    }
+    WANT(kp_text(count + 1, text, sizeof text), 0);
+    WANT(KP_MEMORY, KP_F33_MEMORY);
+}
+
 int main(int count, char **words) {
     const char *folder = count > 1 ? words[1] : ".";
     load(&one_record, folder, "one_record.batch");
@@ -509,6 +582,7 @@ int main(int count, char **words) {
     restarts_are_in_order();
     proposals_are_what_was_asked_for();
     misuses_have_their_numbers();
+    refusals_have_the_librarys_names();
     printf("%d wrong\n", wrong);
     return wrong ? 1 : 0;
 }

@@ -131,7 +131,7 @@ fn complain<E: Write>(err: &mut Counted<E>, refusal: Refusal) -> Result<(), Refu
     let (gap, place) = place_in(refusal, &mut buffer);
     err.write_each(&[
         "kpart: ".as_bytes(),
-        refusal.name().as_bytes(),
+        refusal.head().as_bytes(),
         gap.as_bytes(),
         place.as_bytes(),
         "\n".as_bytes(),
@@ -155,7 +155,7 @@ fn complain_at<E: Write>(
     let shown = show(path);
     err.write_each(&[
         "kpart: ".as_bytes(),
-        refusal.name().as_bytes(),
+        refusal.head().as_bytes(),
         gap.as_bytes(),
         place.as_bytes(),
         "\nkpart: ".as_bytes(),

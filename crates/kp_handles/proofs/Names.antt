@@ -1,9 +1,9 @@
 -- The name of what a call answers.
-use Rattle.std.proofs.Common.{◌≡◌, ◌≢◌, ℕ, List, [], ◌++◌, codes}
+use Rattle.std.proofs.Common.{◌≡◌, ◌≢◌, ℕ, List, [], codes}
 use mathlib.Core.Logic.{inl, inr}
-use Rattle.kp_types.specs.Texts.{place_of, place_text, refusal_text}
+use Rattle.kp_types.specs.Texts.{IsNoRefusal, refusal_head, refusal_number}
 use Rattle.kp_types.specs.declared.refusal.Refusal.{Refusal}
-use Rattle.kp_handles.specs.Numbers.{IsName, IsNoMisuse, IsNoRefusal, misuse_name, misuse_number, refusal_number}
+use Rattle.kp_handles.specs.Numbers.{IsName, IsNoMisuse, misuse_name, misuse_number}
 use Rattle.kp_handles.specs.declared.misuse.Misuse.{Misuse}
 
 module _ (number : ℕ) (name : List ℕ) where
@@ -11,7 +11,7 @@ module _ (number : ℕ) (name : List ℕ) where
   unfolding IsName
   of_done e is = inl (e, is)
 
-  pub of_refusal : (f : Refusal) → refusal_number f ≡ number → refusal_text f ≡ name ++ place_text (place_of f) → IsName number name
+  pub of_refusal : (f : Refusal) → refusal_number f ≡ number → name ≡ refusal_head f → IsName number name
   unfolding IsName
   of_refusal f e is = inr (inl (f, e, is))
 

@@ -1,18 +1,19 @@
 -- A line is the text of one call at most.
-use Rattle.std.proofs.Common.{◌≡◌, ℕ, ◌<◌, ◌^◌, Bool, List, [], ◌∷◌, ◌++◌, refl, sym, ap, ◌∙◌, arith, length}
+use Rattle.std.proofs.Common.{◌≡◌, ℕ, ◌<◌, ◌^◌, Bool, List, [], ◌∷◌, ◌++◌, refl, sym, ap, ◌∙◌, arith, length, subst}
 use Rattle.std.specs.Prelude.{IsTrue}
 use Rattle.std.specs.List.{list_all}
 use Rattle.std.specs.Fmt.{decimal}
 use Rattle.std.proofs.lemmas.Fmt.{decimal_injective}
+use Rattle.kp_replica.specs.declared.act.PlainAct.{PlainAct}
 use Rattle.kp_replica.specs.declared.act.PlainAct.TheVariants.{Mark, Alter, Read, Committed}
 use Rattle.kp_replica.specs.declared.altering.IsrChange.TheVariants.{Join, Leave}
-use Rattle.kp_script.specs.Call.{Call, Sender, Elect, Append, Raw, Acts, Deliver, IsSender, IsCallInRange, HasOneCall, is_value, verb_text, fields_text, kind_text, values_text, pieces}
+use Rattle.kp_script.specs.Call.{Call, Sender, Elect, Append, Raw, Acts, Deliver, IsSender, IsCallInRange, HasOneCall, act_words, is_value, verb_text, fields_text, kind_text, values_text, pieces}
 use Rattle.kp_script.specs.Hex.{hex_text, bytes_of}
 use Rattle.kp_script.specs.Read.{sender_front}
 use Rattle.kp_script.proofs.HexLaws.{bytes_back}
 use Rattle.kp_script.proofs.Numbers.{same_field}
 use Rattle.kp_script.proofs.Splitting.{one_parting}
-use Rattle.kp_script.proofs.Verbs.{Each, by_verb, verb_lacks}
+use Rattle.kp_script.proofs.Verbs.{Each, by_verb, same_act, verb_lacks}
 use Rattle.kp_script.proofs.Markers.{marks_apart}
 use Rattle.kp_script.proofs.Senders.{same_sender, same_kind}
 use Rattle.kp_script.proofs.Values.{values_back}
@@ -77,7 +78,9 @@ apart count fits (Acts m (Read f)) p = λ n g q e.
 apart count fits (Acts m (Committed f)) p = λ n g q e.
     let same = same_place count (2 ^ 62) m n f g fits (omega arith) p q e in
     ap (λ (k : ℕ). Acts k (Committed f)) same.0 ∙ ap (λ (k : ℕ). Acts n (Committed k)) same.1
-apart count fits (Acts m act) p = λ n q e. ap (λ (k : ℕ). Acts k act) (same_node count m n fits p.0 q.0 e)
+apart count fits (Acts m act) p = λ n other word.
+    subst (λ (o : PlainAct). IsOnly count (Acts m act) (Acts n o)) (same_act act other (act_words act).0 (refl, refl) word)
+    (λ q e. ap (λ (k : ℕ). Acts k act) (same_node count m n fits p.0 q.0 e))
 
 -- Two calls in range with one text are one call.
 pub one_call : HasOneCall

@@ -1,11 +1,12 @@
 -- How many events were refused, as their answers say it.
 use mir.Val.{bool_byte}
-use Rattle.std.proofs.Common.{◌≡◌, ℕ, ◌+◌, Bool, true, false, cond, [], ◌∷◌, Result, Ok, Err, refl, sym, ap, ◌∙◌}
+use Rattle.std.proofs.Common.{◌≡◌, ℕ, ◌+◌, ◌≤◌, Bool, true, false, cond, List, [], ◌∷◌, ◌++◌, Result, Ok, Err, refl, sym, ap, ◌∙◌, subst, arith}
 use Rattle.std.specs.Prelude.{is_err}
 use Rattle.std.proofs.lemmas.Bool.{cond_both}
 use Rattle.kp_types.specs.declared.refusal.Refusal.{Refusal}
+use Rattle.kp_types.specs.declared.refusal.Refusal.TheVariants.{Memory}
 use Rattle.kp_model.specs.Calls.{said_reply}
-use Rattle.kp_model.specs.Event.{At, DuplicateOf, Reply}
+use Rattle.kp_model.specs.Event.{At, DuplicateOf, Outcome, Reply}
 use Rattle.kp_model.specs.declared.message.Said.{Said}
 use Rattle.kp_model.specs.declared.message.Said.TheVariants.{AsksFrom}
 use Rattle.kp_replica.specs.Acts.{answer_reply}
@@ -16,6 +17,8 @@ use Rattle.kp_replica.specs.declared.producing.Receipt.{Receipt}
 use Rattle.kp_world.specs.Answers.{appended, outcome_of}
 use Rattle.kp_world.specs.declared.event.EventAnswer.{EventAnswer}
 use Rattle.kp_world.specs.declared.event.EventAnswer.TheVariants.{Changed, Sent, Answered}
+use Rattle.kp_script.specs.Playing.{TellsLine}
+use Rattle.kp_script.specs.Trace.{trace_line}
 use Rattle.kp_script.specs.Transcript.{is_refusal, refusals_in}
 
 message_told : (said : Said) → is_refusal (said_reply said) ≡ false
@@ -45,5 +48,18 @@ flag_number : (b : Bool) → bool_byte b ≡ 0 + cond b 1 0
 flag_number true = refl
 flag_number false = refl
 
-pub one_refused : (o : Result EventAnswer Refusal) (b : Bool) (n : ℕ) → n ≡ bool_byte b → b ≡ is_err o → n ≡ refusals_in (outcome_of o ∷ [])
+one_refused : (o : Result EventAnswer Refusal) (b : Bool) (n : ℕ) → n ≡ bool_byte b → b ≡ is_err o → n ≡ refusals_in (outcome_of o ∷ [])
 one_refused o b n e f = e ∙ ap bool_byte (f ∙ sym (refusal_told o)) ∙ flag_number (is_refusal (outcome_of o).reply)
+
+flag_few : (b : Bool) → bool_byte b ≤ 1
+flag_few true = omega arith
+flag_few false = omega arith
+
+-- the line that is told of an answer
+pub line_of : (number node : ℕ) (o : Result EventAnswer Refusal) (before after : List ℕ) (b : Bool) (n : ℕ) → after ≡ before ++ trace_line number node (outcome_of o) → n ≡ bool_byte b → b ≡ is_err o
+    → TellsLine number node (outcome_of o) before after (Ok n)
+line_of number node o before after b n text e f = record { told = (text, one_refused o b n e f); few = subst (λ (m : ℕ). m ≤ 1) (sym e) (flag_few b); only = tt }
+
+-- and a want of memory, with whatever text
+pub line_lost : (number node : ℕ) (o : Outcome) (before after : List ℕ) (refusal : Refusal) → refusal ≡ Memory → TellsLine number node o before after (Err refusal)
+line_lost number node o before after refusal memory = record { told = tt; few = tt; only = memory }

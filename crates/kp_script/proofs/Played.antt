@@ -1,12 +1,14 @@
 -- A script that is played some calls at a time.
-use Rattle.std.proofs.Common.{◌≡◌, ◌∙◌, ℕ, ◌+◌, List, [], ◌∷◌, ◌++◌, Option, Some, None, cond, drop, length, map, take, refl, sym, ap, subst, arith, append_assoc, append-nil, length-append, zero-add, inr}
+use Rattle.std.proofs.Common.{◌≡◌, ◌∙◌, ℕ, ◌+◌, List, [], ◌∷◌, ◌++◌, Option, Some, None, cond, drop, length, map, take, refl, sym, ap, subst, arith, append_assoc, append-nil, length-append, zero-add, inl, inr, Err}
 use Rattle.std.specs.Prelude.{IfSome, Result}
 use Rattle.std.specs.List.{AllByRecursion}
 use Rattle.std.specs.Io.KnownBytes.{Appends}
 use Rattle.std.proofs.KnownBytes.{Appends-nil, Appends-trans}
 use Rattle.std.proofs.lemmas.List.{length-map, length-reverse, map-append, take-append-drop}
 use Rattle.std.proofs.lemmas.List.Sums.{sum_by-append}
+use Rattle.std.proofs.lemmas.Result.{IfOk-weaker}
 use Rattle.kp_types.specs.Devices.{AppendsFront, IsDeviceFault}
+use Rattle.kp_types.proofs.Causes.{always}
 use Rattle.kp_types.proofs.Fronts.{front_behind}
 use Rattle.kp_types.specs.declared.limits.Limits.{Limits}
 use Rattle.kp_types.specs.declared.refusal.Refusal.{Refusal}
@@ -16,14 +18,15 @@ use Rattle.kp_model.specs.Event.{Event, Outcome, Produce}
 use Rattle.kp_model.specs.Laws.{NoDeliveryIsRefusedOddly, RunsAreSafe}
 use Rattle.kp_model.specs.Run.{Moment, Run, last}
 use Rattle.kp_model.specs.World.{start}
-use Rattle.kp_replica.specs.Acts.{IsAct, plain_act}
-use Rattle.kp_replica.specs.declared.act.Act.TheVariants.{Plain}
-use Rattle.kp_replica.specs.declared.act.PlainAct.{PlainAct}
+use Rattle.kp_replica.specs.Acts.{plain_act}
+use Rattle.kp_replica.specs.declared.act.Act.TheVariants.{Produce as HandsOver}
 use Rattle.kp_replica.specs.Offers.{BytesAreAnOffer}
+use Rattle.kp_replica.specs.Replies.{IsOffer}
 use Rattle.kp_replica.proofs.Told.{plain_asked}
-use Rattle.kp_world.specs.Answers.{outcome_of}
+use Rattle.kp_replica.specs.declared.producing.Receipt.{Receipt}
+use Rattle.kp_world.specs.Answers.{appended, outcome_of}
 use Rattle.kp_world.specs.Events.{IsEvent}
-use Rattle.kp_world.specs.declared.event.Event.{Event as CodeEvent}
+use Rattle.kp_world.specs.declared.event.Event.TheVariants.{Acts as Happens}
 use Rattle.kp_world.specs.Laws.{MayCome, PlaysGoOn}
 use Rattle.kp_world.specs.Plays.{IsReached, LeadOn, events_of, outcomes_of}
 use Rattle.kp_world.specs.Shown.{IsShown, Stage, log_of}
@@ -31,10 +34,13 @@ use Rattle.kp_world.specs.declared.event.EventAnswer.{EventAnswer}
 use Rattle.kp_world.proofs.Playing.{all_fit, answered, lead_more, lead_none, nothing_answered, reached_none}
 use Rattle.kp_script.specs.Call.{Call, Header, IsCall, IsCallInRange, node_of, Elect, Append, Raw, Acts, Deliver}
 use Rattle.kp_script.specs.Ended.{limits_in, WritesTo}
-use Rattle.kp_script.specs.Playing.{BeginFrom, HasPlayed, LeadTo, PlayTo, PlayedOut, PlaysOne}
-use Rattle.kp_script.specs.Told.{IsTold, AreTold, Tells, offer_of}
+use Rattle.kp_script.specs.Playing.{BeginFrom, HasPlayed, LeadTo, PlayTo, PlayedOut, PlaysLine, PlaysOne, TellsLine}
+use Rattle.kp_script.specs.Told.{IsTold, AreTold, HandsIn, offer_of}
 use Rattle.kp_script.specs.Trace.{trace_line, trace_text}
 use Rattle.kp_script.specs.Script.{Script, IsScript}
+use Rattle.kp_script.specs.Seen.{seen_call, seen_line}
+use Rattle.kp_script.specs.declared.call.Call.{Call as ParsedCall}
+use Rattle.kp_script.specs.declared.script.Line.{Line as ParsedLine}
 use Rattle.kp_script.specs.Transcript.{IsTraceOf, is_refusal, largest_batch, numbered, refusals_in, WritesFirst, WritesFront}
 use Rattle.kp_script.proofs.Lawful.{lawful_act, lawful_bytes, lawful_values}
 use Rattle.kp_script.proofs.Logs.{shown_logs}
@@ -71,27 +77,41 @@ as_many count calls es os r told p q =
 -- ---- one call of the world
 
 -- the event that a call tells leads on
-pub led_one : (call : ℕ × Call) (event : CodeEvent) (answer : Result EventAnswer Refusal) (old new : Stage) → Tells largest_batch call.1 event
-    → ((limits : Limits) (e : Event) → IsEvent limits.max_batch event e → LeadOn limits old (e ∷ []) (answer ∷ []) new) → LeadTo (call ∷ []) old new (answer ∷ [])
-led_one call event answer old new t step =
-    record {
-      events = t.e ∷ [];
-      told = (t.told, tt);
-      reach = λ limits batch. step limits t.e (subst (λ (max : ℕ). IsEvent max event t.e) (sym batch) t.is);
-    }
+pub led_one : (call : ℕ × Call) (e : Event) (answer : Result EventAnswer Refusal) (old new : Stage) → IsTold largest_batch call.1 e
+    → ((limits : Limits) → limits.max_batch ≡ largest_batch → LeadOn limits old (e ∷ []) (answer ∷ []) new) → LeadTo (call ∷ []) old new (answer ∷ [])
+led_one call e answer old new told step = record { events = e ∷ []; told = (told, tt); reach = step }
 
--- so does the one that a delivery tells
-pub led_delivery : (number message : ℕ) (answer : Result EventAnswer Refusal) (old new : Stage) → ((limits : Limits) → LeadOn limits old (model.Deliver message ∷ []) (answer ∷ []) new)
-    → LeadTo ((number, Deliver message) ∷ []) old new (answer ∷ [])
-led_delivery number message answer old new step =
-    record { events = model.Deliver message ∷ []; told = (refl, tt); reach = λ limits batch. step limits }
+-- and what is told of the answer is what comes of the call
+pub line_told : (call : ℕ × Call) (old new : Stage) (answer : Result EventAnswer Refusal) (before after : List ℕ) (r : Result ℕ Refusal) → LeadTo (call ∷ []) old new (answer ∷ [])
+    → length new.nodes ≡ length old.nodes → TellsLine call.0 (node_of call.1) (outcome_of answer) before after r → PlaysLine call old new before after r
+line_told call old new answer before after r lead count told = record {
+  played = IfOk-weaker r _ _ (λ refused t. record { answer = answer; lead = lead; refused_is = t.1; text_is = t.0 }) told.told;
+  cut = always r (inr (answer, lead));
+  nodes = count;
+  few = told.few;
+  only = told.only;
+}
 
--- and the one that a node's act tells
-pub led_act : (number node : ℕ) (act : PlainAct) (answer : Result EventAnswer Refusal) (old new : Stage)
-    → ((limits : Limits) (a : model.Act) → IsAct limits.max_batch (Plain act) a → LeadOn limits old (model.Acts node a ∷ []) (answer ∷ []) new)
-    → LeadTo ((number, Acts node act) ∷ []) old new (answer ∷ [])
-led_act number node act answer old new step =
-    record { events = model.Acts node (plain_act act) ∷ []; told = (refl, tt); reach = λ limits batch. step limits (plain_act act) refl }
+-- so it is with the bytes that the call hands in
+pub line_handed : (line : ℕ) (call : Call) (bytes : List ℕ) (receipt : Result Receipt Refusal) (old new : Stage) (before after : List ℕ) (r : Result ℕ Refusal) → HandsIn largest_batch call bytes
+    → ((limits : Limits) (e : Event) → IsEvent limits.max_batch (Happens (node_of call) (HandsOver bytes)) e → LeadOn limits old (e ∷ []) (appended receipt ∷ []) new)
+    → length new.nodes ≡ length old.nodes → TellsLine line (node_of call) (outcome_of (appended receipt)) before after r → PlaysLine (line, call) old new before after r
+line_handed line call bytes receipt old new before after r h step count told =
+    let event : Event = model.Acts (node_of call) (Produce h.offer) in
+    line_told (line, call) old new (appended receipt) before after r
+    (led_one (line, call) event (appended receipt) old new h.told
+    (λ limits batch. step limits event (Produce h.offer, (h.offer, subst (λ (max : ℕ). IsOffer max bytes h.offer) (sym batch) h.is, refl), refl)))
+    count told
+
+-- nothing came of it where memory was wanted before
+pub line_cut : (call : ℕ × Call) (old new : Stage) (before after : List ℕ) (refusal : Refusal) → new ≡ old → refusal ≡ refusals.Memory → PlaysLine call old new before after (Err refusal)
+line_cut call old new before after refusal same memory =
+    record { played = tt; cut = inl same; nodes = ap (λ (stage : Stage). length stage.nodes) same; few = tt; only = memory }
+
+-- what comes of the call that the parser's line holds
+pub line_seen : (line : ParsedLine) (call : ParsedCall) (old new : Stage) (before after : List ℕ) (r : Result ℕ Refusal) → line.call ≡ call
+    → PlaysLine (line.number, seen_call call) old new before after r → PlaysLine (seen_line line) old new before after r
+line_seen line call old new before after r is h = subst (λ (other : ParsedCall). PlaysLine (line.number, seen_call other) old new before after r) (sym is) h
 
 leads_more : (calls others : List (ℕ × Call)) (old mid new : Stage) (answers rest : List (Result EventAnswer Refusal)) → LeadTo calls old mid answers → LeadTo others mid new rest
     → LeadTo (calls ++ others) old new (answers ++ rest)

@@ -1,13 +1,14 @@
 -- Calls by their verbs: no two verbs have one text, and none has a space.
-use Rattle.std.proofs.Common.{◌≡◌, ◌≢◌, ℕ, ◌<◌, Bool, true, not, eqb, List, [], ◌∷◌, ◌++◌, MatchBool, refl, sym, ◌∙◌, subst, codes}
+use Rattle.std.proofs.Common.{◌≡◌, ◌≢◌, ℕ, ◌<◌, Bool, true, not, eqb, List, [], ◌∷◌, ◌++◌, MatchBool, refl, sym, ◌∙◌, subst, codes, arith}
 use Rattle.std.specs.Prelude.{bytes_eq, IfSome, None, Option, Some}
 use Rattle.std.specs.Fmt.{decimal}
 use Rattle.std.specs.List.{list_all}
 use Rattle.std.proofs.lemmas.Bool.{and_parts, eqb-false, not-true}
 use Rattle.kp_marker.specs.declared.parts.HandedMarker.{HandedMarker}
-use Rattle.kp_replica.specs.declared.act.PlainAct.TheVariants.{Adopt, Mark, Ask, Raise, Alter, Checkpoint, Stop, Restart, Show, Read, Committed}
+use Rattle.kp_replica.specs.declared.act.PlainAct.{PlainAct}
+use Rattle.kp_replica.specs.declared.act.PlainAct.TheVariants.{Mark, Alter, Read, Committed}
 use Rattle.kp_replica.specs.declared.altering.IsrChange.TheVariants.{Join, Leave}
-use Rattle.kp_script.specs.Call.{Call, Sender, Elect, Append, Raw, Acts, Deliver, IsCallInRange, SpellsNoCall, IsNoLongVerb, IsNoNodeVerb, verb_text, fields_text}
+use Rattle.kp_script.specs.Call.{Call, Sender, Elect, Append, Raw, Acts, Deliver, IsCallInRange, SpellsNoCall, IsNoLongVerb, IsNoNodeVerb, SaysAct, act_words, verb_text, fields_text}
 use Rattle.kp_script.specs.Read.{Lacks, AreFields, AreNoFields}
 use Rattle.kp_script.specs.Seen.{seen_call}
 use Rattle.kp_script.specs.declared.call.Call.{Call as ParsedCall}
@@ -17,27 +18,38 @@ infixr 5 when◌then◌else◌
 abbrev when◌then◌else◌ : Bool → Type 0 → Type 0 → Type 0
 when b then X else Y = MatchBool b X Y
 
--- Each call of this verb is as P says. A verb has a line of its own here, in `each`, in `IsNoVerb` and in `no_verb`.
+-- words that have a field are no verb alone
+pub not_alone : (first : List ℕ) (fields : List (List ℕ)) → first ∷ fields ≡ [] → ⊥
+not_alone first fields e = absurd cc
+
+-- The word of an act that names a node alone decides the act.
+pub same_act : (a b : PlainAct) (verb : List ℕ) → SaysAct verb a → SaysAct verb b → a ≡ b
+same_act (Mark handed) b verb p q = absurd (not_alone _ _ p.1)
+same_act (Alter (Join member)) b verb p q = absurd (not_alone _ _ p.1)
+same_act (Alter (Leave member)) b verb p q = absurd (not_alone _ _ p.1)
+same_act (Read from) b verb p q = absurd (not_alone _ _ p.1)
+same_act (Committed from) b verb p q = absurd (not_alone _ _ p.1)
+same_act a (Mark handed) verb p q = absurd (not_alone _ _ q.1)
+same_act a (Alter (Join member)) verb p q = absurd (not_alone _ _ q.1)
+same_act a (Alter (Leave member)) verb p q = absurd (not_alone _ _ q.1)
+same_act a (Read from) verb p q = absurd (not_alone _ _ q.1)
+same_act a (Committed from) verb p q = absurd (not_alone _ _ q.1)
+same_act a b verb p q = let word : (act_words a).0 ≡ (act_words b).0 = sym p.0 ∙ q.0 in grind arith
+
+-- Each call of this verb is as P says. A verb whose calls say more than a node has a line of its own here, in `each` and in `no_verb`.
 abbrev pub Each : (P : Call → Type 0) → (verb : List ℕ) → Type 0
 Each P verb =
     when bytes_eq verb (codes "elect") then ((node : ℕ) → P (Elect node)) else
-    when bytes_eq verb (codes "adopt") then ((node : ℕ) → P (Acts node Adopt)) else
     when bytes_eq verb (codes "append") then ((node time : ℕ) (sender : Sender) (transactional : Bool) (values : List (List ℕ)) →
     P (Append node time sender transactional values)) else
     when bytes_eq verb (codes "raw") then ((node : ℕ) (bytes : List ℕ) → P (Raw node bytes)) else
     when bytes_eq verb (codes "mark") then ((node : ℕ) (handed : HandedMarker) → P (Acts node (Mark handed))) else
-    when bytes_eq verb (codes "ask") then ((node : ℕ) → P (Acts node Ask)) else
     when bytes_eq verb (codes "deliver") then ((number : ℕ) → P (Deliver number)) else
-    when bytes_eq verb (codes "raise") then ((node : ℕ) → P (Acts node Raise)) else
     when bytes_eq verb (codes "join") then ((node member : ℕ) → P (Acts node (Alter (Join member)))) else
     when bytes_eq verb (codes "leave") then ((node member : ℕ) → P (Acts node (Alter (Leave member)))) else
-    when bytes_eq verb (codes "checkpoint") then ((node : ℕ) → P (Acts node Checkpoint)) else
-    when bytes_eq verb (codes "stop") then ((node : ℕ) → P (Acts node Stop)) else
-    when bytes_eq verb (codes "restart") then ((node : ℕ) → P (Acts node Restart)) else
-    when bytes_eq verb (codes "show") then ((node : ℕ) → P (Acts node Show)) else
     when bytes_eq verb (codes "read") then ((node from : ℕ) → P (Acts node (Read from))) else
     when bytes_eq verb (codes "committed") then ((node from : ℕ) → P (Acts node (Committed from))) else
-    Unit {0}
+    ((node : ℕ) (act : PlainAct) → SaysAct verb act → P (Acts node act))
 
 each : (P : Call → Type 0) (call : Call) → Each P (verb_text call) → P call
 each P (Elect node) h = h node
@@ -49,7 +61,7 @@ each P (Acts node (Alter (Join member))) h = h node member
 each P (Acts node (Alter (Leave member))) h = h node member
 each P (Acts node (Read from)) h = h node from
 each P (Acts node (Committed from)) h = h node from
-each P (Acts node _) h = h node
+each P (Acts node act) h = h node act (refl, refl)
 
 -- So is a call that has this verb.
 pub by_verb : (P : Call → Type 0) (verb : List ℕ) (call : Call) → Each P verb → verb ≡ verb_text call → P call
@@ -70,7 +82,6 @@ lacks_from c (x ∷ xs) all =
 no_spaces : (call : Call) → list_all (λ x. not (eqb x 32)) (verb_text call) ≡ true
 no_spaces (Acts node (Alter (Join member))) = refl
 no_spaces (Acts node (Alter (Leave member))) = refl
-no_spaces (Acts node Adopt) = refl
 no_spaces (Acts node _) = refl
 no_spaces _ = refl
 
@@ -104,22 +115,16 @@ names_node count text none (Acts node _) range v = record { node = node; within 
 
 -- A text that is neither verb is no call's.
 pub no_verb : (text : List ℕ) → IsNoLongVerb text → IsNoNodeVerb text → (call : Call) → text ≢ verb_text call
-no_verb text none other (Elect node) = other.lead.0
+no_verb text none other (Elect node) = other.elect
 no_verb text none other (Append node time sender transactional values) = none.append
 no_verb text none other (Raw node bytes) = none.raw
 no_verb text none other (Deliver number) = none.deliver
-no_verb text none other (Acts node Adopt) = other.lead.1
 no_verb text none other (Acts node (Mark handed)) = none.mark
-no_verb text none other (Acts node Ask) = other.ask
-no_verb text none other (Acts node Raise) = other.lead.2
 no_verb text none other (Acts node (Alter (Join member))) = none.join
 no_verb text none other (Acts node (Alter (Leave member))) = none.leave
-no_verb text none other (Acts node Checkpoint) = let life = other.lead.3 in life.0
-no_verb text none other (Acts node Stop) = let life = other.lead.3 in life.1
-no_verb text none other (Acts node Restart) = let life = other.lead.3 in life.2
-no_verb text none other (Acts node Show) = other.show
 no_verb text none other (Acts node (Read from)) = none.read
 no_verb text none other (Acts node (Committed from)) = none.committed
+no_verb text none other (Acts node act) = λ v. other.act act (v, refl)
 
 -- ---- what a call of a node alone comes to
 

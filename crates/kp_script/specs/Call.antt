@@ -87,6 +87,10 @@ act_words Show = (codes "show", [])
 act_words (Read from) = (codes "read", decimal from ∷ [])
 act_words (Committed from) = (codes "committed", decimal from ∷ [])
 
+-- The verb says this act of a node, and names nothing but the node.
+abbrev pub SaysAct : (verb : List ℕ) → PlainAct → Type 0
+SaysAct verb act = (verb ≡ (act_words act).0) × ((act_words act).1 ≡ [])
+
 -- No call that has more, or other, fields than a node has this verb.
 pub record IsNoLongVerb (verb : List ℕ) : Type 0 where
   pub append : verb ≢ codes "append"
@@ -98,19 +102,10 @@ pub record IsNoLongVerb (verb : List ℕ) : Type 0 where
   pub read : verb ≢ codes "read"
   pub committed : verb ≢ codes "committed"
 
--- No verb by which a node stops, starts again, or notes where to start from.
-abbrev pub IsNoLifeVerb : List ℕ → Type 0
-IsNoLifeVerb verb = (verb ≢ codes "checkpoint") × (verb ≢ codes "stop") × (verb ≢ codes "restart")
-
--- Nor one by which a node is elected, takes up the record or raises its high watermark.
-abbrev pub IsNoLeadVerb : List ℕ → Type 0
-IsNoLeadVerb verb = (verb ≢ codes "elect") × (verb ≢ codes "adopt") × (verb ≢ codes "raise") × IsNoLifeVerb verb
-
 -- No call that names a node and nothing else has this verb.
 pub record IsNoNodeVerb (verb : List ℕ) : Type 0 where
-  pub ask : verb ≢ codes "ask"
-  pub show : verb ≢ codes "show"
-  pub lead : IsNoLeadVerb verb
+  pub elect : verb ≢ codes "elect"
+  pub act : (act : PlainAct) → ¬ SaysAct verb act
 
 -- the verb of a call, and its fields
 abbrev pub words_of : Call → List ℕ × List (List ℕ)

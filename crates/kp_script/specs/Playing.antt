@@ -1,10 +1,11 @@
 -- What playing some of a script's calls does to the world and to the trace.
-use Rattle.std.specs.Prelude.{◌≡◌, ◌⊎◌, ◌++◌, ◌≤◌, ℕ, List, [], ◌∷◌, drop, length, map, Option, Result}
+use Rattle.std.specs.Prelude.{◌≡◌, ◌⊎◌, ◌++◌, ◌≤◌, ℕ, List, [], ◌∷◌, drop, length, map, IfErr, IfOk, OnErr, Option, Result}
 use Rattle.std.specs.Io.KnownBytes.{Appends}
 use Rattle.kp_types.specs.declared.limits.Limits.{Limits}
 use Rattle.kp_types.specs.declared.refusal.Refusal.{Refusal}
+use Rattle.kp_types.specs.declared.refusal.Refusal.TheVariants.{Memory}
 use Rattle.kp_types.specs.Devices.{AppendsFront}
-use Rattle.kp_model.specs.Event.{Event}
+use Rattle.kp_model.specs.Event.{Event, Outcome}
 use Rattle.kp_world.specs.Answers.{outcome_of}
 use Rattle.kp_world.specs.Plays.{IsReached, LeadOn}
 use Rattle.kp_world.specs.Shown.{Stage}
@@ -46,6 +47,20 @@ pub record PlaysOne (call : ℕ × Call) (old new : Stage) (refused : ℕ) (befo
 -- One call was cut off: the stage is as it was, or the call led on to it, and its line of the trace wasn't told.
 abbrev pub CutsOne : (call : ℕ × Call) → (old new : Stage) → Type 0
 CutsOne call old new = (new ≡ old) ⊎ ((answer : Result EventAnswer Refusal) × LeadTo (call ∷ []) old new (answer ∷ []))
+
+-- What comes of one call that is played: whether it was refused, 1 or 0, or a want of memory.
+pub record PlaysLine (call : ℕ × Call) (old new : Stage) (before after : List ℕ) (result : Result ℕ Refusal) : Type 0 where
+  pub played : IfOk result (λ refused. PlaysOne call old new refused before after)
+  pub cut : OnErr result (CutsOne call old new)
+  pub nodes : length new.nodes ≡ length old.nodes
+  pub few : IfOk result (λ refused. refused ≤ 1)
+  pub only : IfErr result (λ refusal. refusal ≡ Memory)
+
+-- The line of an event that names this node stands behind the text; what is answered says whether the event was refused.
+pub record TellsLine (number node : ℕ) (outcome : Outcome) (before after : List ℕ) (result : Result ℕ Refusal) : Type 0 where
+  pub told : IfOk result (λ refused. (after ≡ before ++ trace_line number node outcome) × (refused ≡ refusals_in (outcome ∷ [])))
+  pub few : IfOk result (λ refused. refused ≤ 1)
+  pub only : IfErr result (λ refusal. refusal ≡ Memory)
 
 -- These calls led on to a stage, and this text is their trace.
 pub record PlayedOut (calls : List (ℕ × Call)) (old new : Stage) (refused : ℕ) (text : List ℕ) : Type 0 where

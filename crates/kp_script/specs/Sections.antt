@@ -1,12 +1,12 @@
 -- What a section of a script keeps of its events.
-use Rattle.std.specs.Prelude.{ℕ, ◌≤◌, List, [], ◌∷◌, length, slice_range}
+use Rattle.std.specs.Prelude.{ℕ, ◌≤◌, Bool, List, length, slice_range}
 use Rattle.kp_script.specs.Call.{Call, Elect, Append, Raw, Acts, Deliver}
 use Rattle.kp_script.specs.Hex.{bytes_of}
 use Rattle.kp_script.specs.Seen.{seen_sender, seen_values}
+use Rattle.kp_script.specs.declared.section.AppendLine.{AppendLine}
 use Rattle.kp_script.specs.declared.section.Asked.{Asked}
 use Rattle.kp_script.specs.declared.section.Asked.TheVariants as asked
 use Rattle.kp_script.specs.declared.section.KeptLine.{KeptLine}
-use Rattle.kp_script.specs.declared.section.Lone.{Lone}
 use Rattle.kp_script.specs.declared.section.Place.{Place}
 
 -- the bytes at a place
@@ -24,9 +24,9 @@ kept_call bytes (asked.Deliver number) = Deliver number
 abbrev pub kept_line : List ℕ → KeptLine → ℕ × Call
 kept_line bytes line = (line.number, kept_call bytes line.asked)
 
--- an append of one value
-abbrev pub lone_call : Lone → ℕ × Call
-lone_call lone = (lone.number, Append lone.node lone.time (seen_sender lone.sender) lone.transactional (lone.value.now ∷ []))
+-- an append of one value, or of those between the commas
+abbrev pub append_call : (lone : Bool) → AppendLine → ℕ × Call
+append_call lone line = (line.number, Append line.node line.time (seen_sender line.sender) line.transactional (seen_values lone line.values.now))
 
 -- There are bytes at the place.
 abbrev pub IsPlaceIn : List ℕ → Place → Type 0

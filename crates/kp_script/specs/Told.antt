@@ -10,9 +10,7 @@ use Rattle.kp_model.specs.Event as model
 use Rattle.kp_model.specs.Event.{Event, Produce}
 use Rattle.kp_replica.specs.Acts.{plain_act}
 use Rattle.kp_replica.specs.Replies.{IsOffer}
-use Rattle.kp_world.specs.Events.{IsEvent}
-use Rattle.kp_world.specs.declared.event.Event.{Event as CodeEvent}
-use Rattle.kp_script.specs.Call.{Call, Sender, Elect, Append, Raw, Acts, Deliver}
+use Rattle.kp_script.specs.Call.{Call, Sender, Elect, Append, Raw, Acts, Deliver, node_of}
 
 -- The content that a producer's fields and the kind of a batch say, where they agree: a transaction's batch has a
 -- producer (KIP-98).
@@ -54,8 +52,8 @@ AreTold max [] (e ∷ es) = ⊥
 AreTold max (call ∷ calls) [] = ⊥
 AreTold max (call ∷ calls) (e ∷ es) = IsTold max call e × AreTold max calls es
 
--- The code's event is one that the call tells.
-pub record Tells (max : ℕ) (call : Call) (event : CodeEvent) : Type 0 where
-  pub e : Event
-  pub told : IsTold max call e
-  pub is : IsEvent max event e
+-- The call tells that these bytes are handed to the node that it names.
+pub record HandsIn (max : ℕ) (call : Call) (bytes : List ℕ) : Type 0 where
+  pub offer : Result Body Refusal
+  pub told : IsTold max call (model.Acts (node_of call) (Produce offer))
+  pub is : IsOffer max bytes offer

@@ -2,7 +2,7 @@
 
 ghost use Rattle.std.specs.Prelude.{◌≡◌, ◌≢◌, ℕ, ◌<◌, ◌≤◌, codes, length, IfSome, IfNone};
 ghost use Rattle.std.specs.Fmt.{decimal};
-ghost use Rattle.kp_script.specs.Call.{IsHeaderText, IsCallText, SpellsNoHeader, SpellsNoCall, HasOneCall, IsNoLifeVerb, IsNoLeadVerb, IsNoLongVerb, IsNoNodeVerb};
+ghost use Rattle.kp_script.specs.Call.{IsHeaderText, IsCallText, SpellsNoHeader, SpellsNoCall, HasOneCall, IsNoLongVerb, IsNoNodeVerb, SaysAct};
 ghost use Rattle.kp_script.specs.Read.{AreFields, AreNoFields};
 ghost use Rattle.kp_script.specs.Seen.{seen_header, seen_call};
 
@@ -178,48 +178,20 @@ pub fn header_of(line: &[u8]) -> Option<Header>
     })
 }
 
-/// The call of this verb by which a node stops, starts again, or notes where to start from.
-#[inline(always)]
-fn life_call<'a>(verb: &[u8], node: NodeId) -> Option<Call<'a>>
-    ensures found { IfSome result (λ call. (count : ℕ) → node < count
-        → AreFields count verb.now (decimal node) (seen_call call)) }
-    ensures none { IfNone result (IsNoLifeVerb verb.now) }
+/// What the node does whom a line of this verb names, where the line names nothing else. O(1).
+fn act_named(verb: &[u8]) -> Option<PlainAct>
+    ensures found { IfSome result (SaysAct verb.now) }
+    ensures none { IfNone result ((act : PlainAct) → ¬ SaysAct verb.now act) }
 {
     match verb {
-        b"checkpoint" => Some(Call::Acts {
-            node,
-            act: PlainAct::Checkpoint,
-        }),
-        b"stop" => Some(Call::Acts {
-            node,
-            act: PlainAct::Stop,
-        }),
-        b"restart" => Some(Call::Acts {
-            node,
-            act: PlainAct::Restart,
-        }),
+        b"ask" => Some(PlainAct::Ask),
+        b"show" => Some(PlainAct::Show),
+        b"adopt" => Some(PlainAct::Adopt),
+        b"raise" => Some(PlainAct::Raise),
+        b"checkpoint" => Some(PlainAct::Checkpoint),
+        b"stop" => Some(PlainAct::Stop),
+        b"restart" => Some(PlainAct::Restart),
         _ => None,
-    }
-}
-
-/// The call of this verb by which a node is elected, takes up the record or raises its high watermark; or [`life_call`].
-#[inline(always)]
-fn lead_call<'a>(verb: &[u8], node: NodeId) -> Option<Call<'a>>
-    ensures found { IfSome result (λ call. (count : ℕ) → node < count
-        → AreFields count verb.now (decimal node) (seen_call call)) }
-    ensures none { IfNone result (IsNoLeadVerb verb.now) }
-{
-    match verb {
-        b"elect" => Some(Call::Elect { node }),
-        b"adopt" => Some(Call::Acts {
-            node,
-            act: PlainAct::Adopt,
-        }),
-        b"raise" => Some(Call::Acts {
-            node,
-            act: PlainAct::Raise,
-        }),
-        _ => life_call(verb, node),
     }
 }
 
@@ -230,15 +202,8 @@ fn node_call<'a>(verb: &[u8], node: NodeId) -> Option<Call<'a>>
     ensures none { IfNone result (IsNoNodeVerb verb.now) }
 {
     match verb {
-        b"ask" => Some(Call::Acts {
-            node,
-            act: PlainAct::Ask,
-        }),
-        b"show" => Some(Call::Acts {
-            node,
-            act: PlainAct::Show,
-        }),
-        _ => lead_call(verb, node),
+        b"elect" => Some(Call::Elect { node }),
+        _ => act_named(verb).map(|act| Call::Acts { node, act }),
     }
 }
 

@@ -3,10 +3,10 @@
 //! events that the bytes spell, and that a faulty script is refused by its first faulty line.
 #![tactic(auto)]
 
+mod batches;
 mod call;
 mod digits;
 mod ended;
-mod events;
 mod fields;
 mod keeping;
 mod lines;

@@ -173,14 +173,7 @@ fn answer_event<W: Write>(
             let mut parts = Vec::new(alloc);
             let line = Line { number, call };
             work.text.clear();
-            let refused = play_line(
-                alloc,
-                line,
-                running.count,
-                &mut running.world,
-                work,
-                &mut parts,
-            )?;
+            let refused = play_line(alloc, line, &mut running.world, work, &mut parts)?;
             writer.write_all(&work.text)?;
             Ok(refused)
         }

@@ -1,28 +1,28 @@
 //! A script run from its bytes to its trace's bytes.
 
-ghost use Rattle.std.specs.Prelude.{◌≡◌, ◌+◌, ◌<◌, ◌≤◌, ◌^◌, ℕ, [], ◌∷◌, ◌++◌, IfOk, IfErr, IfSome, OnErr, Err, length, drop, slice_index_or, take};
+ghost use Rattle.std.specs.Prelude.{◌≡◌, ◌+◌, ◌<◌, ◌≤◌, ◌^◌, ℕ, [], ◌∷◌, ◌++◌, IfOk, IfErr, IfSome, OnErr, Err, length, drop, slice_index_or, take, true};
 ghost use Rattle.std.specs.List.{AllByRecursion};
 ghost use Rattle.kp_types.specs.declared.refusal.Refusal.TheVariants.{BadScript, Device as DeviceFault, Memory as WantOfMemory};
 ghost use Rattle.kp_types.specs.Devices.{CountsFaults, CountsOne, IsDeviceFault, device_of, faults_of};
-ghost use Rattle.kp_script.specs.Call.{Call as SpelledCall, IsCall, Acts, Deliver};
+ghost use Rattle.kp_script.specs.Call.{Call as SpelledCall, IsCall, Acts, Deliver, Elect, Raw};
 ghost use Rattle.kp_script.specs.Ended.{limits_in, AreLimited, WritesTo};
-ghost use Rattle.kp_script.specs.Playing.{BeginFrom, CutsOne, IsFirstWhole, IsWithin, PlayTo, PlaysOne, left_in};
+ghost use Rattle.kp_script.specs.Playing.{BeginFrom, IsFirstWhole, IsWithin, PlayTo, PlaysLine, TellsLine, left_in};
+ghost use Rattle.kp_script.specs.Hex.{bytes_of};
 ghost use Rattle.kp_script.specs.Parsed.{IsScriptOf, seen_script};
 ghost use Rattle.kp_script.specs.Script.{IsFaultAt};
 ghost use Rattle.kp_script.specs.Seen.{seen_call, seen_header, seen_line};
-ghost use Rattle.kp_script.specs.Sections.{lone_call};
-ghost use Rattle.kp_script.specs.Trace.{trace_line};
-ghost use Rattle.kp_script.specs.Transcript.{IsRunRefusal, Writes, WritesFirst, WritesFront, refusals_in};
-ghost use Rattle.kp_world.specs.Answers.{outcome_of};
+ghost use Rattle.kp_script.specs.Sections.{append_call};
+ghost use Rattle.kp_script.specs.Transcript.{IsRunRefusal, Writes, WritesFirst, WritesFront};
+ghost use Rattle.kp_world.specs.Answers.{appended, outcome_of};
 
+use crate::batches::{batch_of, batch_of_value, raw_bytes};
 use crate::call::{Call, Header};
 use crate::ended::Ended;
-use crate::events::{batch_of_value, event_of};
 use crate::script::{Line, Script, parse};
-use crate::section::{Lone, Section};
+use crate::section::{AppendLine, Section};
 use crate::trace::{push_append, push_event};
 use kp_batch::{Parts, Speller};
-use kp_replica::{Act, PlainAct};
+use kp_replica::{Act, PlainAct, Receipt};
 use kp_types::{Counted, Limits, MAX_BATCH, NodeId, Refusal};
 use kp_world::{EventAnswer, World};
 use std::alloc::Global;
@@ -69,118 +69,7 @@ pub(crate) fn limits_of(header: &Header) -> Limits
     }
 }
 
-/// Hands the node the batch of this append, and puts its line of the trace behind the text. Answers 1 where it was refused, and else
-/// 0. F33. A world answers an append by its receipt alone.
-#[inline(always)]
-fn play_lone(
-    lone: &Lone<'_>,
-    count: NodeId,
-    world: &mut World,
-    work: &mut Work,
-) -> Result<u64, Refusal>
-    requires call { IsCall count (lone_call lone.now).1 }
-    requires short { length lone.now.value.now ≤ 1000000 }
-    requires nodes { length world.old.nodes ≡ count }
-    ensures played { IfOk result (λ refused.
-        PlaysOne (lone_call lone.now) world.old world.new refused work.old.text.items work.new.text.items) }
-    ensures cut { OnErr result (CutsOne (lone_call lone.now) world.old world.new) }
-    ensures nodes { length world.new.nodes ≡ count }
-    ensures few { IfOk result (λ refused. refused ≤ 1) }
-    ensures only { IfErr result (λ refusal. refusal ≡ WantOfMemory) }
-{
-    let _ = count;
-    let speller = &mut work.speller;
-    let bytes = batch_of_value(
-        speller,
-        lone.time,
-        lone.sender,
-        lone.transactional,
-        lone.value,
-    )?;
-    let receipt = world.produce(lone.node, bytes);
-    push_append(&mut work.text, lone.number, lone.node, &receipt)?;
-    Ok(u64::from(receipt.is_err()))
-}
-
-/// Does what [`play_line`] does, for any line.
-#[inline(always)]
-fn play_other<'a>(
-    alloc: Global,
-    line: Line<'a>,
-    count: NodeId,
-    world: &mut World,
-    work: &mut Work,
-    parts: &mut Vec<Parts<'a>>,
-) -> Result<u64, Refusal>
-    requires call { IsCall count (seen_call line.call) }
-    requires nodes { length world.old.nodes ≡ count }
-    ensures played { IfOk result (λ refused.
-        PlaysOne (seen_line line.entry) world.old world.new refused work.old.text.items work.new.text.items) }
-    ensures cut { OnErr result (CutsOne (seen_line line.entry) world.old world.new) }
-    ensures nodes { length world.new.nodes ≡ count }
-    ensures few { IfOk result (λ refused. refused ≤ 1) }
-    ensures only { IfErr result (λ refusal. refusal ≡ WantOfMemory) }
-{
-    match line.call {
-        Call::Deliver { number } => play_delivery(alloc, line.number, number, world, work),
-        Call::Acts { node, act } => play_act(alloc, line.number, node, act, world, work),
-        _ => play_any(alloc, line, count, world, work, parts),
-    }
-}
-
-/// Makes the line's event happen in the world, and puts its line of the trace behind the text. Answers 1 where it was refused, and
-/// else 0. F33. Most lines are appends of one value: those have a way of their own, which answers a receipt.
-pub(crate) fn play_line<'a>(
-    alloc: Global,
-    line: Line<'a>,
-    count: NodeId,
-    world: &mut World,
-    work: &mut Work,
-    parts: &mut Vec<Parts<'a>>,
-) -> Result<u64, Refusal>
-    requires call { IsCall count (seen_call line.call) }
-    requires nodes { length world.old.nodes ≡ count }
-    ensures played { IfOk result (λ refused.
-        PlaysOne (seen_line line.entry) world.old world.new refused work.old.text.items work.new.text.items) }
-    ensures cut { OnErr result (CutsOne (seen_line line.entry) world.old world.new) }
-    ensures nodes { length world.new.nodes ≡ count }
-    ensures few { IfOk result (λ refused. refused ≤ 1) }
-    ensures only { IfErr result (λ refusal. refusal ≡ WantOfMemory) }
-{
-    match line.lone() {
-        Some(lone) => play_lone(&lone, count, world, work),
-        None => play_other(alloc, line, count, world, work, parts),
-    }
-}
-
-/// Does what [`play_line`] does, for the event at this place of the section.
-#[inline(always)]
-fn play_at<'a>(
-    alloc: Global,
-    section: &'a Section,
-    at: usize,
-    count: NodeId,
-    world: &mut World,
-    work: &mut Work,
-    parts: &mut Vec<Parts<'a>>,
-) -> Result<u64, Refusal>
-    requires within { at < length section.now }
-    requires call { (other : ℕ × SpelledCall) → IsCall count (slice_index_or section.now at other).1 }
-    requires nodes { length world.old.nodes ≡ count }
-    ensures played { IfOk result (λ refused. (other : ℕ × SpelledCall)
-        → PlaysOne (slice_index_or section.now at other) world.old world.new refused
-        work.old.text.items work.new.text.items) }
-    ensures nodes { length world.new.nodes ≡ count }
-    ensures few { IfOk result (λ refused. refused ≤ 1) }
-    ensures only { IfErr result (λ refusal. refusal ≡ WantOfMemory) }
-{
-    match section.lone(at) {
-        Some(lone) => play_lone(&lone, count, world, work),
-        None => play_other(alloc, section.line(at), count, world, work, parts),
-    }
-}
-
-/// Puts the line of an event that names this node behind the text. Answers 1 where the event was refused, and else 0.
+/// Puts the line of an event that names this node behind the text. Answers 1 where the event was refused, and else 0. F33.
 #[inline(always)]
 fn tell(
     text: &mut Vec<u8>,
@@ -188,37 +77,100 @@ fn tell(
     node: NodeId,
     outcome: &Result<EventAnswer, Refusal>,
 ) -> Result<u64, Refusal>
-    ensures told { IfOk result (λ refused.
-        (text.new.items ≡ text.old.items ++ trace_line number node (outcome_of outcome.now))
-        × (refused ≡ refusals_in (outcome_of outcome.now ∷ []))) }
-    ensures few { IfOk result (λ refused. refused ≤ 1) }
-    ensures only { IfErr result (λ refusal. refusal ≡ WantOfMemory) }
+    ensures { TellsLine number node (outcome_of outcome.now) text.old.items text.new.items result }
 {
     push_event(text, number, node, outcome)?;
     Ok(u64::from(outcome.is_err()))
 }
 
-/// Does what [`play_line`] does for a delivery of this message. What the world answers is told where it lies.
+/// Does what [`tell`] does for an append, of which a world answers the receipt alone.
+#[inline(always)]
+fn tell_receipt(
+    text: &mut Vec<u8>,
+    number: u64,
+    node: NodeId,
+    receipt: &Result<Receipt, Refusal>,
+) -> Result<u64, Refusal>
+    ensures { TellsLine number node (outcome_of (appended receipt.now)) text.old.items text.new.items result }
+{
+    push_append(text, number, node, receipt)?;
+    Ok(u64::from(receipt.is_err()))
+}
+
+/// Does what [`play_line`] does for an append of one value.
+#[inline(always)]
+fn play_lone(lone: &AppendLine<'_>, world: &mut World, work: &mut Work) -> Result<u64, Refusal>
+    requires call { IsCall (length world.old.nodes) (append_call true lone.now).1 }
+    requires short { length lone.now.values.now ≤ 1000000 }
+    ensures { PlaysLine (append_call true lone.now) world.old world.new work.old.text.items work.new.text.items result }
+{
+    let speller = &mut work.speller;
+    let bytes = batch_of_value(
+        speller,
+        lone.time,
+        lone.sender,
+        lone.transactional,
+        lone.values,
+    )?;
+    let receipt = world.produce(lone.node, bytes);
+    tell_receipt(&mut work.text, lone.number, lone.node, &receipt)
+}
+
+/// Does what [`play_line`] does for an append, whether of one value or not. It is no part of its caller, as few lines need it.
 #[inline(never)]
-fn play_delivery(
+fn play_values<'a>(
+    line: &AppendLine<'a>,
+    lone: bool,
+    world: &mut World,
+    work: &mut Work,
+    parts: &mut Vec<Parts<'a>>,
+) -> Result<u64, Refusal>
+    requires { IsCall (length world.old.nodes) (append_call lone line.now).1 }
+    ensures { PlaysLine (append_call lone line.now) world.old world.new work.old.text.items work.new.text.items result }
+{
+    let bytes = batch_of(
+        &mut work.speller,
+        parts,
+        line.time,
+        line.sender,
+        line.transactional,
+        lone,
+        line.values,
+    )?;
+    let receipt = world.produce(line.node, bytes);
+    tell_receipt(&mut work.text, line.number, line.node, &receipt)
+}
+
+/// Does what [`play_line`] does where the node is handed the bytes that these digits spell.
+#[inline(never)]
+fn play_raw(
     alloc: Global,
     line: u64,
-    message: u64,
+    node: NodeId,
+    digits: &[u8],
     world: &mut World,
     work: &mut Work,
 ) -> Result<u64, Refusal>
-    ensures played { IfOk result (λ refused.
-        PlaysOne (line, Deliver message) world.old world.new refused work.old.text.items work.new.text.items) }
-    ensures cut { OnErr result (CutsOne (line, Deliver message) world.old world.new) }
-    ensures nodes { length world.new.nodes ≡ length world.old.nodes }
-    ensures few { IfOk result (λ refused. refused ≤ 1) }
-    ensures only { IfErr result (λ refusal. refusal ≡ WantOfMemory) }
+    requires { node < length world.old.nodes }
+    ensures { PlaysLine (line, Raw node (bytes_of digits.now)) world.old world.new work.old.text.items work.new.text.items result }
 {
-    let delivered = world.deliver(alloc, message);
-    match &delivered {
-        Ok(outcome) => tell(&mut work.text, line, 0, outcome),
-        Err(_) => Err(Refusal::Memory),
-    }
+    let bytes = raw_bytes(alloc, digits)?;
+    let receipt = world.produce(node, bytes);
+    tell_receipt(&mut work.text, line, node, &receipt)
+}
+
+/// Does what [`play_line`] does where the controller elects a node. What the world answers is told where it lies.
+#[inline(never)]
+fn play_election(
+    line: u64,
+    node: NodeId,
+    world: &mut World,
+    work: &mut Work,
+) -> Result<u64, Refusal>
+    ensures { PlaysLine (line, Elect node) world.old world.new work.old.text.items work.new.text.items result }
+{
+    let elected = world.elect(node);
+    tell(&mut work.text, line, node, &elected)
 }
 
 /// Does what [`play_line`] does where a node acts. What the world answers is told where it lies.
@@ -232,12 +184,7 @@ fn play_act(
     work: &mut Work,
 ) -> Result<u64, Refusal>
     requires { node < length world.old.nodes }
-    ensures played { IfOk result (λ refused.
-        PlaysOne (line, Acts node act) world.old world.new refused work.old.text.items work.new.text.items) }
-    ensures cut { OnErr result (CutsOne (line, Acts node act) world.old world.new) }
-    ensures nodes { length world.new.nodes ≡ length world.old.nodes }
-    ensures few { IfOk result (λ refused. refused ≤ 1) }
-    ensures only { IfErr result (λ refusal. refusal ≡ WantOfMemory) }
+    ensures { PlaysLine (line, Acts node act) world.old world.new work.old.text.items work.new.text.items result }
 {
     let acted = world.act(alloc, node, Act::Plain(act));
     match &acted {
@@ -246,30 +193,101 @@ fn play_act(
     }
 }
 
-/// Does what [`play_line`] does, for any line. It is no part of its caller, which would clear room for what it answers.
+/// Does what [`play_line`] does for a delivery of this message. What the world answers is told where it lies.
 #[inline(never)]
-fn play_any<'a>(
+fn play_delivery(
+    alloc: Global,
+    line: u64,
+    message: u64,
+    world: &mut World,
+    work: &mut Work,
+) -> Result<u64, Refusal>
+    ensures { PlaysLine (line, Deliver message) world.old world.new work.old.text.items work.new.text.items result }
+{
+    let delivered = world.deliver(alloc, message);
+    match &delivered {
+        Ok(outcome) => tell(&mut work.text, line, 0, outcome),
+        Err(_) => Err(Refusal::Memory),
+    }
+}
+
+/// Does what [`play_line`] does, for any line.
+#[inline(always)]
+fn play_other<'a>(
     alloc: Global,
     line: Line<'a>,
-    count: NodeId,
     world: &mut World,
     work: &mut Work,
     parts: &mut Vec<Parts<'a>>,
 ) -> Result<u64, Refusal>
-    requires call { IsCall count (seen_call line.call) }
-    requires nodes { length world.old.nodes ≡ count }
-    ensures played { IfOk result (λ refused.
-        PlaysOne (seen_line line.entry) world.old world.new refused work.old.text.items work.new.text.items) }
-    ensures cut { OnErr result (CutsOne (seen_line line.entry) world.old world.new) }
-    ensures nodes { length world.new.nodes ≡ count }
-    ensures few { IfOk result (λ refused. refused ≤ 1) }
-    ensures only { IfErr result (λ refusal. refusal ≡ WantOfMemory) }
+    requires { IsCall (length world.old.nodes) (seen_call line.call) }
+    ensures { PlaysLine (seen_line line.entry) world.old world.new work.old.text.items work.new.text.items result }
 {
-    let event = event_of(alloc, &mut work.speller, parts, &line.call, count)?;
-    let Ok(outcome) = world.step(alloc, event) else {
-        return Err(Refusal::Memory);
-    };
-    tell(&mut work.text, line.number, line.call.node(), &outcome)
+    let number = line.number;
+    match line.call {
+        Call::Elect { node } => play_election(number, node, world, work),
+        Call::Append {
+            node,
+            transactional,
+            lone,
+            time,
+            sender,
+            values,
+        } => {
+            let append = AppendLine {
+                number,
+                node,
+                transactional,
+                time,
+                sender,
+                values,
+            };
+            play_values(&append, lone, world, work, parts)
+        }
+        Call::Raw { node, digits } => play_raw(alloc, number, node, digits, world, work),
+        Call::Acts { node, act } => play_act(alloc, number, node, act, world, work),
+        Call::Deliver { number: message } => play_delivery(alloc, number, message, world, work),
+    }
+}
+
+/// Makes the line's event happen in the world, and puts its line of the trace behind the text. Answers 1 where it was refused, and
+/// else 0. F33. Most lines are appends of one value: those have a way of their own, which has nothing to test.
+pub(crate) fn play_line<'a>(
+    alloc: Global,
+    line: Line<'a>,
+    world: &mut World,
+    work: &mut Work,
+    parts: &mut Vec<Parts<'a>>,
+) -> Result<u64, Refusal>
+    requires { IsCall (length world.old.nodes) (seen_call line.call) }
+    ensures { PlaysLine (seen_line line.entry) world.old world.new work.old.text.items work.new.text.items result }
+{
+    match line.lone() {
+        Some(lone) => play_lone(&lone, world, work),
+        None => play_other(alloc, line, world, work, parts),
+    }
+}
+
+/// Does what [`play_line`] does, for the event at this place of the section.
+#[inline(always)]
+fn play_at<'a>(
+    alloc: Global,
+    section: &'a Section,
+    at: usize,
+    world: &mut World,
+    work: &mut Work,
+    parts: &mut Vec<Parts<'a>>,
+) -> Result<u64, Refusal>
+    requires within { at < length section.now }
+    requires call { (other : ℕ × SpelledCall)
+        → IsCall (length world.old.nodes) (slice_index_or section.now at other).1 }
+    ensures { (other : ℕ × SpelledCall) → PlaysLine (slice_index_or section.now at other)
+        world.old world.new work.old.text.items work.new.text.items result }
+{
+    match section.lone(at) {
+        Some(lone) => play_lone(&lone, world, work),
+        None => play_other(alloc, section.line(at), world, work, parts),
+    }
 }
 
 /// Plays lines of the section from this place on until their trace has so many bytes that it is written, and writes it. F33, and then nothing is
@@ -278,14 +296,12 @@ fn play_lines<W: Write>(
     alloc: Global,
     section: &Section,
     from: usize,
-    count: NodeId,
     world: &mut World,
     work: &mut Work,
     writer: &mut Counted<W>,
 ) -> Result<Played, Refusal>
     requires within { from ≤ length section.now }
-    requires calls { AllByRecursion (λ call. IsCall count call.1) (drop from section.now) }
-    requires nodes { length world.old.nodes ≡ count }
+    requires calls { AllByRecursion (λ call. IsCall (length world.old.nodes) call.1) (drop from section.now) }
     requires writes { faults_of writer.old + 1 < 2 ^ 64 }
     ensures played { IfOk result (λ played.
         PlayTo (take played.lines (drop from section.now)) world.old world.new played.refused
@@ -298,7 +314,7 @@ fn play_lines<W: Write>(
         × BeginFrom (take n (drop from section.now)) world.old
         (W.contents (device_of writer.old)) (W.contents (device_of writer.new)) }
     ensures untouched { result ≡ Err WantOfMemory → writer.new ≡ writer.old }
-    ensures nodes { length world.new.nodes ≡ count }
+    ensures nodes { length world.new.nodes ≡ length world.old.nodes }
     ensures only { IfErr result IsDeviceFault }
     ensures counted { CountsFaults result (faults_of writer.old) (faults_of writer.new) }
 {
@@ -308,15 +324,7 @@ fn play_lines<W: Write>(
     let mut refused = 0;
     work.text.clear();
     while played < left && work.text.len() < TEXT_AT_ONCE {
-        refused += play_at(
-            alloc,
-            section,
-            from + played,
-            count,
-            world,
-            work,
-            &mut parts,
-        )?;
+        refused += play_at(alloc, section, from + played, world, work, &mut parts)?;
         played += 1;
     }
     writer.write_all(&work.text)?;
@@ -404,15 +412,7 @@ pub fn play_script<R: Read, W: Write>(
     let mut refused = 0;
     let mut from = 0;
     while let Some(section) = script.sections.front() {
-        let played = play_lines(
-            alloc,
-            section,
-            from,
-            header.count,
-            &mut world,
-            &mut work,
-            writer,
-        )?;
+        let played = play_lines(alloc, section, from, &mut world, &mut work, writer)?;
         refused += played.refused;
         from = left_behind(&mut script.sections, from + played.lines);
     }

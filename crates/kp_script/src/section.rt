@@ -1,12 +1,12 @@
 //! The events of a script as it keeps them: some thousand of them together, with the bytes of their values and digits.
 
-ghost use Rattle.std.specs.Prelude.{◌≡◌, ◌<◌, ◌≤◌, [], ◌∷◌, ◌++◌, ℕ, List, length, slice_index_or, IfOk, IfSome, OnOk, OnErr};
+ghost use Rattle.std.specs.Prelude.{◌≡◌, ◌<◌, ◌≤◌, [], ◌∷◌, ◌++◌, ℕ, List, length, slice_index_or, IfOk, IfSome, OnOk, OnErr, true};
 ghost use Rattle.kp_script.specs.Call.{Call as SpelledCall};
 ghost use Rattle.kp_script.specs.Seen.{seen_call, seen_line};
-ghost use Rattle.kp_script.specs.Sections.{IsHeldBy, kept_call, lone_call};
+ghost use Rattle.kp_script.specs.Sections.{IsHeldBy, append_call, kept_call};
 
+use crate::batches::LONGEST_VALUE;
 use crate::call::{Call, Sender};
-use crate::events::LONGEST_VALUE;
 use crate::script::Line;
 use kp_replica::PlainAct;
 use kp_types::NodeId;
@@ -57,26 +57,27 @@ struct KeptLine {
 // A script keeps up to a million of them.
 const _: () = prove!(size_of::<KeptLine>() == 56);
 
-/// An append of one value, of at most [`LONGEST_VALUE`] bytes, which most events of a script are.
+/// The line of an append, whose values are one, or stand with a comma between each two. Most events of a script are appends of one
+/// value of at most [`LONGEST_VALUE`] bytes.
 #[derive(Clone, Copy)]
-pub(crate) struct Lone<'a> {
+pub(crate) struct AppendLine<'a> {
     pub(crate) number: u64,
     pub(crate) node: NodeId,
     pub(crate) transactional: bool,
     pub(crate) time: u64,
     pub(crate) sender: Sender,
-    pub(crate) value: &'a [u8],
+    pub(crate) values: &'a [u8],
 }
 
 impl<'a> Line<'a> {
-    ghost use Rattle.std.specs.Prelude.{◌≡◌, ◌≤◌, length, IfSome};
+    ghost use Rattle.std.specs.Prelude.{◌≡◌, ◌≤◌, length, IfSome, true};
     ghost use Rattle.kp_script.specs.Seen.{seen_line};
-    ghost use Rattle.kp_script.specs.Sections.{lone_call};
+    ghost use Rattle.kp_script.specs.Sections.{append_call};
 
-    /// The append, where it is one of one value that isn't too long for a [`Lone`]. O(1).
-    pub(crate) fn lone(&self) -> Option<Lone<'a>>
-        ensures lone { IfSome result (λ lone. seen_line self.now ≡ lone_call lone) }
-        ensures short { IfSome result (λ lone. length lone.value.now ≤ 1000000) }
+    /// The append, where it is one of one value that has at most [`LONGEST_VALUE`] bytes. O(1).
+    pub(crate) fn lone(&self) -> Option<AppendLine<'a>>
+        ensures lone { IfSome result (λ lone. seen_line self.now ≡ append_call true lone) }
+        ensures short { IfSome result (λ lone. length lone.values.now ≤ 1000000) }
     {
         match self.call {
             Call::Append {
@@ -86,13 +87,13 @@ impl<'a> Line<'a> {
                 time,
                 sender,
                 values,
-            } if values.len() <= LONGEST_VALUE => Some(Lone {
+            } if values.len() <= LONGEST_VALUE => Some(AppendLine {
                 number: self.number,
                 node,
                 transactional,
                 time,
                 sender,
-                value: values,
+                values,
             }),
             _ => None,
         }
@@ -114,7 +115,7 @@ impl Drop for Section {
 }
 
 impl Model for Section {
-    ghost use Rattle.std.specs.Prelude.{ℕ, List, map};
+    ghost use Rattle.std.specs.Prelude.{ℕ, List, map, true};
     ghost use Rattle.std.specs.List.{AllByRecursion};
     ghost use Rattle.kp_script.specs.Call.{Call};
     ghost use Rattle.kp_script.specs.Sections.{IsHeldBy, kept_line};
@@ -267,13 +268,13 @@ impl Section {
         Ok(())
     }
 
-    /// The event at this place, from 0, where it is an append of one value that isn't too long for a [`Lone`]. O(1), with no copy.
+    /// The event at this place, from 0, where it is an append of one value that has at most [`LONGEST_VALUE`] bytes. O(1), with no copy.
     #[inline(always)]
-    pub(crate) fn lone(&self, at: usize) -> Option<Lone<'_>>
+    pub(crate) fn lone(&self, at: usize) -> Option<AppendLine<'_>>
         requires { at < length self.now }
         ensures lone { IfSome result (λ lone. (other : ℕ × SpelledCall)
-            → slice_index_or self.now at other ≡ lone_call lone) }
-        ensures short { IfSome result (λ lone. length lone.value.now ≤ 1000000) }
+            → slice_index_or self.now at other ≡ append_call true lone) }
+        ensures short { IfSome result (λ lone. length lone.values.now ≤ 1000000) }
     {
         let kept = &self.lines[at];
         match kept.asked {
@@ -284,13 +285,13 @@ impl Section {
                 time,
                 sender,
                 values,
-            } if values.to - values.from <= LONGEST_VALUE => Some(Lone {
+            } if values.to - values.from <= LONGEST_VALUE => Some(AppendLine {
                 number: kept.number,
                 node,
                 transactional,
                 time,
                 sender,
-                value: bytes_at(&self.bytes, values),
+                values: bytes_at(&self.bytes, values),
             }),
             _ => None,
         }

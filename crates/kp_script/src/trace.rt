@@ -262,7 +262,7 @@ fn push_told(text: &mut Vec<u8>, node: NodeId, told: &EventAnswer) -> Result<(),
 fn push_refusal(text: &mut Vec<u8>, refusal: &Refusal) -> Result<(), AllocError>
     ensures { OnOk result (text.new.items ≡ text.old.items ++ refusal_text refusal.now) }
 {
-    text.extend_from_slice(refusal.name().as_bytes())?;
+    text.extend_from_slice(refusal.head().as_bytes())?;
     match refusal.place() {
         Some(place) => push_named(text, b" ", place),
         None => Ok(()),

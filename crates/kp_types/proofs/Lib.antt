@@ -4,3 +4,4 @@ pub mod Elements
 pub mod Ordered
 pub mod Numbers
 pub mod Causes
+pub mod Heads

@@ -1,44 +1,55 @@
--- The text of each refusal, as the program prints it.
-use Rattle.std.specs.Prelude.{List, [], ◌∷◌, ℕ, ◌++◌, codes, Option, Some, None}
+-- The number and the name of each refusal, and the text that the program prints of it.
+use Rattle.std.specs.Prelude.{List, [], ◌∷◌, ℕ, ◌++◌, ◌≢◌, codes, Option, Some, None}
 use Rattle.std.specs.Fmt.{decimal}
 use Rattle.kp_types.specs.declared.refusal.Refusal.{Refusal}
 use Rattle.kp_types.specs.declared.refusal.Refusal.TheVariants as refusals
 
-abbrev pub refusal_text : Refusal → List ℕ
-refusal_text refusals.Truncated = codes "F1 Truncated"
-refusal_text refusals.BadMagic = codes "F2 BadMagic"
-refusal_text refusals.BadLength = codes "F3 BadLength"
-refusal_text refusals.BadCrc = codes "F4 BadCrc"
-refusal_text refusals.Compressed = codes "F5 Compressed"
-refusal_text refusals.BadAttributes = codes "F6 BadAttributes"
-refusal_text refusals.BadCount = codes "F7 BadCount"
-refusal_text (refusals.BadRecord place) = codes "F8 BadRecord " ++ decimal place
-refusal_text refusals.TooLarge = codes "F9 TooLarge"
-refusal_text refusals.BadProducerFields = codes "F10 BadProducerFields"
-refusal_text refusals.InvalidProducerEpoch = codes "F11 InvalidProducerEpoch"
-refusal_text refusals.OutOfOrderSequence = codes "F12 OutOfOrderSequence"
-refusal_text refusals.InvalidTxnState = codes "F13 InvalidTxnState"
-refusal_text refusals.CoordinatorFenced = codes "F14 CoordinatorFenced"
-refusal_text refusals.NotLeader = codes "F15 NotLeader"
-refusal_text refusals.OffsetOutOfRange = codes "F16 OffsetOutOfRange"
-refusal_text refusals.FencedLeaderEpoch = codes "F17 FencedLeaderEpoch"
-refusal_text refusals.UnknownLeaderEpoch = codes "F18 UnknownLeaderEpoch"
-refusal_text refusals.NotBoundary = codes "F19 NotBoundary"
-refusal_text refusals.BelowSettled = codes "F20 BelowSettled"
-refusal_text refusals.NotInSync = codes "F21 NotInSync"
-refusal_text refusals.StaleRecord = codes "F22 StaleRecord"
-refusal_text refusals.NotCaughtUp = codes "F23 NotCaughtUp"
-refusal_text refusals.RecordFull = codes "F24 RecordFull"
-refusal_text refusals.OffsetsExhausted = codes "F25 OffsetsExhausted"
-refusal_text refusals.NotNext = codes "F26 NotNext"
-refusal_text refusals.EpochBack = codes "F27 EpochBack"
-refusal_text refusals.Down = codes "F28 Down"
-refusal_text refusals.StaleAnswer = codes "F29 StaleAnswer"
-refusal_text refusals.ControlFromClient = codes "F30 ControlFromClient"
-refusal_text (refusals.BadScript line) = codes "F31 BadScript " ++ decimal line
-refusal_text refusals.Device = codes "F32 Device"
-refusal_text refusals.Memory = codes "F33 Memory"
-refusal_text refusals.ChangePending = codes "F34 ChangePending"
+-- a refusal's number and name
+abbrev pub refusal_row : Refusal → ℕ × List ℕ
+refusal_row refusals.Truncated = (1, codes "Truncated")
+refusal_row refusals.BadMagic = (2, codes "BadMagic")
+refusal_row refusals.BadLength = (3, codes "BadLength")
+refusal_row refusals.BadCrc = (4, codes "BadCrc")
+refusal_row refusals.Compressed = (5, codes "Compressed")
+refusal_row refusals.BadAttributes = (6, codes "BadAttributes")
+refusal_row refusals.BadCount = (7, codes "BadCount")
+refusal_row (refusals.BadRecord place) = (8, codes "BadRecord")
+refusal_row refusals.TooLarge = (9, codes "TooLarge")
+refusal_row refusals.BadProducerFields = (10, codes "BadProducerFields")
+refusal_row refusals.InvalidProducerEpoch = (11, codes "InvalidProducerEpoch")
+refusal_row refusals.OutOfOrderSequence = (12, codes "OutOfOrderSequence")
+refusal_row refusals.InvalidTxnState = (13, codes "InvalidTxnState")
+refusal_row refusals.CoordinatorFenced = (14, codes "CoordinatorFenced")
+refusal_row refusals.NotLeader = (15, codes "NotLeader")
+refusal_row refusals.OffsetOutOfRange = (16, codes "OffsetOutOfRange")
+refusal_row refusals.FencedLeaderEpoch = (17, codes "FencedLeaderEpoch")
+refusal_row refusals.UnknownLeaderEpoch = (18, codes "UnknownLeaderEpoch")
+refusal_row refusals.NotBoundary = (19, codes "NotBoundary")
+refusal_row refusals.BelowSettled = (20, codes "BelowSettled")
+refusal_row refusals.NotInSync = (21, codes "NotInSync")
+refusal_row refusals.StaleRecord = (22, codes "StaleRecord")
+refusal_row refusals.NotCaughtUp = (23, codes "NotCaughtUp")
+refusal_row refusals.RecordFull = (24, codes "RecordFull")
+refusal_row refusals.OffsetsExhausted = (25, codes "OffsetsExhausted")
+refusal_row refusals.NotNext = (26, codes "NotNext")
+refusal_row refusals.EpochBack = (27, codes "EpochBack")
+refusal_row refusals.Down = (28, codes "Down")
+refusal_row refusals.StaleAnswer = (29, codes "StaleAnswer")
+refusal_row refusals.ControlFromClient = (30, codes "ControlFromClient")
+refusal_row (refusals.BadScript line) = (31, codes "BadScript")
+refusal_row refusals.Device = (32, codes "Device")
+refusal_row refusals.Memory = (33, codes "Memory")
+refusal_row refusals.ChangePending = (34, codes "ChangePending")
+
+abbrev pub refusal_number : Refusal → ℕ
+refusal_number refusal = (refusal_row refusal).0
+
+abbrev pub refusal_name : Refusal → List ℕ
+refusal_name refusal = (refusal_row refusal).1
+
+-- F, the number, a space and the name
+abbrev pub refusal_head : Refusal → List ℕ
+refusal_head refusal = 70 ∷ decimal (refusal_number refusal) ++ 32 ∷ refusal_name refusal
 
 -- the place or the line that a refusal has
 abbrev pub place_of : Refusal → Option ℕ
@@ -50,3 +61,11 @@ place_of _ = None
 abbrev pub place_text : Option ℕ → List ℕ
 place_text None = []
 place_text (Some place) = 32 ∷ decimal place
+
+-- what the program prints of a refusal
+abbrev pub refusal_text : Refusal → List ℕ
+refusal_text refusal = refusal_head refusal ++ place_text (place_of refusal)
+
+-- the number is no refusal's
+abbrev pub IsNoRefusal : ℕ → Type 0
+IsNoRefusal number = (refusal : Refusal) → refusal_number refusal ≢ number

@@ -1,7 +1,7 @@
 //! Why a call was refused.
 
-ghost use Rattle.std.specs.Prelude.{◌≡◌, ◌++◌, Some};
-ghost use Rattle.kp_types.specs.Texts.{refusal_text, place_of, place_text};
+ghost use Rattle.std.specs.Prelude.{◌≡◌, IfNone, IfSome, Some};
+ghost use Rattle.kp_types.specs.Texts.{IsNoRefusal, place_of, refusal_head, refusal_name, refusal_number, refusal_text};
 ghost use Rattle.kp_types.specs.declared.refusal.Refusal.TheVariants.{Memory};
 
 use std::alloc::{AllocError, AllocFailed};
@@ -82,46 +82,133 @@ pub enum Refusal {
     ChangePending,
 }
 
+/// A refusal's number, its name, and both as they are printed.
+#[derive(Clone, Copy)]
+struct Row {
+    number: u32,
+    name: &'static str,
+    head: &'static str,
+}
+
+/// The row of this number and this name.
+macro_rules! row {
+    ($number:literal, $name:literal) => {
+        Row {
+            number: $number,
+            name: $name,
+            head: concat!("F", $number, " ", $name),
+        }
+    };
+}
+
 impl Refusal {
-    /// Its number and name, as `F8 BadRecord`. O(1).
-    pub fn name(&self) -> &'static str
-        ensures { refusal_text self.now ≡ result.now ++ place_text (place_of self.now) }
+    /// Its number and name. O(1).
+    #[tactic(auto, unfolding(crate::proofs::Heads::digits))]
+    fn row(&self) -> Row
+        ensures number { result.number ≡ refusal_number self.now }
+        ensures name { result.name.now ≡ refusal_name self.now }
+        ensures head { result.head.now ≡ refusal_head self.now }
     {
         match self {
-            Refusal::Truncated => "F1 Truncated",
-            Refusal::BadMagic => "F2 BadMagic",
-            Refusal::BadLength => "F3 BadLength",
-            Refusal::BadCrc => "F4 BadCrc",
-            Refusal::Compressed => "F5 Compressed",
-            Refusal::BadAttributes => "F6 BadAttributes",
-            Refusal::BadCount => "F7 BadCount",
-            Refusal::BadRecord(_) => "F8 BadRecord",
-            Refusal::TooLarge => "F9 TooLarge",
-            Refusal::BadProducerFields => "F10 BadProducerFields",
-            Refusal::InvalidProducerEpoch => "F11 InvalidProducerEpoch",
-            Refusal::OutOfOrderSequence => "F12 OutOfOrderSequence",
-            Refusal::InvalidTxnState => "F13 InvalidTxnState",
-            Refusal::CoordinatorFenced => "F14 CoordinatorFenced",
-            Refusal::NotLeader => "F15 NotLeader",
-            Refusal::OffsetOutOfRange => "F16 OffsetOutOfRange",
-            Refusal::FencedLeaderEpoch => "F17 FencedLeaderEpoch",
-            Refusal::UnknownLeaderEpoch => "F18 UnknownLeaderEpoch",
-            Refusal::NotBoundary => "F19 NotBoundary",
-            Refusal::BelowSettled => "F20 BelowSettled",
-            Refusal::NotInSync => "F21 NotInSync",
-            Refusal::StaleRecord => "F22 StaleRecord",
-            Refusal::NotCaughtUp => "F23 NotCaughtUp",
-            Refusal::RecordFull => "F24 RecordFull",
-            Refusal::OffsetsExhausted => "F25 OffsetsExhausted",
-            Refusal::NotNext => "F26 NotNext",
-            Refusal::EpochBack => "F27 EpochBack",
-            Refusal::Down => "F28 Down",
-            Refusal::StaleAnswer => "F29 StaleAnswer",
-            Refusal::ControlFromClient => "F30 ControlFromClient",
-            Refusal::BadScript(_) => "F31 BadScript",
-            Refusal::Device => "F32 Device",
-            Refusal::Memory => "F33 Memory",
-            Refusal::ChangePending => "F34 ChangePending",
+            Refusal::Truncated => row!(1, "Truncated"),
+            Refusal::BadMagic => row!(2, "BadMagic"),
+            Refusal::BadLength => row!(3, "BadLength"),
+            Refusal::BadCrc => row!(4, "BadCrc"),
+            Refusal::Compressed => row!(5, "Compressed"),
+            Refusal::BadAttributes => row!(6, "BadAttributes"),
+            Refusal::BadCount => row!(7, "BadCount"),
+            Refusal::BadRecord(_) => row!(8, "BadRecord"),
+            Refusal::TooLarge => row!(9, "TooLarge"),
+            Refusal::BadProducerFields => row!(10, "BadProducerFields"),
+            Refusal::InvalidProducerEpoch => row!(11, "InvalidProducerEpoch"),
+            Refusal::OutOfOrderSequence => row!(12, "OutOfOrderSequence"),
+            Refusal::InvalidTxnState => row!(13, "InvalidTxnState"),
+            Refusal::CoordinatorFenced => row!(14, "CoordinatorFenced"),
+            Refusal::NotLeader => row!(15, "NotLeader"),
+            Refusal::OffsetOutOfRange => row!(16, "OffsetOutOfRange"),
+            Refusal::FencedLeaderEpoch => row!(17, "FencedLeaderEpoch"),
+            Refusal::UnknownLeaderEpoch => row!(18, "UnknownLeaderEpoch"),
+            Refusal::NotBoundary => row!(19, "NotBoundary"),
+            Refusal::BelowSettled => row!(20, "BelowSettled"),
+            Refusal::NotInSync => row!(21, "NotInSync"),
+            Refusal::StaleRecord => row!(22, "StaleRecord"),
+            Refusal::NotCaughtUp => row!(23, "NotCaughtUp"),
+            Refusal::RecordFull => row!(24, "RecordFull"),
+            Refusal::OffsetsExhausted => row!(25, "OffsetsExhausted"),
+            Refusal::NotNext => row!(26, "NotNext"),
+            Refusal::EpochBack => row!(27, "EpochBack"),
+            Refusal::Down => row!(28, "Down"),
+            Refusal::StaleAnswer => row!(29, "StaleAnswer"),
+            Refusal::ControlFromClient => row!(30, "ControlFromClient"),
+            Refusal::BadScript(_) => row!(31, "BadScript"),
+            Refusal::Device => row!(32, "Device"),
+            Refusal::Memory => row!(33, "Memory"),
+            Refusal::ChangePending => row!(34, "ChangePending"),
+        }
+    }
+
+    /// Its number, 1 to 34. O(1).
+    pub fn number(&self) -> u32
+        ensures { result ≡ refusal_number self.now }
+    {
+        self.row().number
+    }
+
+    /// Its name, as `BadRecord`. O(1).
+    pub fn name(&self) -> &'static str
+        ensures { result.now ≡ refusal_name self.now }
+    {
+        self.row().name
+    }
+
+    /// Its number and name, as `F8 BadRecord`. O(1).
+    pub fn head(&self) -> &'static str
+        ensures { result.now ≡ refusal_head self.now }
+    {
+        self.row().head
+    }
+
+    /// The refusal of this number, at place 0 where it names a place. O(1).
+    pub fn of_number(number: u32) -> Option<Refusal>
+        ensures some { IfSome result (λ refusal. refusal_number refusal ≡ number) }
+        ensures none { IfNone result (IsNoRefusal number) }
+    {
+        match number {
+            1 => Some(Refusal::Truncated),
+            2 => Some(Refusal::BadMagic),
+            3 => Some(Refusal::BadLength),
+            4 => Some(Refusal::BadCrc),
+            5 => Some(Refusal::Compressed),
+            6 => Some(Refusal::BadAttributes),
+            7 => Some(Refusal::BadCount),
+            8 => Some(Refusal::BadRecord(0)),
+            9 => Some(Refusal::TooLarge),
+            10 => Some(Refusal::BadProducerFields),
+            11 => Some(Refusal::InvalidProducerEpoch),
+            12 => Some(Refusal::OutOfOrderSequence),
+            13 => Some(Refusal::InvalidTxnState),
+            14 => Some(Refusal::CoordinatorFenced),
+            15 => Some(Refusal::NotLeader),
+            16 => Some(Refusal::OffsetOutOfRange),
+            17 => Some(Refusal::FencedLeaderEpoch),
+            18 => Some(Refusal::UnknownLeaderEpoch),
+            19 => Some(Refusal::NotBoundary),
+            20 => Some(Refusal::BelowSettled),
+            21 => Some(Refusal::NotInSync),
+            22 => Some(Refusal::StaleRecord),
+            23 => Some(Refusal::NotCaughtUp),
+            24 => Some(Refusal::RecordFull),
+            25 => Some(Refusal::OffsetsExhausted),
+            26 => Some(Refusal::NotNext),
+            27 => Some(Refusal::EpochBack),
+            28 => Some(Refusal::Down),
+            29 => Some(Refusal::StaleAnswer),
+            30 => Some(Refusal::ControlFromClient),
+            31 => Some(Refusal::BadScript(0)),
+            32 => Some(Refusal::Device),
+            33 => Some(Refusal::Memory),
+            34 => Some(Refusal::ChangePending),
+            _ => None,
         }
     }
 
@@ -142,7 +229,7 @@ impl fmt::Display for Refusal {
     ghost output = { λ refusal. Some (refusal_text refusal) };
 
     fn fmt<W: fmt::Write>(&self, f: &mut fmt::Formatter<W>) -> fmt::Result {
-        f.write_str(self.name())?;
+        f.write_str(self.head())?;
         match self.place() {
             Some(place) => write!(f, " {place}"),
             None => Ok(()),

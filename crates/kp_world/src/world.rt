@@ -163,9 +163,11 @@ impl World {
         self.nodes[usize::from(node)].log()
     }
 
-    /// The controller elects a node.
+    /// The controller elects this node, and the record that it has then is told: what [`World::step`] does with that event. F21
+    /// where the node isn't in the in-sync set, F24 where epochs or versions are used up; each leaves all as it was. O(1), and no
+    /// memory. (Kafka replication design.)
     #[inline(never)]
-    fn elect(&mut self, node: NodeId) -> Result<EventAnswer, Refusal>
+    pub fn elect(&mut self, node: NodeId) -> Result<EventAnswer, Refusal>
         ensures step { (limits : LogLimits)
             → LeadOn limits self.old (ModelElect node ∷ []) (result ∷ []) self.new }
         ensures count { length self.new.nodes ≡ length self.old.nodes }

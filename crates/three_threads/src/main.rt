@@ -64,8 +64,8 @@ fn main(rt: HostRuntime) -> io::Result<()> {
             Ok(())
         }
         Err(refusal) => {
-            let name = refusal.name();
-            println!(&rt; "{name}")
+            let head = refusal.head();
+            println!(&rt; "{head}")
         }
     }
 }

@@ -201,8 +201,8 @@ fn main(rt: HostRuntime) -> io::Result<()> {
     match run(&rt) {
         Ok(()) => Ok(()),
         Err(refusal) => {
-            let name = refusal.name();
-            println!(&rt; "{name}")
+            let head = refusal.head();
+            println!(&rt; "{head}")
         }
     }
 }

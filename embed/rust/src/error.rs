@@ -1,6 +1,9 @@
 //! Why a call gave nothing.
 
 use std::fmt;
+use std::sync::OnceLock;
+
+use crate::ffi::Text;
 
 /// What the rules say of a call that they refuse, by the numbers F1 to F34 of `docs/RULES.md`. The node or the record is as before
 /// but at [`Refusal::Memory`], where a node that took batches is down.
@@ -77,7 +80,7 @@ pub enum Refusal {
 
 impl Refusal {
     fn of(number: u32, place: u64) -> Refusal {
-        match NAMED.iter().find(|(_, it)| it.number() == number) {
+        match NUMBERED.iter().find(|(it, _)| *it == number) {
             Some((_, Refusal::BadRecord(_))) => Refusal::BadRecord(place),
             Some((_, found)) => *found,
             None => Refusal::Other(number),
@@ -87,16 +90,17 @@ impl Refusal {
     /// Its number, 1 to 34.
     pub fn number(self) -> u32 {
         match self {
-            Refusal::Memory => 33,
-            Refusal::ChangePending => 34,
             Refusal::Other(number) => number,
-            found => NAMED.iter().position(|(_, it)| same_kind(*it, found)).map_or(0, |place| place as u32 + 1),
+            found => NUMBERED.iter().find(|(_, it)| same_kind(*it, found)).map_or(0, |(number, _)| *number),
         }
     }
 
-    /// Its name in the rules.
+    /// Its name in the rules, which the library has.
     pub fn name(self) -> &'static str {
-        NAMED.iter().find(|(_, it)| same_kind(*it, self)).map_or("Other", |(name, _)| name)
+        match self {
+            Refusal::Other(_) => "Other",
+            found => text(found.number()).split_once(' ').map_or("", |(_, name)| name),
+        }
     }
 }
 
@@ -104,40 +108,46 @@ fn same_kind(one: Refusal, other: Refusal) -> bool {
     std::mem::discriminant(&one) == std::mem::discriminant(&other)
 }
 
-// F1 to F30 in their order, and two more.
-const NAMED: [(&str, Refusal); 32] = [
-    ("Truncated", Refusal::Truncated),
-    ("BadMagic", Refusal::BadMagic),
-    ("BadLength", Refusal::BadLength),
-    ("BadCrc", Refusal::BadCrc),
-    ("Compressed", Refusal::Compressed),
-    ("BadAttributes", Refusal::BadAttributes),
-    ("BadCount", Refusal::BadCount),
-    ("BadRecord", Refusal::BadRecord(0)),
-    ("TooLarge", Refusal::TooLarge),
-    ("BadProducerFields", Refusal::BadProducerFields),
-    ("InvalidProducerEpoch", Refusal::InvalidProducerEpoch),
-    ("OutOfOrderSequence", Refusal::OutOfOrderSequence),
-    ("InvalidTxnState", Refusal::InvalidTxnState),
-    ("CoordinatorFenced", Refusal::CoordinatorFenced),
-    ("NotLeader", Refusal::NotLeader),
-    ("OffsetOutOfRange", Refusal::OffsetOutOfRange),
-    ("FencedLeaderEpoch", Refusal::FencedLeaderEpoch),
-    ("UnknownLeaderEpoch", Refusal::UnknownLeaderEpoch),
-    ("NotBoundary", Refusal::NotBoundary),
-    ("BelowSettled", Refusal::BelowSettled),
-    ("NotInSync", Refusal::NotInSync),
-    ("StaleRecord", Refusal::StaleRecord),
-    ("NotCaughtUp", Refusal::NotCaughtUp),
-    ("RecordFull", Refusal::RecordFull),
-    ("OffsetsExhausted", Refusal::OffsetsExhausted),
-    ("NotNext", Refusal::NotNext),
-    ("EpochBack", Refusal::EpochBack),
-    ("Down", Refusal::Down),
-    ("StaleAnswer", Refusal::StaleAnswer),
-    ("ControlFromClient", Refusal::ControlFromClient),
-    ("Memory", Refusal::Memory),
-    ("ChangePending", Refusal::ChangePending),
+/// What the library calls each refusal, as `F22 StaleRecord`: asked for once. No memory is taken.
+fn text(number: u32) -> &'static str {
+    static TEXTS: OnceLock<[Text; 35]> = OnceLock::new();
+    let texts = TEXTS.get_or_init(|| std::array::from_fn(|number| Text::of(number as u32)));
+    texts.get(number as usize).map_or("", Text::as_str)
+}
+
+const NUMBERED: [(u32, Refusal); 32] = [
+    (1, Refusal::Truncated),
+    (2, Refusal::BadMagic),
+    (3, Refusal::BadLength),
+    (4, Refusal::BadCrc),
+    (5, Refusal::Compressed),
+    (6, Refusal::BadAttributes),
+    (7, Refusal::BadCount),
+    (8, Refusal::BadRecord(0)),
+    (9, Refusal::TooLarge),
+    (10, Refusal::BadProducerFields),
+    (11, Refusal::InvalidProducerEpoch),
+    (12, Refusal::OutOfOrderSequence),
+    (13, Refusal::InvalidTxnState),
+    (14, Refusal::CoordinatorFenced),
+    (15, Refusal::NotLeader),
+    (16, Refusal::OffsetOutOfRange),
+    (17, Refusal::FencedLeaderEpoch),
+    (18, Refusal::UnknownLeaderEpoch),
+    (19, Refusal::NotBoundary),
+    (20, Refusal::BelowSettled),
+    (21, Refusal::NotInSync),
+    (22, Refusal::StaleRecord),
+    (23, Refusal::NotCaughtUp),
+    (24, Refusal::RecordFull),
+    (25, Refusal::OffsetsExhausted),
+    (26, Refusal::NotNext),
+    (27, Refusal::EpochBack),
+    (28, Refusal::Down),
+    (29, Refusal::StaleAnswer),
+    (30, Refusal::ControlFromClient),
+    (33, Refusal::Memory),
+    (34, Refusal::ChangePending),
 ];
 
 /// Why a call gave nothing.
@@ -218,7 +228,8 @@ mod tests {
         for number in (1..=30).chain(33..=34) {
             let Error::Refused(refusal) = Error::of(number, 61) else { panic!("no refusal") };
             assert_eq!(refusal.number(), number);
-            assert_eq!(format!("F{number} {}", refusal.name()), crate::ffi::text(number));
+            assert_eq!(format!("F{number} {}", refusal.name()), Text::of(number).as_str());
+            assert_eq!(format!("{refusal:?}").trim_end_matches("(61)"), refusal.name());
         }
         assert_eq!(Error::of(8, 61).to_string(), "F8 BadRecord 61");
         assert_eq!(Error::of(32, 0), Error::Refused(Refusal::Other(32)));

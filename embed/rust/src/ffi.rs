@@ -125,8 +125,6 @@ unsafe extern "C" {
     fn kp_value(records: &mut Handle, index: usize, to: *mut u8, count: usize) -> u32;
     fn kp_segment(segments: &mut Handle, index: usize, name: *mut u8, count: usize, batches: &mut Handle) -> u32;
     fn kp_addressee(message: &mut Handle, node: &mut u8) -> u32;
-
-    #[cfg(test)]
     fn kp_text(number: u32, to: *mut u8, count: usize) -> usize;
 }
 
@@ -478,10 +476,20 @@ impl RawBatches {
 }
 
 /// The library's name of what a call answers.
-#[cfg(test)]
-pub(crate) fn text(number: u32) -> String {
-    let mut bytes = [0; 64];
-    // SAFETY: the pointer and the count are an array's.
-    let count = unsafe { kp_text(number, bytes.as_mut_ptr(), bytes.len()) };
-    String::from_utf8_lossy(&bytes[..count]).into_owned()
+pub(crate) struct Text {
+    bytes: [u8; 64],
+    count: usize,
+}
+
+impl Text {
+    pub(crate) fn of(number: u32) -> Text {
+        let mut bytes = [0; 64];
+        // SAFETY: the pointer and the count are an array's.
+        let count = unsafe { kp_text(number, bytes.as_mut_ptr(), bytes.len()) };
+        Text { bytes, count }
+    }
+
+    pub(crate) fn as_str(&self) -> &str {
+        std::str::from_utf8(&self.bytes[..self.count]).unwrap_or("")
+    }
 }

@@ -1,32 +1,24 @@
-use Rattle.std.proofs.Common.{◌≡◌, [], ◌∷◌, inl, inr}
-use Rattle.std.proofs.lemmas.Result.{IfErr-at_err, IfOk-at_ok, IfOk-weaker}
-use Rattle.kp_types.proofs.Causes.{always}
+use Rattle.std.proofs.Common.{◌≡◌, [], ◌∷◌, refl}
+use Rattle.std.proofs.lemmas.Result.{IfErr-at_err, IfOk-at_ok}
 use Rattle.kp_types.specs.declared.limits.Limits.{Limits}
 use Rattle.kp_model.specs.Event as model
 use Rattle.kp_world.specs.Plays.{LeadOn}
-use Rattle.kp_script.proofs.Played.{led_delivery}
+use Rattle.kp_script.specs.Call.{Deliver}
+use Rattle.kp_script.proofs.Played.{led_one, line_cut, line_told}
 use Rattle.kp_script.proofs.run.play_delivery.Goals as goal
 
-pub returns-in-Ok-clause-played : goal.returns-in-Ok-clause-played
-returns-in-Ok-clause-played c =
-    IfOk-weaker c.tell.result _ _
-    (λ refused told. record {
-      answer = c.in-Ok.outcome;
-      lead =
-          led_delivery c.args.line c.args.message c.in-Ok.outcome c.args.world.now c.deliver-delivered.new.self
-          (IfOk-at_ok (λ outcome. (ls : Limits) → LeadOn ls c.args.world.now (model.Deliver c.args.message ∷ []) (outcome ∷ []) c.deliver-delivered.new.self) c.in-Ok.is c.deliver-delivered.ensures.step);
-      refused_is = told.1;
-      text_is = told.0;
-    })
-    c.tell.ensures.told
+pub returns-in-Ok : goal.returns-in-Ok
+returns-in-Ok c =
+    let message = c.args.message in
+    let old = c.args.world.now in
+    let new = c.deliver-delivered.new.self in
+    let outcome = c.in-Ok.outcome in
+    let step = IfOk-at_ok (λ outcome. (ls : Limits) → LeadOn ls old (model.Deliver message ∷ []) (outcome ∷ []) new) c.in-Ok.is c.deliver-delivered.ensures.step in
+    line_told (c.args.line, Deliver message) old new outcome _ _ _
+    (led_one (c.args.line, Deliver message) (model.Deliver message) outcome old new refl (λ limits batch. step limits)) c.deliver-delivered.ensures.count c.tell.ensures
 
-pub returns-in-Ok-clause-cut : goal.returns-in-Ok-clause-cut
-returns-in-Ok-clause-cut c =
-    always c.tell.result (inr (
-      c.in-Ok.outcome,
-      led_delivery c.args.line c.args.message c.in-Ok.outcome c.args.world.now c.deliver-delivered.new.self
-          (IfOk-at_ok (λ outcome. (ls : Limits) → LeadOn ls c.args.world.now (model.Deliver c.args.message ∷ []) (outcome ∷ []) c.deliver-delivered.new.self) c.in-Ok.is c.deliver-delivered.ensures.step),
-    ))
-
-pub returns-clause-cut : goal.returns-clause-cut
-returns-clause-cut c = inl (IfErr-at_err (λ _. c.deliver-delivered.new.self ≡ c.args.world.now) c.in-Err.is c.deliver-delivered.ensures.err)
+pub returns : goal.returns
+returns c =
+    let old = c.args.world.now in
+    let new = c.deliver-delivered.new.self in
+    line_cut (c.args.line, Deliver c.args.message) old new _ _ _ (IfErr-at_err (λ _. new ≡ old) c.in-Err.is c.deliver-delivered.ensures.err) refl

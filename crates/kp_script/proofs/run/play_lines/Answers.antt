@@ -14,7 +14,7 @@ pub loop-played-init : goal.loop-played-init
 loop-played-init g c = record {
   within = omega arith;
   out = subst (PlayedOut [] c.args.world.now c.args.world.now 0) (sym c.clear.ensures.items) (out_none c.args.world.now);
-  nodes = c.requires.nodes;
+  nodes = refl;
   few = omega arith;
 }
 
@@ -22,8 +22,13 @@ pub play_at-requires-clause-call : goal.play_at-requires-clause-call
 play_at-requires-clause-call g c = λ other.
     let calls = drop c.args.from c.args.section.now in
     let inside : c.loop-played.played < length calls = omega (arith, c.loop-played-test.true, length-drop c.args.from c.args.section.now) in
-    subst (λ (call : ℕ × Call). IsCall c.args.count call.1) (get_or-drop c.args.from c.args.section.now c.loop-played.played other)
-    (each_at c.args.count calls c.loop-played.played other c.requires.calls inside)
+    let count = length c.args.world.now.nodes in
+    subst (λ (n : ℕ). IsCall n (get_or c.args.section.now (c.args.from + c.loop-played.played) other).1) (sym c.loop-played.invariant.nodes)
+    (subst (λ (call : ℕ × Call). IsCall count call.1) (get_or-drop c.args.from c.args.section.now c.loop-played.played other)
+    (each_at count calls c.loop-played.played other c.requires.calls inside))
+
+pub overflow_add-refused : goal.overflow_add-refused
+overflow_add-refused g c = omega (arith, c.loop-played.invariant.few, (c.in_ok-refused.ensures (0, Elect 0)).few)
 
 pub loop-played-preserved : goal.loop-played-preserved
 loop-played-preserved g c =
@@ -31,6 +36,7 @@ loop-played-preserved g c =
     let calls : List (ℕ × Call) = drop c.args.from c.args.section.now in
     let other : ℕ × Call = (0, Elect 0) in
     let call : ℕ × Call = get_or c.args.section.now (c.args.from + k) other in
+    let one = c.in_ok-refused.ensures other in
     let more : take (k + 1) calls ≡ take k calls ++ call ∷ [] =
     take_more calls k other (omega (arith, c.loop-played-test.true, length-drop c.args.from c.args.section.now))
     ∙ ap (λ (l : ℕ × Call). take k calls ++ l ∷ []) (get_or-drop c.args.from c.args.section.now k other) in
@@ -39,25 +45,26 @@ loop-played-preserved g c =
       out =
           subst (λ (calls : List (ℕ × Call)). PlayedOut calls c.args.world.now c.play_at.new.world (c.loop-played.refused + c.in_ok-refused.field-0) c.play_at.new.work.text.items) (sym more)
           (out_more (take k calls) call c.args.world.now c.loop-played.world c.play_at.new.world c.loop-played.refused c.in_ok-refused.field-0 c.loop-played.work.text.items
-          c.play_at.new.work.text.items c.loop-played.invariant.out (c.in_ok-refused.ensures.played other));
-      nodes = c.in_ok-refused.ensures.nodes;
-      few = omega (arith, c.loop-played.invariant.few, c.in_ok-refused.ensures.few);
+          c.play_at.new.work.text.items c.loop-played.invariant.out one.played);
+      nodes = one.nodes ∙ c.loop-played.invariant.nodes;
+      few = omega (arith, c.loop-played.invariant.few, one.few);
     }
 
 pub returns-in_err-refused : goal.returns-in_err-refused
 returns-in_err-refused g c =
     let q = err_from_is_err_and c.from_residual.result c.from_residual.ensures.1 in
+    let one = c.in_err-refused.ensures (0, Elect 0) in
     rw (q.1, q.2) (record {
       played = tt;
       some = tt;
       within = tt;
       fits = tt;
       few = tt;
-      begun = λ e. absurd (memory_alone c.in_err-refused.field-0.0 c.in_err-refused.ensures.only cc);
+      begun = λ e. absurd (memory_alone c.in_err-refused.field-0.0 one.only cc);
       untouched = λ e. refl;
-      nodes = c.play_at.ensures.nodes;
-      only = subst IsDeviceFault (sym c.in_err-refused.ensures.only) tt;
-      counted = rw c.in_err-refused.ensures.only refl;
+      nodes = one.nodes ∙ c.loop-played.invariant.nodes;
+      only = subst IsDeviceFault (sym one.only) tt;
+      counted = rw one.only refl;
     })
 
 pub returns-in_err-write_all : goal.returns-in_err-write_all

@@ -6,7 +6,7 @@ abbrev pub invariant-loop-played : goal.invariant-loop-played
 invariant-loop-played g l = record {
   within : l.played ≤ l.left;
   out : PlayedOut (take l.played (drop l.from l.section)) l.fn.world l.world l.refused l.work.text.items;
-  nodes : length l.world.nodes ≡ l.count;
+  nodes : length l.world.nodes ≡ length l.fn.world.nodes;
   few : l.refused ≤ l.played;
 }
 

@@ -6,7 +6,8 @@ use Rattle.kp_types.specs.declared.limits.Limits.{Limits}
 use Rattle.kp_types.specs.declared.refusal.Refusal.TheVariants as refusals
 use Rattle.kp_model.specs.World.{start}
 use Rattle.kp_world.specs.Shown.{IsShown}
-use Rattle.kp_script.specs.Call.{Call}
+use Rattle.std.specs.List.{AllByRecursion}
+use Rattle.kp_script.specs.Call.{Call, IsCall}
 use Rattle.kp_script.specs.Ended.{AreLimited, RunEnd, WritesTo}
 use Rattle.kp_script.proofs.Limited.{limited}
 use Rattle.kp_script.specs.Parsed.{calls_in, seen_script}
@@ -70,8 +71,9 @@ play_lines-requires-clause-calls g c =
     let all : List (ℕ × Call) = calls_in c.in_ok-script.script.sections.items in
     let sections = c.loop-section.script.sections.items in
     let front = in_front c.loop-section.from sections c.in-Some.section.now (omega (arith, c.in-Some.ensures.item)) c.in-Some.ensures.lookup c.loop-section.invariant.within in
-    front_lawful c.in_ok-script.script.header.count c.loop-section.from sections c.in-Some.section.now front
-    (rest_lawful c.in_ok-script.script.header.count all played.0 (left_in c.loop-section.from sections) played.1.0 c.in_ok-script.ensures.found.spelled.calls)
+    subst (λ (count : ℕ). AllByRecursion (λ call. IsCall count call.1) (drop c.loop-section.from c.in-Some.section.now)) (sym c.loop-section.invariant.nodes)
+    (front_lawful c.in_ok-script.script.header.count c.loop-section.from sections c.in-Some.section.now front
+    (rest_lawful c.in_ok-script.script.header.count all played.0 (left_in c.loop-section.from sections) played.1.0 c.in_ok-script.ensures.found.spelled.calls))
 
 pub returns-in_err-played-clause-fault : goal.returns-in_err-played-clause-fault
 returns-in_err-played-clause-fault g c = λ line e.
@@ -189,7 +191,7 @@ loop-section-preserved g c =
         ),
       );
       within = c.left_behind-from.ensures.within;
-      nodes = c.in_ok-played.ensures.nodes;
+      nodes = c.in_ok-played.ensures.nodes ∙ c.loop-section.invariant.nodes;
       few = omega (arith, long, front, c.loop-section.invariant.few, c.in_ok-played.ensures.few);
       faults = c.in_ok-played.ensures.counted ∙ c.loop-section.invariant.faults;
     }

@@ -2,12 +2,11 @@ use Rattle.std.proofs.Common.{◌≡◌, [], ◌∷◌, map, Some, None, refl}
 use Rattle.std.proofs.lemmas.Result.{IfOk-weaker}
 use Rattle.kp_record.specs.Made.{plain_record, record_made}
 use Rattle.kp_record.specs.declared.parts.Parts.{Parts}
-use Rattle.kp_model.specs.Event.{Acts, Produce}
 use Rattle.kp_script.specs.Seen.{seen_sender}
 use Rattle.kp_script.specs.Told.{offer_of}
 use Rattle.kp_script.specs.Transcript.{largest_batch}
 use Rattle.kp_script.proofs.Offers.{offers}
-use Rattle.kp_script.proofs.events.batch_of_value.Goals as goal
+use Rattle.kp_script.proofs.batches.batch_of_value.Goals as goal
 
 pub returns-clause-told : goal.returns-clause-told
 returns-clause-told c =
@@ -20,8 +19,4 @@ returns-clause-told c =
     let spelled = rw (c.fields_of.ensures) at c.spell_value.ensures.spelled in
     let offer = offer_of largest_batch time sender transactional (value ∷ []) in
     IfOk-weaker c.spell_value.result _ _
-    (λ bytes is node. record {
-      e = Acts node (Produce offer);
-      told = refl;
-      is = (Produce offer, (offer, offers largest_batch bytes time sender transactional (value ∷ []) (one ∷ []) c.requires.sender records (is largest_batch (one ∷ []) records), refl), refl);
-    }) spelled
+    (λ bytes is node. record { offer = offer; told = refl; is = offers largest_batch bytes time sender transactional (value ∷ []) (one ∷ []) c.requires.sender records (is largest_batch (one ∷ []) records) }) spelled

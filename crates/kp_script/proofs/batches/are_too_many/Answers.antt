@@ -1,7 +1,7 @@
 use Rattle.std.proofs.Common.{◌+◌, ◌*◌, length, arith}
 use Rattle.std.proofs.lemmas.Bool.{ltb-true}
 use Rattle.kp_script.proofs.Sizes.{line_least}
-use Rattle.kp_script.proofs.events.are_too_many.Goals as goal
+use Rattle.kp_script.proofs.batches.are_too_many.Goals as goal
 
 pub returns-then-values-gt-FEW_BYTES : goal.returns-then-values-gt-FEW_BYTES
 returns-then-values-gt-FEW_BYTES c = λ large time.

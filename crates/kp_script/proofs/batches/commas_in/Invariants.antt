@@ -1,6 +1,6 @@
 use Rattle.std.proofs.Common.{◌≡◌, ◌≤◌, eqb, take}
 use Rattle.std.specs.List.{count_by}
-use Rattle.kp_script.proofs.events.commas_in.Given as goal
+use Rattle.kp_script.proofs.batches.commas_in.Given as goal
 
 abbrev pub invariant-loop-byte : goal.invariant-loop-byte
 invariant-loop-byte l = record {

@@ -1,4 +1,4 @@
-//! The events of a script, as a run takes them.
+//! The batches and other bytes that a script hands to nodes.
 
 ghost use Rattle.std.specs.Prelude.{◌≡◌, ℕ, [], ◌∷◌, ◌+◌, ◌<◌, ◌≤◌, ◌^◌, ◌==◌, true, false, IfOk, IfErr, OnOk, length, map};
 ghost use Rattle.std.specs.List.{count_by};
@@ -6,23 +6,18 @@ ghost use Rattle.kp_types.specs.declared.refusal.Refusal.TheVariants.{Memory, To
 ghost use Rattle.kp_batch.specs.Reading.{IsFirstFault};
 ghost use Rattle.kp_record.specs.Made.{plain_record, record_made};
 ghost use Rattle.kp_record.specs.Record.{records_spelling};
-ghost use Rattle.kp_replica.specs.declared.act.Act.TheVariants.{Produce};
-ghost use Rattle.kp_world.specs.Events.{IsAmong};
-ghost use Rattle.kp_world.specs.declared.event.Event.TheVariants.{Acts};
-ghost use Rattle.kp_script.specs.Call.{Append, Raw, IsCall, IsSender, pieces};
+ghost use Rattle.kp_script.specs.Call.{Append, Raw, IsSender, pieces};
 ghost use Rattle.kp_script.specs.Hex.{bytes_of};
-ghost use Rattle.kp_script.specs.Told.{Tells};
+ghost use Rattle.kp_script.specs.Told.{HandsIn};
 ghost use Rattle.kp_script.specs.Transcript.{largest_batch};
-ghost use Rattle.kp_script.specs.Seen.{seen_call, seen_sender, seen_values};
+ghost use Rattle.kp_script.specs.Seen.{seen_sender, seen_values};
 
-use crate::call::{Call, Sender};
+use crate::call::Sender;
 use crate::digits::bytes_of;
 use crate::words::split_first_at;
 use bytes::Bytes;
 use kp_batch::{Fields, Handed, Parts, Speller};
-use kp_replica::Act;
-use kp_types::{MAX_BATCH, NodeId, Refusal};
-use kp_world::Event;
+use kp_types::{MAX_BATCH, Refusal};
 use std::alloc::{AllocError, Global};
 
 /// A batch is never too large for the number of its records where its values have so few bytes.
@@ -125,8 +120,8 @@ fn batch_of_pieces<'a>(
     requires early { time < 2 ^ 62 }
     requires sender { IsSender (seen_sender sender) }
     requires short { length values.now ≤ 2100000 }
-    ensures told { IfOk result (λ bytes. (node : ℕ) → Tells largest_batch
-        (Append node time (seen_sender sender) transactional (pieces values.now)) (Acts node (Produce bytes))) }
+    ensures told { IfOk result (λ bytes. (node : ℕ) → HandsIn largest_batch
+        (Append node time (seen_sender sender) transactional (pieces values.now)) bytes) }
     ensures only { IfErr result (λ refusal. refusal ≡ Memory) }
 {
     if are_too_many(values) {
@@ -148,8 +143,8 @@ pub(crate) fn batch_of_value(
     requires early { time < 2 ^ 62 }
     requires sender { IsSender (seen_sender sender) }
     requires short { length value.now ≤ 1000000 }
-    ensures told { IfOk result (λ bytes. (node : ℕ) → Tells largest_batch
-        (Append node time (seen_sender sender) transactional (value.now ∷ [])) (Acts node (Produce bytes))) }
+    ensures told { IfOk result (λ bytes. (node : ℕ) → HandsIn largest_batch
+        (Append node time (seen_sender sender) transactional (value.now ∷ [])) bytes) }
     ensures only { IfErr result (λ refusal. refusal ≡ Memory) }
 {
     speller.spell_value(&fields_of(time, sender, transactional), value)
@@ -161,7 +156,7 @@ pub(crate) fn batch_of_value(
 /// what is above its own limit. Takes time proportional to the bytes, and memory to those of a batch that a node may take;
 /// where they are too many for one, none, as then only bytes with the same fault are handed in. Is refused only where memory runs
 /// out.
-fn batch_of<'a>(
+pub(crate) fn batch_of<'a>(
     speller: &mut Speller,
     parts: &mut Vec<Parts<'a>>,
     time: u64,
@@ -173,8 +168,8 @@ fn batch_of<'a>(
     requires early { time < 2 ^ 62 }
     requires sender { IsSender (seen_sender sender) }
     requires short { length values.now ≤ 2100000 }
-    ensures told { IfOk result (λ bytes. (node : ℕ) → Tells largest_batch
-        (Append node time (seen_sender sender) transactional (seen_values lone values.now)) (Acts node (Produce bytes))) }
+    ensures told { IfOk result (λ bytes. (node : ℕ) → HandsIn largest_batch
+        (Append node time (seen_sender sender) transactional (seen_values lone values.now)) bytes) }
     ensures only { IfErr result (λ refusal. refusal ≡ Memory) }
 {
     if !lone {
@@ -187,59 +182,15 @@ fn batch_of<'a>(
     speller.spell(&fields_of(time, sender, transactional), &part)
 }
 
-/// The bytes that the digits spell, handed to the node. Takes time and memory proportional to their number, and is
+/// The bytes that the digits spell, to be handed to a node. Takes time and memory proportional to their number, and is
 /// refused only where memory runs out.
 #[inline(never)]
-fn raw_event(alloc: Global, node: NodeId, digits: &[u8]) -> Result<Event, Refusal>
-    ensures told { IfOk result (Tells largest_batch (Raw node (bytes_of digits.now))) }
-    ensures node { IfOk result (λ event. (count : ℕ) → node < count → IsAmong count event) }
+pub(crate) fn raw_bytes(alloc: Global, digits: &[u8]) -> Result<Handed, Refusal>
+    ensures told { IfOk result (λ bytes. (node : ℕ)
+        → HandsIn largest_batch (Raw node (bytes_of digits.now)) bytes) }
     ensures only { IfErr result (λ refusal. refusal ≡ Memory) }
 {
     kp_replica::bytes_are_an_offer();
     let bytes = Bytes::from_vec(bytes_of(alloc, digits)?)?;
-    Ok(Event::Acts {
-        node,
-        act: Act::Produce {
-            bytes: Handed::raw(bytes),
-        },
-    })
-}
-
-/// The event that a call tells. Takes time and memory proportional to the call's bytes, but for `parts`, whose room is used again. F33.
-pub(crate) fn event_of<'a>(
-    alloc: Global,
-    speller: &mut Speller,
-    parts: &mut Vec<Parts<'a>>,
-    call: &Call<'a>,
-    count: NodeId,
-) -> Result<Event, Refusal>
-    requires { IsCall count (seen_call call.now) }
-    ensures told { IfOk result (Tells largest_batch (seen_call call.now)) }
-    ensures node { IfOk result (IsAmong count) }
-    ensures only { IfErr result (λ refusal. refusal ≡ Memory) }
-{
-    let _ = count;
-    match *call {
-        Call::Elect { node } => Ok(Event::Elect { node }),
-        Call::Append {
-            node,
-            transactional,
-            lone,
-            time,
-            sender,
-            values,
-        } => {
-            let bytes = batch_of(speller, parts, time, sender, transactional, lone, values)?;
-            Ok(Event::Acts {
-                node,
-                act: Act::Produce { bytes },
-            })
-        }
-        Call::Raw { node, digits } => raw_event(alloc, node, digits),
-        Call::Acts { node, act } => Ok(Event::Acts {
-            node,
-            act: Act::Plain(act),
-        }),
-        Call::Deliver { number } => Ok(Event::Deliver { number }),
-    }
+    Ok(Handed::raw(bytes))
 }

@@ -5,7 +5,7 @@ use Rattle.kp_record.specs.Made.{plain_record, record_made}
 use Rattle.kp_record.specs.Record.{Record}
 use Rattle.kp_script.specs.Call.{pieces}
 use Rattle.kp_script.proofs.Values.{one_piece, first_piece}
-use Rattle.kp_script.proofs.events.put_parts.Goals as goal
+use Rattle.kp_script.proofs.batches.put_parts.Goals as goal
 
 pub loop-value-preserved : goal.loop-value-preserved
 loop-value-preserved c =

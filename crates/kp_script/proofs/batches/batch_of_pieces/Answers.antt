@@ -1,7 +1,6 @@
 use Rattle.std.proofs.Common.{◌≡◌, map, refl, ap, ◌∙◌}
 use Rattle.std.proofs.lemmas.Result.{IfOk-weaker}
 use Rattle.kp_record.specs.Made.{plain_record, record_made}
-use Rattle.kp_model.specs.Event.{Acts, Produce}
 use Rattle.kp_script.specs.Call.{pieces}
 use Rattle.kp_script.specs.Seen.{seen_sender}
 use Rattle.kp_script.specs.Told.{offer_of}
@@ -10,7 +9,7 @@ use Rattle.kp_script.proofs.Values.{some_piece}
 use Rattle.kp_script.proofs.Sizes.{line_size}
 use Rattle.kp_script.proofs.Appending.{no_cause, lacks}
 use Rattle.kp_script.proofs.Offers.{large_offer, offers}
-use Rattle.kp_script.proofs.events.batch_of_pieces.Goals as goal
+use Rattle.kp_script.proofs.batches.batch_of_pieces.Goals as goal
 
 pub returns-clause-only : goal.returns-clause-only
 returns-clause-only c =
@@ -32,11 +31,7 @@ returns-clause-told c =
     let spelled = rw (c.fields_of.ensures) at c.spell.ensures.spelled in
     let offer = offer_of largest_batch time sender transactional values in
     IfOk-weaker c.spell.result _ _
-    (λ bytes is node. record {
-      e = Acts node (Produce offer);
-      told = refl;
-      is = (Produce offer, (offer, offers largest_batch bytes time sender transactional values parts c.requires.sender records (is largest_batch), refl), refl);
-    }) spelled
+    (λ bytes is node. record { offer = offer; told = refl; is = offers largest_batch bytes time sender transactional values parts c.requires.sender records (is largest_batch) }) spelled
 
 -- without the batch
 pub returns-then-are_too_many-clause-told : goal.returns-then-are_too_many-clause-told
@@ -47,8 +42,4 @@ returns-then-are_too_many-clause-told c = λ node.
     let values = pieces c.args.values.now in
     let offer = offer_of largest_batch time sender transactional values in
     let large = large_offer c.too_large.result time sender transactional values c.too_large.ensures (c.are_too_many.ensures c.if-are_too_many.true time) in
-    record {
-      e = Acts node (Produce offer);
-      told = refl;
-      is = (Produce offer, (offer, large, refl), refl);
-    }
+    record { offer = offer; told = refl; is = large }
