@@ -130,7 +130,7 @@ uint32_t kp_open_pass(kp_handle *cluster, kp_handle *pass);
  * for a handle that is closed, which is left so. Proved: the handle is closed then. */
 uint32_t kp_close(kp_handle *handle);
 
-/* ---- the controller's record, and watermarks, by a pass: no node's lock is needed */
+/* ---- leadership (the controller's record: who leads, and who is in sync), and watermarks, by a pass: no node's lock is needed */
 
 typedef struct {
     uint32_t version;   /* every change raises it */
@@ -138,13 +138,13 @@ typedef struct {
     uint8_t leader;     /* 0 before the first election */
     bool elected;       /* whether there was one */
     bool in_sync[7];    /* each node, by its number */
-} kp_record_out;
+} kp_leadership_out;
 
 /* Tries once to elect a node. 21, 22, 24: see `Board::elect`. Proved: `CallerCalled`, `Elects`. */
-uint32_t kp_elect(kp_handle *pass, uint8_t node, kp_record_out *found);
+uint32_t kp_elect(kp_handle *pass, uint8_t node, kp_leadership_out *found);
 
 /* The controller's record. Proved: `CallerCalled`, `Looks` (`Board::record`). */
-uint32_t kp_record(kp_handle *pass, kp_record_out *found);
+uint32_t kp_leadership(kp_handle *pass, kp_leadership_out *found);
 
 /* A high watermark that the node had. KP_OUT_OF_RANGE where the cluster has no such node.
  * Proved: `CallerCalled`, `LearnsMark` (`Board::watermark`). */

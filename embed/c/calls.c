@@ -121,9 +121,9 @@ static void closes(world *w) {
 }
 
 static void elects(world *w) {
-    kp_record_out record;
+    kp_leadership_out leadership;
     kp_role role;
-    WANT(kp_elect(&w->pass, LEADER, &record), KP_DONE);
+    WANT(kp_elect(&w->pass, LEADER, &leadership), KP_DONE);
     for (int i = 0; i < NODES; i++)
         WANT(kp_adopt(&w->nodes[i], &role), KP_DONE);
 }
@@ -182,22 +182,22 @@ static void limits_are_in_order(void) {
 static void records_and_roles_are_in_order(void) {
     test = "records and roles";
     world w;
-    kp_record_out record = {0};
+    kp_leadership_out leadership = {0};
     kp_role role = {0};
     kp_receipt receipt;
     opens(&w, &roomy);
-    WANT(kp_elect(&w.pass, 1, &record), KP_DONE);
+    WANT(kp_elect(&w.pass, 1, &leadership), KP_DONE);
     elects(&w);
-    WANT(kp_record(&w.pass, &record), KP_DONE);
-    WANT(record.version, 2);
-    WANT(record.epoch, 1);
-    WANT(record.leader, LEADER);
-    WANT(record.elected, true);
+    WANT(kp_leadership(&w.pass, &leadership), KP_DONE);
+    WANT(leadership.version, 2);
+    WANT(leadership.epoch, 1);
+    WANT(leadership.leader, LEADER);
+    WANT(leadership.elected, true);
     for (int i = 0; i < 7; i++)
-        WANT(record.in_sync[i], i < NODES);
+        WANT(leadership.in_sync[i], i < NODES);
     for (int i = 0; i < 5; i++)
         WANT(produces(&w, &one_record, &receipt), KP_DONE);
-    WANT(kp_elect(&w.pass, LEADER, &record), KP_DONE);
+    WANT(kp_elect(&w.pass, LEADER, &leadership), KP_DONE);
     WANT(kp_adopt(&w.nodes[LEADER], &role), KP_DONE);
     WANT(role.start, 5);
     WANT(role.epoch, 2);
@@ -349,7 +349,7 @@ static void restarts_are_in_order(void) {
 
 static void proposes(world *w, bool joins, uint8_t which) {
     kp_handle proposal = {0};
-    kp_record_out record = {0};
+    kp_leadership_out leadership = {0};
     uint8_t addressee = 0;
     WANT(kp_alter(&w->nodes[LEADER], joins, which, &proposal), KP_DONE);
     WANT(kp_addressee(&proposal, &addressee), KP_DONE);
@@ -358,9 +358,9 @@ static void proposes(world *w, bool joins, uint8_t which) {
     WANT(kp_addressee(&proposal, &addressee), KP_DONE);
     WANT(addressee, LEADER);
     WANT(kp_step(&w->nodes[LEADER], &proposal), KP_DONE);
-    WANT(kp_record(&w->pass, &record), KP_DONE);
+    WANT(kp_leadership(&w->pass, &leadership), KP_DONE);
     for (int i = 0; i < NODES; i++)
-        WANT(record.in_sync[i], joins || i != which);
+        WANT(leadership.in_sync[i], joins || i != which);
 }
 
 static void proposals_are_what_was_asked_for(void) {

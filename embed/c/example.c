@@ -187,9 +187,9 @@ int main(void) {
     }
     wants("pass", kp_open_pass(&cluster, &controller), KP_DONE);
 
-    kp_record_out record;
-    wants("elect", kp_elect(&controller, 0, &record), KP_DONE);
-    holds("node 0 leads in epoch 0", record.elected && record.leader == 0 && record.in_sync[2] && !record.in_sync[3]);
+    kp_leadership_out leadership;
+    wants("elect", kp_elect(&controller, 0, &leadership), KP_DONE);
+    holds("node 0 leads in epoch 0", leadership.elected && leadership.leader == 0 && leadership.in_sync[2] && !leadership.in_sync[3]);
     for (int i = 0; i < NODES; i++) {
         kp_role role;
         wants("adopt", kp_adopt(&nodes[i].node, &role), KP_DONE);
@@ -247,8 +247,8 @@ int main(void) {
     holds("for the controller", addressee == KP_CONTROLLER);
     wants("decide", kp_decide(&controller, &proposal), KP_DONE);
     wants("learn", kp_step(&nodes[0].node, &proposal), KP_DONE);
-    wants("record", kp_record(&controller, &record), KP_DONE);
-    holds("node 2 has left", record.in_sync[1] && !record.in_sync[2]);
+    wants("leadership", kp_leadership(&controller, &leadership), KP_DONE);
+    holds("node 2 has left", leadership.in_sync[1] && !leadership.in_sync[2]);
 
     const kp_marker marker = {3, 2000, 0, 0, false};
     wants("marker", kp_mark(&nodes[0].node, &one->pass, &marker, &receipt), KP_DONE);
@@ -270,6 +270,6 @@ int main(void) {
     wants("close", kp_close(&controller), KP_DONE);
     wants("close", kp_close(&cluster), KP_DONE);
     wants("second", kp_close(&cluster), KP_CLOSED);
-    wants("use", kp_record(&controller, &record), KP_CLOSED);
+    wants("use", kp_leadership(&controller, &leadership), KP_CLOSED);
     return 0;
 }

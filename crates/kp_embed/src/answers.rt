@@ -4,7 +4,7 @@ ghost use Rattle.kp_handles.specs.Numbers.{answer_number, done_number};
 ghost use Rattle.kp_handles.specs.Outs.{WritesOut};
 
 use kp_handles::{
-    Called, Misuse, RecordOut, RestartOut, RoleOut, ack_out, misuse_number, refusal_number,
+    Called, LeadershipOut, Misuse, RestartOut, RoleOut, ack_out, misuse_number, refusal_number,
 };
 use kp_model::LeaderAndIsr;
 use kp_node::Ack;
@@ -39,13 +39,13 @@ impl Out<Answer> for RestartOut {
     }
 }
 
-impl Out<LeaderAndIsr> for RecordOut {
-    ghost use Rattle.kp_handles.specs.Outs.{record_out};
+impl Out<LeaderAndIsr> for LeadershipOut {
+    ghost use Rattle.kp_handles.specs.Outs.{leadership_out};
 
-    ghost out = { record_out };
+    ghost out = { leadership_out };
 
     fn write(&mut self, found: LeaderAndIsr) {
-        *self = RecordOut::of(&found);
+        *self = LeadershipOut::of(&found);
     }
 }
 

@@ -7,11 +7,11 @@ ghost use Rattle.kp_handles.specs.Called.{AreOfOne, CallerCalled};
 ghost use Rattle.kp_board.specs.Calls.{Elects, Looks};
 ghost use Rattle.kp_handles.specs.CallerCalls.{Answers, LearnsMark, ReceiptsTold};
 ghost use Rattle.kp_handles.specs.Numbers.{answer_number, done_number, mark_number};
-ghost use Rattle.kp_handles.specs.Outs.{WritesMark, WritesOut, record_out};
+ghost use Rattle.kp_handles.specs.Outs.{WritesMark, WritesOut, leadership_out};
 
 use crate::answers::{done, told};
 use kp_handles::{
-    Handle, Misuse, RecordOut, elect, misuse_number, record, refusal_number, tell_receipts,
+    Handle, LeadershipOut, Misuse, elect, leadership, misuse_number, refusal_number, tell_receipts,
     watermark,
 };
 use std::alloc::Global;
@@ -19,10 +19,15 @@ use std::marker::Brand;
 
 /// Tries once to elect a node.
 #[unsafe(no_mangle)]
-pub extern "C" fn kp_elect(alloc: Global, pass: &mut Handle, node: u8, found: &mut RecordOut) -> u32
+pub extern "C" fn kp_elect(
+    alloc: Global,
+    pass: &mut Handle,
+    node: u8,
+    found: &mut LeadershipOut,
+) -> u32
     ensures called { (answer : Result (Result LeaderAndIsr Refusal) Misuse) × (result ≡ answer_number answer)
         × CallerCalled pass.old.object pass.new.object answer (λ _. Elects node)
-        × WritesOut record_out answer found.old found.new }
+        × WritesOut leadership_out answer found.old found.new }
     ensures cluster { pass.new.table ≡ pass.old.table }
 {
     told(elect::<Brand>(alloc, pass, node), found)
@@ -30,13 +35,13 @@ pub extern "C" fn kp_elect(alloc: Global, pass: &mut Handle, node: u8, found: &m
 
 /// Looks at the controller's record.
 #[unsafe(no_mangle)]
-pub extern "C" fn kp_record(alloc: Global, pass: &mut Handle, found: &mut RecordOut) -> u32
+pub extern "C" fn kp_leadership(alloc: Global, pass: &mut Handle, found: &mut LeadershipOut) -> u32
     ensures called { (answer : Result (Result LeaderAndIsr Refusal) Misuse) × (result ≡ answer_number answer)
         × CallerCalled pass.old.object pass.new.object answer (λ _ c d. Answers (Looks c d))
-        × WritesOut record_out answer found.old found.new }
+        × WritesOut leadership_out answer found.old found.new }
     ensures cluster { pass.new.table ≡ pass.old.table }
 {
-    told(record::<Brand>(alloc, pass), found)
+    told(leadership::<Brand>(alloc, pass), found)
 }
 
 /// Looks at a node's high watermark.

@@ -21,7 +21,7 @@ use Rattle.kp_handles.specs.declared.misuse.Misuse.{Misuse}
 use Rattle.kp_handles.specs.declared.outs.LimitsIn.{LimitsIn}
 use Rattle.kp_handles.specs.declared.outs.MarkerIn.{MarkerIn}
 use Rattle.kp_handles.specs.declared.outs.ReceiptOut.{ReceiptOut}
-use Rattle.kp_handles.specs.declared.outs.RecordOut.{RecordOut}
+use Rattle.kp_handles.specs.declared.outs.LeadershipOut.{LeadershipOut}
 use Rattle.kp_handles.specs.declared.outs.RestartOut.{RestartOut}
 use Rattle.kp_handles.specs.declared.outs.RoleOut.{RoleOut}
 
@@ -32,12 +32,12 @@ abbrev pub role_out : Role → RoleOut
 role_out (Leads epoch start) = record { start = start; epoch = epoch; leader = 0; leads = true }
 role_out (Follows leader epoch) = record { start = 0; epoch = epoch; leader = leader; leads = false }
 
-abbrev pub leader_out : (version : ℕ) → (members : List Bool) → Option Leader → RecordOut
+abbrev pub leader_out : (version : ℕ) → (members : List Bool) → Option Leader → LeadershipOut
 leader_out version members (Some l) = record { version = version; epoch = l.epoch; leader = l.node; elected = true; in_sync = members }
 leader_out version members None = record { version = version; epoch = 0; leader = 0; elected = false; in_sync = members }
 
-abbrev pub record_out : LeaderAndIsr → RecordOut
-record_out r = leader_out r.version r.isr.members r.leader
+abbrev pub leadership_out : LeaderAndIsr → LeadershipOut
+leadership_out r = leader_out r.version r.isr.members r.leader
 
 abbrev pub restart_out : Answer → RestartOut
 restart_out (Restarted life end watermark) = record { life = life; end = end; watermark = watermark }

@@ -32,7 +32,10 @@ pub fn elect<B: BoardName + Unnamed>(
 }
 
 /// Looks at the controller's record, as by `Board::record`. Closed, OtherKind.
-pub fn record<B: BoardName + Unnamed>(alloc: Global, handle: &mut Handle) -> Called<LeaderAndIsr>
+pub fn leadership<B: BoardName + Unnamed>(
+    alloc: Global,
+    handle: &mut Handle,
+) -> Called<LeaderAndIsr>
     requires { IfSome handle.old.object (λ _. handle.old.table ≡ B.table) }
     ensures called { CallerCalled handle.old.object handle.new.object result (λ _ c d. Answers (Looks c d)) }
     ensures cluster { handle.new.table ≡ handle.old.table }

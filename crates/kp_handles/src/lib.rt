@@ -20,7 +20,7 @@ mod producing;
 mod reading;
 mod segments;
 
-pub use callers::{elect, record, tell_receipts, watermark};
+pub use callers::{elect, leadership, tell_receipts, watermark};
 pub use calling::Called;
 pub use clusters::{close, open, open_caller, open_node};
 pub use handing::hand;
@@ -31,7 +31,8 @@ pub use misuse::Misuse;
 pub use nodes::{adopt, checkpoint, raise, restart, stop};
 pub use numbers::{misuse_number, refusal_number, write_name};
 pub use outs::{
-    LimitsIn, MarkerIn, ReceiptOut, RecordOut, RestartOut, RoleOut, ValueOut, ack_out, change_in,
+    LeadershipOut, LimitsIn, MarkerIn, ReceiptOut, RestartOut, RoleOut, ValueOut, ack_out,
+    change_in,
 };
 pub use producing::{acked, mark_in, produce, produce_handed};
 pub use reading::{read, read_committed};

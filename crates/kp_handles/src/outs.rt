@@ -2,7 +2,7 @@
 ghost use Rattle.std.specs.Prelude.{◌≡◌};
 ghost use Rattle.kp_visible.specs.Lines.{line_of};
 ghost use Rattle.kp_handles.specs.Holding.{addressee_out, value_out};
-ghost use Rattle.kp_handles.specs.Outs.{ack_out, change_in, kind_in, limits_in, marker_in, receipt_in, receipt_out, record_out, restart_out, role_out};
+ghost use Rattle.kp_handles.specs.Outs.{ack_out, change_in, kind_in, limits_in, marker_in, receipt_in, receipt_out, leadership_out, restart_out, role_out};
 
 use kp_marker::{Kind, Marker};
 use kp_model::{LeaderAndIsr, MessageBody};
@@ -74,7 +74,7 @@ impl RoleOut {
 /// The controller's record.
 #[repr(C)]
 #[derive(Clone, Copy)]
-pub struct RecordOut {
+pub struct LeadershipOut {
     /// Every change raises it.
     pub version: u32,
     /// The leader epoch; 0 before the first election.
@@ -87,20 +87,20 @@ pub struct RecordOut {
     pub in_sync: [bool; NODE_PLACES],
 }
 
-impl RecordOut {
+impl LeadershipOut {
     /// A record as it is told. O(1).
-    pub fn of(record: &LeaderAndIsr) -> RecordOut
-        ensures { result ≡ record_out record.now }
+    pub fn of(record: &LeaderAndIsr) -> LeadershipOut
+        ensures { result ≡ leadership_out record.now }
     {
         match record.leader {
-            Some(leader) => RecordOut {
+            Some(leader) => LeadershipOut {
                 version: record.version,
                 epoch: leader.epoch,
                 leader: leader.node,
                 elected: true,
                 in_sync: record.isr.members,
             },
-            None => RecordOut {
+            None => LeadershipOut {
                 version: record.version,
                 epoch: 0,
                 leader: 0,

@@ -4,7 +4,7 @@ use crate::error::Error;
 use crate::ffi::{Limits, RawCluster, RawNode, RawPass};
 use crate::message::Message;
 use crate::node::Node;
-use crate::values::Record;
+use crate::values::Leadership;
 use std::sync::{Arc, Mutex, MutexGuard, PoisonError};
 
 impl Default for Limits {
@@ -102,13 +102,13 @@ pub struct Pass {
 impl Pass {
     /// Elects a node, which has to be in sync (F21), by one exchange at the controller's record; F22 where another change came
     /// between. Nodes learn it by [`Node::adopt`]. F24 where epochs are used up. O(1), takes no lock, and waits for nobody.
-    pub fn elect(&mut self, node: u8) -> Result<Record, Error> {
-        self.raw.elect(node).map(Record::from)
+    pub fn elect(&mut self, node: u8) -> Result<Leadership, Error> {
+        self.raw.elect(node).map(Leadership::from)
     }
 
     /// The controller's record as it is now. O(1), and no lock.
-    pub fn record(&mut self) -> Result<Record, Error> {
-        self.raw.record().map(Record::from)
+    pub fn leadership(&mut self) -> Result<Leadership, Error> {
+        self.raw.leadership().map(Leadership::from)
     }
 
     /// A node's high watermark: all below it is committed. [`Error::OutOfRange`] where there is no such node. O(1), and no lock.

@@ -35,7 +35,7 @@ pub(crate) struct RoleOut {
 
 #[repr(C)]
 #[derive(Clone, Copy, Default)]
-pub(crate) struct RecordOut {
+pub(crate) struct LeadershipOut {
     pub version: u32,
     pub epoch: u32,
     pub leader: u8,
@@ -93,8 +93,8 @@ unsafe extern "C" {
     fn kp_open_pass(cluster: &mut Handle, pass: &mut Handle) -> u32;
     fn kp_close(handle: &mut Handle) -> u32;
 
-    fn kp_elect(pass: &mut Handle, node: u8, found: &mut RecordOut) -> u32;
-    fn kp_record(pass: &mut Handle, found: &mut RecordOut) -> u32;
+    fn kp_elect(pass: &mut Handle, node: u8, found: &mut LeadershipOut) -> u32;
+    fn kp_leadership(pass: &mut Handle, found: &mut LeadershipOut) -> u32;
     fn kp_watermark(pass: &mut Handle, node: u8, offset: &mut u64) -> u32;
     fn kp_decide(pass: &mut Handle, message: &mut Handle) -> u32;
     fn kp_tell_receipts(from: &mut Handle, to: &mut Handle) -> u32;
@@ -243,17 +243,17 @@ impl RawCluster {
 }
 
 impl RawPass {
-    pub(crate) fn elect(&mut self, node: u8) -> Result<RecordOut, Error> {
-        let mut found = RecordOut::default();
+    pub(crate) fn elect(&mut self, node: u8) -> Result<LeadershipOut, Error> {
+        let mut found = LeadershipOut::default();
         // SAFETY: the handle is the library's.
         answered(unsafe { kp_elect(&mut self.handle, node, &mut found) })?;
         Ok(found)
     }
 
-    pub(crate) fn record(&mut self) -> Result<RecordOut, Error> {
-        let mut found = RecordOut::default();
+    pub(crate) fn leadership(&mut self) -> Result<LeadershipOut, Error> {
+        let mut found = LeadershipOut::default();
         // SAFETY: the handle is the library's.
-        answered(unsafe { kp_record(&mut self.handle, &mut found) })?;
+        answered(unsafe { kp_leadership(&mut self.handle, &mut found) })?;
         Ok(found)
     }
 

@@ -62,7 +62,7 @@
 //! let mut pass = cluster.pass()?;
 //! std::thread::scope(|scope| {
 //!     scope.spawn(|| pass.elect(0).is_ok());
-//!     scope.spawn(|| pass.record().is_ok()); // each thread has its own pass
+//!     scope.spawn(|| pass.leadership().is_ok()); // each thread has its own pass
 //! });
 //! # Ok(()) }
 //! ```
@@ -94,5 +94,5 @@ pub use message::{Addressee, Message};
 pub use node::Node;
 pub use records::{CommittedRecord, Records};
 pub use segments::{Segment, Segments};
-pub use values::{Ack, Change, Marker, Receipt, Record, Restarted, Role};
+pub use values::{Ack, Change, Leadership, Marker, Receipt, Restarted, Role};
 pub use workers::Workers;

@@ -1,6 +1,6 @@
 //! Plain values that calls take and give.
 
-use crate::ffi::{MarkerIn, ReceiptOut, RecordOut, RestartOut, RoleOut};
+use crate::ffi::{LeadershipOut, MarkerIn, ReceiptOut, RestartOut, RoleOut};
 
 /// What a node is under the controller's record that it took up.
 #[derive(Clone, Copy, Debug, PartialEq, Eq)]
@@ -23,7 +23,7 @@ pub enum Role {
 
 /// The controller's record.
 #[derive(Clone, Copy, Debug, PartialEq, Eq)]
-pub struct Record {
+pub struct Leadership {
     /// Every change raises it by 1.
     pub version: u32,
     /// The leader and its leader epoch; none before the first election.
@@ -32,7 +32,7 @@ pub struct Record {
     pub in_sync: [bool; 7],
 }
 
-impl Record {
+impl Leadership {
     /// Whether the node is in sync. Nodes that the cluster hasn't got are not.
     pub fn has_in_sync(&self, node: u8) -> bool {
         self.in_sync.get(usize::from(node)).is_some_and(|it| *it)
@@ -109,10 +109,10 @@ impl From<RoleOut> for Role {
     }
 }
 
-impl From<RecordOut> for Record {
-    fn from(record: RecordOut) -> Record {
+impl From<LeadershipOut> for Leadership {
+    fn from(record: LeadershipOut) -> Leadership {
         let leader = record.elected.then_some((record.leader, record.epoch));
-        Record { version: record.version, leader, in_sync: record.in_sync }
+        Leadership { version: record.version, leader, in_sync: record.in_sync }
     }
 }
 

@@ -56,7 +56,7 @@ impl Posts {
 /// pass.elect(0)?;
 /// let workers = Workers::start(&cluster, Duration::from_millis(1))?;
 /// cluster.node(1)?.stop()?;
-/// while pass.record()?.has_in_sync(1) {
+/// while pass.leadership()?.has_in_sync(1) {
 ///     workers.propose(0, Change::Leave(1)); // the same proposal again does no harm
 ///     std::thread::sleep(Duration::from_millis(1));
 /// }

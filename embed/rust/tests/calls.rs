@@ -132,7 +132,7 @@ fn in_sync_changes_go_by_the_controller() -> Done {
     assert_eq!(cluster.node(0)?.alter(Change::Leave(0)).err(), Some(Refusal::ChangePending.into()));
     assert_eq!(proposal.addressee(), Addressee::Controller);
     carry(&cluster, &mut pass, proposal)?;
-    assert!(!pass.record()?.has_in_sync(1));
+    assert!(!pass.leadership()?.has_in_sync(1));
     assert_eq!(carry(&cluster, &mut pass, again), Err(Refusal::StaleAnswer.into())); // it learns nothing new
     let receipt = cluster.node(0)?.produce(&mut pass, ONE_RECORD)?;
     assert_eq!(cluster.node(0)?.raise()?, 1);
@@ -143,7 +143,7 @@ fn in_sync_changes_go_by_the_controller() -> Done {
     replicate(&cluster, &mut pass, 1)?;
     let proposal = cluster.node(0)?.alter(Change::Join(1))?;
     carry(&cluster, &mut pass, proposal)?;
-    assert!(pass.record()?.has_in_sync(1));
+    assert!(pass.leadership()?.has_in_sync(1));
     Ok(())
 }
 
@@ -168,8 +168,8 @@ fn a_node_stops_and_starts() -> Done {
 fn records_and_roles_have_their_fields() -> Done {
     let (cluster, mut pass) = opened(3)?;
     pass.elect(1)?;
-    let wanted = Record { version: 2, leader: Some((2, 1)), in_sync: [true, true, true, false, false, false, false] };
-    assert_eq!((pass.elect(2)?, pass.record()?), (wanted, wanted));
+    let wanted = Leadership { version: 2, leader: Some((2, 1)), in_sync: [true, true, true, false, false, false, false] };
+    assert_eq!((pass.elect(2)?, pass.leadership()?), (wanted, wanted));
     assert_eq!(cluster.node(0)?.adopt()?, Role::Follows { leader: 2, epoch: 1 });
     cluster.node(2)?.adopt()?;
     for _ in 0..5 {
@@ -282,7 +282,7 @@ fn what_there_is_not_is_refused() -> Done {
     assert_eq!(cluster.nodes(), 2);
     assert_eq!(cluster.node(2).err(), Some(Error::OutOfRange));
     assert_eq!(pass.watermark(2), Err(Error::OutOfRange));
-    assert_eq!(pass.record()?, Record { version: 0, leader: None, in_sync: [true, true, false, false, false, false, false] });
+    assert_eq!(pass.leadership()?, Leadership { version: 0, leader: None, in_sync: [true, true, false, false, false, false, false] });
     assert_eq!(cluster.node(0)?.adopt(), Err(Refusal::StaleRecord.into()));
     assert_eq!(cluster.node(0)?.ask().err(), Some(Refusal::NotLeader.into()));
     assert_eq!(cluster.node(0)?.read(&mut pass, 1).err(), Some(Refusal::OffsetOutOfRange.into()));

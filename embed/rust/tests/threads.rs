@@ -34,7 +34,7 @@ fn pause() {
 fn put(cluster: &Cluster, pass: &mut Pass) -> Result<Receipt, Error> {
     let mut batch = Batch::new(ONE_RECORD)?;
     loop {
-        let (leader, _) = pass.record()?.leader.expect("somebody leads");
+        let (leader, _) = pass.leadership()?.leader.expect("somebody leads");
         let receipt = match cluster.node(leader)?.produce_batch(pass, &mut batch) {
             Ok(receipt) => receipt,
             Err(Error::Refused(Refusal::NotLeader)) => {
@@ -52,7 +52,7 @@ fn put(cluster: &Cluster, pass: &mut Pass) -> Result<Receipt, Error> {
 fn is_kept(cluster: &Cluster, pass: &mut Pass, receipt: &Receipt) -> Result<bool, Error> {
     let mut rounds = 0;
     while rounds < 200 {
-        let (leader, epoch) = pass.record()?.leader.expect("somebody leads");
+        let (leader, epoch) = pass.leadership()?.leader.expect("somebody leads");
         let ack = cluster.node(leader)?.acked(pass, receipt)?;
         if ack != Ack::NotYet {
             return Ok(ack == Ack::Yes);

@@ -39,7 +39,7 @@ impl<'a> Operator<'a> {
 
     /// Stops the leader, and has the next node in sync elected, which then takes it out of the in-sync replicas.
     fn fail_over(&mut self) -> Result<(u8, String), Fault> {
-        let record = self.pass.record()?;
+        let record = self.pass.leadership()?;
         let (old, _) = record.leader.ok_or("nobody leads")?;
         self.cluster.node(old)?.stop()?;
         let others = (1..self.cluster.nodes()).map(|step| (old + step) % self.cluster.nodes());
@@ -50,14 +50,14 @@ impl<'a> Operator<'a> {
             }
         }
         self.change(next, Change::Leave(old), |in_sync| !in_sync)?;
-        let epoch = self.pass.record()?.leader.map_or(0, |leader| leader.1);
+        let epoch = self.pass.leadership()?.leader.map_or(0, |leader| leader.1);
         Ok((old, format!("node {old} was stopped, node {next} leads in epoch {epoch}")))
     }
 
     /// Starts the node again; it fetches what it lacks, and joins the in-sync replicas.
     fn bring_back(&mut self, stopped: u8) -> Result<String, Fault> {
         self.cluster.node(stopped)?.restart()?;
-        let (leader, _) = self.pass.record()?.leader.ok_or("nobody leads")?;
+        let (leader, _) = self.pass.leadership()?.leader.ok_or("nobody leads")?;
         self.change(leader, Change::Join(stopped), |in_sync| in_sync)?;
         Ok(format!("node {stopped} is back, and in sync"))
     }
@@ -65,7 +65,7 @@ impl<'a> Operator<'a> {
     /// Has the leader propose the change until the record shows it.
     fn change(&mut self, leader: u8, change: Change, is_done: impl Fn(bool) -> bool) -> Result<(), Fault> {
         let (Change::Join(node) | Change::Leave(node)) = change;
-        while !is_done(self.pass.record()?.has_in_sync(node)) {
+        while !is_done(self.pass.leadership()?.has_in_sync(node)) {
             self.workers.propose(leader, change);
             self.clock.pause()?;
         }

@@ -84,7 +84,7 @@ impl Producer {
     }
 
     fn handed(&mut self, hand: &mut impl FnMut(&mut Node, &mut Pass) -> Result<Receipt, Error>) -> Result<Option<Receipt>, Fault> {
-        let Some((leader, _)) = self.pass.record()?.leader else { return Ok(None) };
+        let Some((leader, _)) = self.pass.leadership()?.leader else { return Ok(None) };
         let mut node = self.cluster.node(leader)?;
         match hand(&mut node, &mut self.pass) {
             Ok(receipt) => Ok(Some(receipt)),
@@ -98,7 +98,7 @@ impl Producer {
     fn is_acknowledged(&mut self, receipt: &Receipt) -> Result<bool, Fault> {
         let mut pauses = 0;
         while pauses < PAUSES {
-            let Some((leader, epoch)) = self.pass.record()?.leader else { return Ok(false) };
+            let Some((leader, epoch)) = self.pass.leadership()?.leader else { return Ok(false) };
             match self.cluster.node(leader)?.acked(&mut self.pass, receipt) {
                 Ok(Ack::Yes) => return Ok(true),
                 Ok(Ack::Lost) => return Ok(false),
