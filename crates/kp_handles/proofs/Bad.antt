@@ -13,7 +13,7 @@ use Rattle.kp_types.specs.declared.refusal.Refusal.{Refusal}
 use Rattle.kp_board.specs.Views.{NodeView}
 use Rattle.kp_replica.specs.declared.producing.Receipt.{Receipt}
 use Rattle.kp_handles.specs.CallerCalls.{BadCallers, ReceiptsTold}
-use Rattle.kp_handles.specs.Called.{BadCaller, BadNode, BadPair, BadRoom, NoReason, PairCalled}
+use Rattle.kp_handles.specs.Called.{BadCaller, BadNode, BadPair, BadRoom, PairCalled}
 use Rattle.kp_handles.specs.Handing.{BadHand, BadHanded, BadShare, HandedCalled, IsFree}
 use Rattle.kp_handles.specs.Holding.{BadCount, BadLetter, BadPart, BadPartOf}
 use Rattle.kp_handles.specs.Messages.{BadDecide, BadStep}
@@ -81,18 +81,6 @@ module _ (why : Misuse) (n m out : Option ObjectView) (o l : ObjectView) (en : n
   pub segment_bad : (index places : ℕ) → out ≡ None → BadSegment index places (Some o) None why → BadSegment index places n out why
   segment_bad index places eo bad =
       subst (λ (a : Option ObjectView). BadSegment index places a out why) (sym en) (subst (λ (r : Option ObjectView). BadSegment index places (Some o) r why) (sym eo) bad)
-
--- one that has no reason of its own has any
-pub pair_any : {X : Type 0} (Own : Misuse → Type 0) (old new other then : Option ObjectView) (answer : Result (Result X Refusal) Misuse)
-    (P : SeatedNode → SeatedNode → CallerView → CallerView → Result X Refusal → Type 0)
-    → PairCalled NoReason old new other then answer P → PairCalled Own old new other then answer P
-pair_any Own old new other then (Ok answer) P called = called
-pair_any Own old new other then (Err Closed) P called = called
-pair_any Own old new other then (Err OtherKind) P called = called
-pair_any Own old new other then (Err InUse) P (same, kept, bad) = absurd bad
-pair_any Own old new other then (Err NoRoom) P (same, kept, bad) = absurd bad.1
-pair_any Own old new other then (Err OutOfRange) P (same, kept, bad) = absurd bad
-pair_any Own old new other then (Err BadLength) P (same, kept, bad) = absurd bad
 
 -- ---- of bytes
 
