@@ -35,9 +35,9 @@ returns-in-Ok-take g c =
     record {
       served = tt;
       taken = subst (λ (b : MessageBody). WasTaken b shown c.args.self.now.node c.take.new.self.node (Receive c.args.message.pass)) (sym c.in-FetchAnswer.is ∙ parts.body)
-      (subst (λ (m : Message). WasTaken (FetchAnswer c.in-FetchAnswer.answer) shown c.args.self.now.node c.take.new.self.node (Receive m)) parts.pass
-      (subst (λ (given : Answered). WasFollowed given shown c.args.self.now.node c.take.new.self.node (Receive c.into_parts-body.result.1)) (sym c.in-Batches.is)
-      (c.in-Ok-take._taken, c.in-Ok-take.ensures.event shown)));
+          (subst (λ (m : Message). WasTaken (FetchAnswer c.in-FetchAnswer.answer) shown c.args.self.now.node c.take.new.self.node (Receive m)) parts.pass
+          (subst (λ (given : Answered). WasFollowed given shown c.args.self.now.node c.take.new.self.node (Receive c.into_parts-body.result.1)) (sym c.in-Batches.is)
+          (c.in-Ok-take._taken, c.in-Ok-take.ensures.event shown)));
       refused = tt;
       spared = tt;
       place = search rules;
@@ -78,8 +78,8 @@ returns-in-Ok-learn g c =
     record {
       served = tt;
       taken = subst (λ (b : MessageBody). WasTaken b shown c.args.self.now.node c.learn.new.self.node (Receive c.args.message.pass)) (sym c.in-Decision.is ∙ parts.body)
-      (subst (λ (m : Message). WasTaken (Decision c.in-Decision.decision) shown c.args.self.now.node c.learn.new.self.node (Receive m)) parts.pass
-      (c.in-Ok-learn._learned, c.in-Ok-learn.ensures.event shown));
+          (subst (λ (m : Message). WasTaken (Decision c.in-Decision.decision) shown c.args.self.now.node c.learn.new.self.node (Receive m)) parts.pass
+          (c.in-Ok-learn._learned, c.in-Ok-learn.ensures.event shown));
       refused = tt;
       spared = tt;
       place = search rules;
