@@ -1,7 +1,7 @@
 //! Each call once, and what the types refuse.
 
 use kpart::{
-    Ack, Addressee, Batch, Change, Cluster, CommittedRecord, Error, Limits, Marker, Message, Pass, Record, Refusal, Role, Segment,
+    Ack, Addressee, Batch, Change, Cluster, CommittedRecord, Error, Leadership, Limits, Marker, Message, Pass, Refusal, Role, Segment,
 };
 
 const ONE_RECORD: &[u8] = include_bytes!("one_record.batch");
