@@ -7,10 +7,10 @@ use Rattle.kp_types.proofs.Elements.{all_behind}
 use Rattle.kp_batch.specs.Batch.{Written, count_of}
 use Rattle.kp_model.specs.Beginning.{Begins}
 use Rattle.kp_model.specs.Log.{Batch, width, next_offset, end_of, Follow, IsLog, below, logged}
-use Rattle.kp_model.specs.Fetching.{at_least_one}
+use Rattle.kp_model.specs.Fetching.{at_least_one, fetch_bytes}
 use Rattle.kp_model.specs.World.{Node}
 use Rattle.kp_model.specs.Run.{held}
-use Rattle.kp_model.proofs.Plain.FetchLimit.{at_least_one_is, at_least_one_begins, first_fitting}
+use Rattle.kp_model.proofs.Plain.FetchLimit.{first_within_is, at_least_one_begins, first_fitting}
 use Rattle.kp_model.proofs.Plain.Logs.{Follow-rest, IsLog-begins, last_epoch_or}
 use Rattle.kp_log.specs.Logged.{reaching}
 use Rattle.kp_log.proofs.Reaching.{parts}
@@ -131,9 +131,9 @@ read_of : (x : Node) (from : ℕ) (piece : List Batch) → piece ≡ at_least_on
 read_of x from piece is =
     subst (λ (s : List Batch). Begins s (reaching from (held x))) (sym (is ∙ ap at_least_one (reaching_below x.watermark from x.log))) (at_least_one_begins (reaching from (held x)))
 
-none_of : (bs : List Batch) → first_fitting bs ≡ [] → bs ≡ []
-none_of [] e = refl
-none_of (b ∷ bs) e = absurd cc
+none_of : (most : ℕ) (bs : List Batch) → first_fitting most bs ≡ [] → bs ≡ []
+none_of most [] e = refl
+none_of most (b ∷ bs) e = absurd cc
 
 no_batch : (piece : List Written) → slice_get piece (length piece - 1) ≡ None → piece ≡ []
 no_batch [] e = refl
@@ -153,7 +153,7 @@ module _ (x : Node) (from : ℕ) (piece : List Written) (is : map logged piece �
       let empty : map logged piece ≡ [] = ap (map logged) (no_batch piece none) in
       let all = reaching from (held x) in
       let whole : at_least_one all ≡ [] = sym (is ∙ ap at_least_one (reaching_below x.watermark from x.log)) ∙ empty in
-      (none_of all (sym (at_least_one_is all) ∙ whole), refl)
+      (none_of fetch_bytes all (sym (first_within_is fetch_bytes all) ∙ whole), refl)
 
   pub reads_on : IsLog x.log → x.watermark ≤ 2 ^ 62 → (last : Written) → slice_get piece (length piece - 1) ≡ Some last
       → (next : ℕ) → next ≡ min (last.base + count_of last.body) 18446744073709551615

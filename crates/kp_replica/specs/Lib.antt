@@ -9,6 +9,7 @@ pub mod Taking
 pub mod Cutting
 pub mod Hearing
 pub mod Altering
+pub mod Status
 pub mod Broker
 pub mod Acts
 pub mod Laws

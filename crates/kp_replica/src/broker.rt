@@ -2,11 +2,12 @@
 
 use crate::act::{Act, Answer, Effect, PlainAct};
 use crate::kept::KeptNode;
+use crate::reading::Status;
 use crate::replica::Replica;
 use kp_batch::Handed;
 use kp_log::PartitionLog;
 use kp_model::{Answered, LeaderAndIsr, MessageBody};
-use kp_types::{Limits, NodeId, Offset, Refusal};
+use kp_types::{Epoch, Limits, NodeId, Offset, Refusal};
 use std::alloc::Global;
 
 /// A broker node: up, or down with what it keeps.
@@ -29,6 +30,7 @@ impl Broker {
     ghost use Rattle.kp_replica.specs.Acts.{Acts, Fits, FitsPlain, IsAct, IsAppended, Refuses, TakesNoMemory, plain_act};
     ghost use Rattle.kp_replica.specs.Broker.{node_at};
     ghost use Rattle.kp_replica.specs.Replies.{IsOffer};
+    ghost use Rattle.kp_replica.specs.Status.{status_of};
 
     /// A node that is up and idle, with an empty log. No memory.
     pub fn new(alloc: Global, number: NodeId, limits: &Limits) -> Broker
@@ -70,6 +72,36 @@ impl Broker {
         match self {
             Broker::Up(replica) => replica.life(),
             Broker::Down(kept) => kept.life(),
+        }
+    }
+
+    /// What the node is. O(1).
+    pub fn status(&self) -> Status
+        ensures { result ≡ status_of (node_at self.now).state.mode }
+    {
+        match self {
+            Broker::Up(replica) => replica.status(),
+            Broker::Down(kept) => kept.status(),
+        }
+    }
+
+    /// The leader epoch that the node last took up; none where it has taken up none. O(1).
+    pub fn kept_epoch(&self) -> Option<Epoch>
+        ensures { result ≡ (node_at self.now).state.kept }
+    {
+        match self {
+            Broker::Up(replica) => replica.kept_epoch(),
+            Broker::Down(kept) => kept.kept_epoch(),
+        }
+    }
+
+    /// The high watermark that the node last noted, from which a restart begins. O(1).
+    pub fn checkpoint_offset(&self) -> Offset
+        ensures { result ≡ (node_at self.now).state.checkpoint }
+    {
+        match self {
+            Broker::Up(replica) => replica.checkpoint_offset(),
+            Broker::Down(kept) => kept.checkpoint(),
         }
     }
 

@@ -2,6 +2,7 @@
 
 ghost use Rattle.std.specs.Prelude.{◌≡◌};
 
+use crate::reading::Status;
 use kp_log::{Kept, PartitionLog};
 use kp_types::{Epoch, NodeId, Offset, Refusal};
 use std::marker::Model;
@@ -32,6 +33,7 @@ impl KeptNode {
     ghost use Rattle.kp_model.specs.Log.{IsBoundary};
     ghost use Rattle.kp_model.specs.Effect.{is_down};
     ghost use Rattle.kp_model.specs.World.{Down as ModelDown};
+    ghost use Rattle.kp_replica.specs.Status.{status_of};
     ghost use Rattle.kp_types.specs.declared.refusal.Refusal.TheVariants.{Down as IsDown};
 
     /// A node that is down, from a log that was closed elsewhere, as where it was read back from files: the log, settled up to
@@ -77,6 +79,14 @@ impl KeptNode {
     {
         let _ = &self.life; // proof: by a field it is known what the node shows
         Refusal::Down
+    }
+
+    /// What the node is: it is down. O(1).
+    pub fn status(&self) -> Status
+        ensures { result ≡ status_of self.now.state.mode }
+    {
+        let _ = &self.life; // proof: by a field it is known what the node shows
+        Status::Down
     }
 
     /// The node's log, settled up to the high watermark at which the node went down, which is a boundary of it. O(1).

@@ -30,7 +30,7 @@ pub use broker::Broker;
 pub use cutting::CutBack;
 pub use kept::KeptNode;
 pub use producing::Receipt;
-pub use reading::Shown;
+pub use reading::{Shown, Status};
 pub use replica::Replica;
 pub use taking::Taken;
 

@@ -40,7 +40,7 @@ entry_is log x a e = elim (cases_Bool (is_abort (content_of x))) [
     by_producer t None own is = absurd cc
     by_producer t (Some p) own is = entry_at log x a p (open_of (below x.base log) p.0) t own refl is
 
-abort_marks : (content : Content) → is_abort content ≡ true → is_marker content ≡ true
+pub abort_marks : (content : Content) → is_abort content ≡ true → is_marker content ≡ true
 abort_marks (Plain records) e = absurd cc
 abort_marks (Produced producer epoch sequence transactional records) e = absurd cc
 abort_marks (Marker producer epoch coordinator commit) e = refl

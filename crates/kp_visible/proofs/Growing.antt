@@ -247,7 +247,7 @@ stays_below front more earlier later whole apart le =
 -- ---- what was visible stays so
 
 -- of a batch below the last stable offset it is settled whether it is visible
-settled_is : (front more : List Batch) (earlier : ℕ) (b : Batch) → Apart 0 front → Contains front b → next_offset b ≤ stable front earlier → is_visible (front ++ more) b ≡ is_visible front b
+pub settled_is : (front more : List Batch) (earlier : ℕ) (b : Batch) → Apart 0 front → Contains front b → next_offset b ≤ stable front earlier → is_visible (front ++ more) b ≡ is_visible front b
 settled_is front more earlier b apart stands within = by_content (content_of b) refl
   where
     ahead : List Batch
@@ -288,7 +288,7 @@ settled_is front more earlier b apart stands within = by_content (content_of b) 
         ∙ sym (ap (visible_at front b) is)
     by_content (Marker producer epoch coordinator commit) is = rw is refl
 
-apart_front : (low : ℕ) (xs ys : List Batch) → Apart low (xs ++ ys) → Apart low xs
+pub apart_front : (low : ℕ) (xs ys : List Batch) → Apart low (xs ++ ys) → Apart low xs
 apart_front low [] ys h = tt
 apart_front low (x ∷ xs) ys h = (h.0, h.1, apart_front (next_offset x) xs ys h.2)
 

@@ -72,7 +72,7 @@ abort_holds front behind m producer offset first apart passed marks aborts opene
 abbrev pub BeginsAbove : ℕ → ℕ → Aborted → Type 0
 BeginsAbove producer offset a = a.producer ≡ producer → offset < a.first
 
-begins_above : (front behind : List Batch) (m : Batch) (producer offset : ℕ) → Apart 0 (front ++ m ∷ behind) → is_marker_of producer m ≡ true → offset < m.base
+pub begins_above : (front behind : List Batch) (m : Batch) (producer offset : ℕ) → Apart 0 (front ++ m ∷ behind) → is_marker_of producer m ≡ true → offset < m.base
     → (x : Batch) (a : Aborted) → Splits behind x → aborted_by (front ++ m ∷ behind) x ≡ Some a → BeginsAbove producer offset a
 begins_above front behind m producer offset apart marks late x a s e same =
     let log = front ++ m ∷ behind in

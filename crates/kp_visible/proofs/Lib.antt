@@ -1,4 +1,5 @@
 pub mod Lists
+pub mod Tests
 pub mod Places
 pub mod Since
 pub mod Opening
@@ -9,6 +10,11 @@ pub mod Holding
 pub mod Stability
 pub mod Stopping
 pub mod Showing
+pub mod Alone
+pub mod Clients
+pub mod Onward
+pub mod Going
+pub mod Overlaps
 pub mod Consumers
 pub mod Growing
 pub mod Runs

@@ -93,7 +93,7 @@ visible_at log b content =
     || option_map_or (λ p. option_map_or (λ m. is_commit (content_of m)) (find (is_marker_of p.0) (from_offset (next_offset b) log)) false) (producer_of content) false)
 
 -- one batch
-shows_visible : (log : List Batch) (high_watermark : ℕ) (b : Batch) → IsLog log → Contains log b → next_offset b ≤ stable log high_watermark → shows (aborted_in log) b ≡ is_visible log b
+pub shows_visible : (log : List Batch) (high_watermark : ℕ) (b : Batch) → IsLog log → Contains log b → next_offset b ≤ stable log high_watermark → shows (aborted_in log) b ≡ is_visible log b
 shows_visible log high_watermark b lawful stands within = by_content (content_of b) refl
   where
     by_content : (content : Content) → content_of b ≡ content → shows (aborted_in log) b ≡ is_visible log b

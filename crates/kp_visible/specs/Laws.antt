@@ -1,6 +1,7 @@
 -- What a read-committed consumer can rely on (KIP-98).
-use Rattle.std.specs.Prelude.{◌≡◌, ◌⊎◌, ℕ, ◌+◌, ◌<◌, ◌≤◌, IsTrue, IsFalse, List, ◌++◌, Contains, Option, Some}
-use Rattle.std.specs.List.{AllByRecursion, AllPairs, find, slice_get}
+use Rattle.std.specs.Prelude.{◌≡◌, ◌⊎◌, ℕ, ◌+◌, ◌<◌, ◌≤◌, IsTrue, IsFalse, List, [], ◌++◌, Contains, Option, Some, map}
+use Rattle.std.specs.List.{AllByRecursion, AllPairs, filter, find, slice_get}
+use Rattle.std.specs.List.Sorted.{IsPermutation}
 use Rattle.std.specs.Option.{IsSomeAnd, option_and_then}
 use Rattle.kp_batch.specs.Batch.{records_of, is_transactional}
 use Rattle.kp_record.specs.Record.{Record}
@@ -9,8 +10,9 @@ use Rattle.kp_model.specs.Log.{Batch, IsLog, next_offset, below, from_offset}
 use Rattle.kp_model.specs.World.{World}
 use Rattle.kp_model.specs.Run.{Run, IsOf, held}
 use Rattle.kp_model.specs.Producers.{content_of, producer_of}
-use Rattle.kp_model.specs.Transactions.{is_abort, is_marker_of, stable}
-use Rattle.kp_model.specs.Visible.{is_commit, is_data, visible}
+use Rattle.kp_model.specs.Transactions.{Aborted, aborted_in, is_abort, is_marker_of, stable}
+use Rattle.kp_model.specs.Visible.{is_commit, is_data, is_visible, records_in, visible}
+use Rattle.kp_visible.specs.Client.{gone_over, kept, named, overlapping}
 
 -- the next marker of the batch's producer behind it
 abbrev pub ending_of : List Batch → Batch → Option Batch
@@ -73,3 +75,37 @@ abbrev pub AbortedRecordsAreHiddenInRuns : Type 0
 AbortedRecordsAreHiddenInRuns =
     (count : ℕ) (r : Run count) (v w : World) → IsOf v r → IsOf w r → (n m : ℕ) (b : Batch) → IsAbortedIn (held (v.nodes m)) b
     → AllByRecursion (λ line. ¬ Spans b line.0) (visible (w.nodes n).log (w.nodes n).watermark)
+
+-- these batches are the log's, each behind the one in front of it and none between left out, and lie below the last stable offset
+pub record IsStablePiece (batches log : List Batch) (high_watermark : ℕ) : Type 0 where
+  pub front : List Batch
+  pub rest : List Batch
+  pub is : log ≡ front ++ batches ++ rest
+  pub below : AllByRecursion (λ b. next_offset b ≤ stable log high_watermark) batches
+
+-- A client that is answered with such batches, and with the names of the log's aborted transactions that overlap them, is left with those
+-- that are visible in the log, in their order (KIP-98).
+abbrev pub ClientsKeepWhatIsVisible : Type 0
+ClientsKeepWhatIsVisible =
+    (log batches : List Batch) (high_watermark : ℕ) → IsLog log → IsStablePiece batches log high_watermark
+    → kept (map named (overlapping batches (aborted_in log))) batches ≡ filter (is_visible log) batches
+
+-- And so with their records, each at its offset.
+abbrev pub ClientsKeepVisibleRecords : Type 0
+ClientsKeepVisibleRecords =
+    (log batches : List Batch) (high_watermark : ℕ) → IsLog log → IsStablePiece batches log high_watermark
+    → records_in (kept (map named (overlapping batches (aborted_in log))) batches) ≡ records_in (filter (is_visible log) batches)
+
+-- What it is left with of two answers, the second from the end of the first on, where the log may have grown and the high watermark have
+-- risen in between, is what is visible of all their batches: each record once.
+abbrev pub ClientsReadOn : Type 0
+ClientsReadOn =
+    (log more one other : List Batch) (earlier later : ℕ) → IsLog (log ++ more) → IsStablePiece one log earlier → IsStablePiece (one ++ other) (log ++ more) later
+    → kept (map named (overlapping one (aborted_in log))) one ++ kept (map named (overlapping other (aborted_in (log ++ more)))) other
+    ≡ filter (is_visible (log ++ more)) (one ++ other)
+
+-- So is a client that goes over the batches and takes entries up as it comes to them, in whatever order they are named.
+abbrev pub ClientsMayGoOver : Type 0
+ClientsMayGoOver =
+    (log batches : List Batch) (high_watermark : ℕ) (entries : List Aborted) → IsLog log → IsStablePiece batches log high_watermark
+    → IsPermutation (overlapping batches (aborted_in log)) entries → gone_over (map named entries) [] batches ≡ filter (is_visible log) batches

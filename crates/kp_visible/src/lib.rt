@@ -1,6 +1,6 @@
 //! What a read-committed consumer sees of the batches that it was handed, by the list of aborted transactions (KIP-98).
-//! It stands on kp_batch's records, on kp_txns' aborted transactions, and on kp_model's definition of what is visible.
-//! The layer above gets, of batches below the last stable offset, the visible records of the log, each with its offset.
+//! It stands on kp_batch's records, on kp_txns' aborted transactions, and on kp_model's definition of what is visible. The layer above
+//! gets, of batches below the last stable offset, the visible records of the log, and the aborted ones to name to a client.
 #![tactic(auto)]
 
 mod by_producer;
@@ -9,6 +9,7 @@ mod filter;
 mod lines;
 mod looked;
 mod near;
+mod overlap;
 mod placed;
 mod searched;
 
@@ -20,7 +21,7 @@ ghost use Rattle.kp_model.specs.Transactions.{aborted_in, stable};
 ghost use Rattle.kp_model.specs.Visible.{is_visible, records_in, visible};
 ghost use Rattle.kp_visible.specs.Filter.{shows};
 ghost use Rattle.kp_visible.specs.Lent.{committed_left};
-ghost use Rattle.kp_visible.specs.Laws.{AbortedRecordsAreHidden, AbortedRecordsWereHidden, CommittedRecordsAreVisible, VisibleOffsetsRise, VisibleRecordsStay, OnlyBatchesBelowCount, AbortedRecordsAreHiddenInRuns};
+ghost use Rattle.kp_visible.specs.Laws.{AbortedRecordsAreHidden, AbortedRecordsWereHidden, CommittedRecordsAreVisible, VisibleOffsetsRise, VisibleRecordsStay, OnlyBatchesBelowCount, AbortedRecordsAreHiddenInRuns, ClientsKeepWhatIsVisible, ClientsKeepVisibleRecords, ClientsReadOn, ClientsMayGoOver};
 
 use crate::by_producer::ByProducer;
 use crate::filter::deciding;
@@ -29,6 +30,7 @@ use kp_batch::Batch;
 use kp_txns::AbortedTransaction;
 pub use lines::{ReadRecord, ReadRecords, push_committed, push_lines};
 pub use looked::Looked;
+pub use overlap::overlapping;
 use std::alloc::{AllocError, Global};
 
 /// What a read-committed consumer sees of these batches, by a list of aborted transactions (KIP-98). Control batches are
@@ -81,6 +83,22 @@ pub fn committed_records_are_visible()
     ensures visible { CommittedRecordsAreVisible }
     ensures rising { VisibleOffsetsRise }
     ensures staying { VisibleRecordsStay }
+{}
+
+/// A client that reads committed gets batches, and the producer and first offset of each aborted transaction that
+/// overlaps them. It looks at nothing else: it drops control batches, and transactional data of a producer for which an
+/// entry begins at or below it, unless an abort marker of the producer stands in the answer between. Where the batches
+/// are a piece of a log below its last stable offset, it is left with those that are visible in the log, in their order,
+/// and so with their records. Of two answers, the second from the end of the first on, it is left with what is visible of
+/// both, though the log grew in between (KIP-98).
+/// A client that goes over the batches, as Kafka's do, is left with the same: it takes an entry at the first batch whose
+/// last offset isn't below the entry's, notes the producer, drops transactional data of noted producers, and forgets a
+/// producer at its abort marker. It costs nothing.
+pub fn clients_keep_what_is_visible()
+    ensures batches { ClientsKeepWhatIsVisible }
+    ensures records { ClientsKeepVisibleRecords }
+    ensures onward { ClientsReadOn }
+    ensures programmed { ClientsMayGoOver }
 {}
 
 /// What is visible at a high watermark is a matter of the batches below it alone, so it is the same at all nodes of a run that hold
