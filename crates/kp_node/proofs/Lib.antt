@@ -5,6 +5,7 @@ pub mod Heard
 pub mod Serves
 pub mod Takes
 pub mod CutsUnder
+pub mod Pieces
 pub mod Callers
 pub mod Changing
 pub mod Deciding

@@ -3,5 +3,8 @@ pub mod Calls
 pub mod Acks
 pub mod NodeCalls
 pub mod CallerCalls
+pub mod Fetched
+pub mod Fetches
+pub mod Tells
 pub mod MessageCalls
 pub mod Laws

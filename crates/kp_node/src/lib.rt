@@ -8,6 +8,8 @@ ghost use Rattle.kp_node.specs.Laws.{SeenBatchesStay};
 mod ack;
 mod altering;
 mod asking;
+mod fetched;
+mod fetching;
 mod keeping;
 mod node;
 mod producing;
@@ -15,9 +17,12 @@ mod raising;
 mod reading;
 mod stepping;
 mod stopping;
+mod telling;
 
 pub use ack::Ack;
+pub use fetched::{Fetched, Isolation};
 pub use node::Node;
+pub use telling::NodeState;
 
 /// A batch that a caller's pass has seen at its offset stands there in each list that the pass sees later. It costs nothing.
 pub fn seen_batches_stay()
