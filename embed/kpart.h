@@ -173,6 +173,36 @@ uint32_t kp_raise(kp_handle *node, uint64_t *offset);
 /* Notes the high watermark as the checkpoint, and tells it. 28. Proved: `NodeCalled`, `Checkpoints` (`Node::checkpoint`). */
 uint32_t kp_checkpoint(kp_handle *node, uint64_t *offset);
 
+enum { KP_IS_DOWN = 0, KP_IS_IDLE = 1, KP_LEADS = 2, KP_FOLLOWS = 3 };
+
+typedef struct {
+    uint64_t life;       /* how often it was restarted */
+    uint64_t end;        /* its log end offset; a log begins at 0 */
+    uint64_t watermark;  /* its high watermark; of one that is down, that at which it went down */
+    uint64_t stable;     /* the last stable offset at that watermark */
+    uint64_t checkpoint; /* the high watermark from which a restart begins */
+    uint64_t start;      /* where it leads: its log's end when it began to; else 0 */
+    uint32_t kept_epoch; /* the leader epoch that it last took up, in this life or an earlier one; 0 where it has taken up none */
+    uint32_t epoch;      /* the leader epoch in which it leads or follows; else 0 */
+    bool adopted;        /* whether it has ever taken up a leader epoch */
+    uint8_t status;      /* KP_IS_DOWN, KP_IS_IDLE (it has taken up no record since it started), KP_LEADS or KP_FOLLOWS */
+    uint8_t leader;      /* where it follows: the leader; else 0 */
+} kp_node_state;
+
+/* The node's state, as it knows itself, of one moment; also of a node that is down. Memory: none.
+ * Proved: `NodeCalled`, `Shows` (`Node::show`). */
+uint32_t kp_show(kp_handle *node, kp_node_state *found);
+
+typedef struct {
+    uint64_t end;   /* where the epoch ends in the leader's log */
+    uint32_t epoch;
+    bool found;     /* else both are 0 */
+} kp_epoch_end;
+
+/* The largest leader epoch at most this one of which the leader's log has a batch, and where that ends (OffsetForLeaderEpoch). 15, 28.
+ * Memory: none. Proved: `NodeCalled`, `EndsFor` (`Node::end_for`). */
+uint32_t kp_end_for(kp_handle *node, uint32_t epoch, kp_epoch_end *found);
+
 /* Stops the node, which keeps its log. 28. Proved: `NodeCalled`, `Stops` (`Node::stop`). */
 uint32_t kp_stop(kp_handle *node);
 
@@ -237,9 +267,27 @@ uint32_t kp_read(kp_handle *node, kp_handle *pass, uint64_t from, kp_handle *bat
  * stable offset that no aborted transaction has. 16, 28, 33. Proved: `CommittedCalled`, `ReadsCommitted` (`Node::committed`). */
 uint32_t kp_read_committed(kp_handle *node, kp_handle *pass, uint64_t from, kp_handle *records);
 
+typedef struct {
+    uint64_t offset;
+    uint64_t timestamp; /* milliseconds since 1970 */
+    bool found;         /* else both are 0 */
+} kp_time_offset;
+
+/* Offset and timestamp of the first record whose timestamp is at least this one, if a consumer is shown that record: it lies below the high
+ * watermark or, read committed, below the last stable offset (ListOffsets). A marker counts as a record. 28. Memory: none.
+ * Proved: `PairCalled`, `TellsOffset` (`Node::offset_for_time`). */
+uint32_t kp_offset_for_time(kp_handle *node, kp_handle *pass, uint64_t time, bool read_committed, kp_time_offset *found);
+
+/* What a consumer's fetch gets, all of one moment, into a closed handle: batches as kp_read gives them, but as many as fit into so many
+ * bytes (one at least where there is one); read committed those below the last stable offset, and the aborted transactions that a Kafka
+ * client filters them by. A client that drops control batches and, of the transactional ones, those whose producer has an entry that
+ * begins at or below the batch, until that producer's abort marker, is left with just the batches that are visible. 16, 28, 33.
+ * Proved: `FetchCalled`, `Fetches` (`Node::fetch`). */
+uint32_t kp_fetch(kp_handle *node, kp_handle *pass, uint64_t from, uint32_t most_bytes, bool read_committed, kp_handle *fetched);
+
 /* ---- what was read: no node's lock is needed, and the log may go on meanwhile */
 
-/* How many batches, records or segments stand in a handle. Proved: `HasCount`. */
+/* How many batches, records or segments stand in a handle; of what was fetched, the batches. Proved: `HasCount`. */
 uint32_t kp_count(kp_handle *handle, size_t *found);
 
 /* How many bytes one of the batches has, from 0 on. KP_OUT_OF_RANGE. Proved: `HasSize`. */
@@ -248,6 +296,25 @@ uint32_t kp_batch_size(kp_handle *batches, size_t index, uint32_t *size);
 /* Copies the bytes of one of the batches, once. KP_OUT_OF_RANGE; KP_BAD_LENGTH where `length` is less than they are, and then
  * nothing is written. Memory: none. Proved: `WritesBatch`: the batch's one spelling, and no byte after it. */
 uint32_t kp_batch(kp_handle *batches, size_t index, uint8_t *to, size_t length);
+
+typedef struct {
+    uint64_t watermark; /* the node's high watermark */
+    uint64_t stable;    /* the last stable offset at that watermark */
+    uint64_t end;       /* the node's log end offset; a log begins at 0 */
+    size_t aborted;     /* how many aborted transactions there are */
+} kp_fetched_out;
+
+/* What a fetch gave, but for its batches, which kp_count, kp_batch_size and kp_batch tell, and the aborted transactions.
+ * Proved: `HasFetched`. */
+uint32_t kp_fetched(kp_handle *fetched, kp_fetched_out *found);
+
+typedef struct {
+    uint64_t producer_id;
+    uint64_t first; /* the offset of its first record */
+} kp_aborted_out;
+
+/* One of the aborted transactions, from 0 on, by rising first offset. KP_OUT_OF_RANGE. Proved: `HasAborted`. */
+uint32_t kp_aborted(kp_handle *fetched, size_t index, kp_aborted_out *found);
 
 typedef struct {
     uint64_t offset;

@@ -323,6 +323,116 @@ static void reads_are_in_order(void) {
     closes(&w);
 }
 
+/* The transaction stands at 0 and 1, and is aborted at 3; a batch of no producer stands at 2, and behind it one that isn't committed. */
+static void fetches_are_in_order(void) {
+    test = "fetches";
+    world w;
+    kp_receipt receipt;
+    kp_marker aborts_12 = ends_12;
+    aborts_12.commits = false;
+    kp_handle fetched = {0};
+    kp_fetched_out found = {0};
+    kp_aborted_out aborted = {0};
+    size_t count = 0;
+    uint32_t size = 0;
+    uint8_t bytes[512];
+    opens(&w, &roomy);
+    elects(&w);
+    WANT(produces(&w, &transaction, &receipt), KP_DONE);
+    WANT(produces(&w, &one_record, &receipt), KP_DONE);
+    WANT(kp_mark(&w.nodes[LEADER], &w.pass, &aborts_12, &receipt), KP_DONE);
+    commits(&w, 4);
+    WANT(produces(&w, &one_record, &receipt), KP_DONE);
+    WANT(kp_fetch(&w.nodes[LEADER], &w.pass, 1, 1048576, true, &fetched), KP_DONE);
+    WANT(kp_fetched(&fetched, &found), KP_DONE);
+    WANT(found.watermark, 4);
+    WANT(found.stable, 4);
+    WANT(found.end, 5);
+    WANT(found.aborted, 1);
+    WANT(kp_aborted(&fetched, 0, &aborted), KP_DONE);
+    WANT(aborted.producer_id, 12);
+    WANT(aborted.first, 0);
+    WANT(kp_aborted(&fetched, 1, &aborted), KP_OUT_OF_RANGE);
+    WANT(kp_count(&fetched, &count), KP_DONE);
+    WANT(count, 3);
+    WANT(kp_batch_size(&fetched, 0, &size), KP_DONE);
+    WANT(size, transaction.size);
+    WANT(kp_batch(&fetched, 1, bytes, sizeof bytes), KP_DONE);
+    WANT(bytes[7], 2);
+    WANT(memcmp(bytes + 16, one_record.bytes + 16, one_record.size - 16), 0);
+    WANT(kp_close(&fetched), KP_DONE);
+    WANT(kp_fetch(&w.nodes[LEADER], &w.pass, 0, one_record.size, false, &fetched), KP_DONE);
+    WANT(kp_fetched(&fetched, &found), KP_DONE);
+    WANT(found.aborted, 0);
+    WANT(kp_count(&fetched, &count), KP_DONE);
+    WANT(count, 1);
+    WANT(kp_close(&fetched), KP_DONE);
+    closes(&w);
+}
+
+/* A transaction is open at 1 and 2; the next batch, in a leader epoch of its own, isn't committed. */
+static void states_are_in_order(void) {
+    test = "states";
+    world w;
+    kp_receipt receipt;
+    kp_leadership_out leadership;
+    kp_role role;
+    kp_node_state state = {0};
+    kp_epoch_end end = {0};
+    kp_time_offset time = {0};
+    uint64_t offset = 0;
+    opens(&w, &roomy);
+    WANT(kp_show(&w.nodes[0], &state), KP_DONE);
+    WANT(state.status, KP_IS_IDLE);
+    WANT(state.adopted, false);
+    WANT(kp_elect(&w.pass, LEADER, &leadership), KP_DONE);
+    elects(&w); /* in epoch 1 */
+    WANT(produces(&w, &one_record, &receipt), KP_DONE);
+    WANT(produces(&w, &transaction, &receipt), KP_DONE);
+    commits(&w, 3);
+    WANT(kp_checkpoint(&w.nodes[LEADER], &offset), KP_DONE);
+    WANT(kp_elect(&w.pass, LEADER, &leadership), KP_DONE);
+    WANT(kp_adopt(&w.nodes[LEADER], &role), KP_DONE);
+    WANT(produces(&w, &one_record, &receipt), KP_DONE);
+    WANT(kp_show(&w.nodes[LEADER], &state), KP_DONE);
+    WANT(state.life, 0);
+    WANT(state.end, 4);
+    WANT(state.watermark, 3);
+    WANT(state.stable, 1);
+    WANT(state.checkpoint, 3);
+    WANT(state.start, 3);
+    WANT(state.kept_epoch, 2);
+    WANT(state.epoch, 2);
+    WANT(state.adopted, true);
+    WANT(state.status, KP_LEADS);
+    WANT(state.leader, 0);
+    WANT(kp_show(&w.nodes[0], &state), KP_DONE);
+    WANT(state.status, KP_FOLLOWS);
+    WANT(state.leader, LEADER);
+    WANT(state.epoch, 1);
+    WANT(state.start, 0);
+    WANT(kp_end_for(&w.nodes[LEADER], 1, &end), KP_DONE);
+    WANT(end.found, true);
+    WANT(end.epoch, 1);
+    WANT(end.end, 3);
+    WANT(kp_end_for(&w.nodes[LEADER], 0, &end), KP_DONE);
+    WANT(end.found, false);
+    WANT(kp_end_for(&w.nodes[0], 1, &end), 15);
+    WANT(kp_offset_for_time(&w.nodes[LEADER], &w.pass, 0, true, &time), KP_DONE);
+    WANT(time.found, true);
+    WANT(time.offset, 0);
+    WANT(time.timestamp, 1700000000000);
+    WANT(kp_offset_for_time(&w.nodes[LEADER], &w.pass, UINT64_MAX, false, &time), KP_DONE);
+    WANT(time.found, false);
+    WANT(kp_stop(&w.nodes[LEADER]), KP_DONE);
+    WANT(kp_show(&w.nodes[LEADER], &state), KP_DONE);
+    WANT(state.status, KP_IS_DOWN);
+    WANT(state.stable, 1);
+    WANT(kp_end_for(&w.nodes[LEADER], 1, &end), 28);
+    WANT(kp_offset_for_time(&w.nodes[LEADER], &w.pass, 0, true, &time), 28);
+    closes(&w);
+}
+
 static void restarts_are_in_order(void) {
     test = "restarts";
     world w;
@@ -407,6 +517,24 @@ static void wants_pair_misuses(world *w, kp_handle *node) {
     WANT(kp_read_committed(&w->cluster, &w->pass, 0, &closed), KP_OTHER_KIND);
     WANT(kp_read_committed(node, &w->cluster, 0, &closed), KP_OTHER_KIND);
     WANT(kp_read_committed(node, &w->pass, 0, &w->cluster), KP_IN_USE);
+    WANT(kp_fetch(node, &closed, 0, 1, true, &other), KP_CLOSED);
+    WANT(kp_fetch(node, &w->cluster, 0, 1, true, &closed), KP_OTHER_KIND);
+    WANT(kp_fetch(node, &w->pass, 0, 1, true, &w->cluster), KP_IN_USE);
+    kp_fetched_out found;
+    kp_aborted_out aborted;
+    WANT(kp_fetched(&closed, &found), KP_CLOSED);
+    WANT(kp_fetched(node, &found), KP_OTHER_KIND);
+    WANT(kp_aborted(&closed, 0, &aborted), KP_CLOSED);
+    WANT(kp_aborted(node, 0, &aborted), KP_OTHER_KIND);
+    kp_node_state state;
+    kp_epoch_end end;
+    kp_time_offset time;
+    WANT(kp_show(&closed, &state), KP_CLOSED);
+    WANT(kp_show(&w->pass, &state), KP_OTHER_KIND);
+    WANT(kp_end_for(&closed, 0, &end), KP_CLOSED);
+    WANT(kp_end_for(&w->pass, 0, &end), KP_OTHER_KIND);
+    WANT(kp_offset_for_time(node, &closed, 0, true, &time), KP_CLOSED);
+    WANT(kp_offset_for_time(node, &w->cluster, 0, true, &time), KP_OTHER_KIND);
 }
 
 static void wants_receipts_misuses(world *w, kp_handle *node) {
@@ -443,6 +571,7 @@ static void wants_no_room(world *w, kp_handle *node, kp_handle *handed) {
     WANT(kp_open_pass(&w->cluster, &closed), KP_NO_ROOM);
     WANT(kp_read(node, &w->pass, 0, &closed), KP_NO_ROOM);
     WANT(kp_read_committed(node, &w->pass, 0, &closed), KP_NO_ROOM);
+    WANT(kp_fetch(node, &w->pass, 0, 1, true, &closed), KP_NO_ROOM);
     WANT(kp_segments(node, &closed), KP_NO_ROOM);
     WANT(kp_ask(node, &closed), KP_NO_ROOM);
     WANT(kp_hand(&closed, one_record.bytes, most), KP_NO_ROOM);
@@ -460,8 +589,10 @@ static void wants_read_refusals(world *w) {
     kp_handle closed = {0};
     WANT(kp_read(&w->nodes[LEADER], &w->pass, 2, &closed), 16);
     WANT(kp_read_committed(&w->nodes[LEADER], &w->pass, 2, &closed), 16);
+    WANT(kp_fetch(&w->nodes[LEADER], &w->pass, 2, 1, true, &closed), 16);
     WANT(kp_read(&w->nodes[0], &w->pass, 0, &closed), 28);
     WANT(kp_read_committed(&w->nodes[0], &w->pass, 0, &closed), 28);
+    WANT(kp_fetch(&w->nodes[0], &w->pass, 0, 1, true, &closed), 28);
     WANT(kp_close(&closed), KP_CLOSED);
 }
 
@@ -579,6 +710,8 @@ int main(int count, char **words) {
     receipts_are_in_order();
     receipts_go_from_pass_to_pass();
     reads_are_in_order();
+    fetches_are_in_order();
+    states_are_in_order();
     restarts_are_in_order();
     proposals_are_what_was_asked_for();
     misuses_have_their_numbers();

@@ -4,11 +4,13 @@ ghost use Rattle.kp_handles.specs.Numbers.{answer_number, done_number};
 ghost use Rattle.kp_handles.specs.Outs.{WritesOut};
 
 use kp_handles::{
-    Called, LeadershipOut, Misuse, RestartOut, RoleOut, ack_out, misuse_number, refusal_number,
+    Called, EpochOut, LeadershipOut, Misuse, RestartOut, RoleOut, StateOut, TimeOut, ack_out,
+    misuse_number, refusal_number,
 };
-use kp_model::LeaderAndIsr;
-use kp_node::Ack;
+use kp_model::{EpochEnd, LeaderAndIsr};
+use kp_node::{Ack, NodeState};
 use kp_replica::{Answer, Role};
+use kp_segment::OffsetAndTimestamp;
 use kp_types::Offset;
 
 /// What stands behind a caller's parameter, which an answer of this type is written to.
@@ -46,6 +48,36 @@ impl Out<LeaderAndIsr> for LeadershipOut {
 
     fn write(&mut self, found: LeaderAndIsr) {
         *self = LeadershipOut::of(&found);
+    }
+}
+
+impl Out<NodeState> for StateOut {
+    ghost use Rattle.kp_handles.specs.Telling.{state_out};
+
+    ghost out = { state_out };
+
+    fn write(&mut self, found: NodeState) {
+        *self = StateOut::of(found);
+    }
+}
+
+impl Out<Option<EpochEnd>> for EpochOut {
+    ghost use Rattle.kp_handles.specs.Telling.{epoch_out};
+
+    ghost out = { epoch_out };
+
+    fn write(&mut self, found: Option<EpochEnd>) {
+        *self = EpochOut::of(found);
+    }
+}
+
+impl Out<Option<OffsetAndTimestamp>> for TimeOut {
+    ghost use Rattle.kp_handles.specs.Telling.{time_out};
+
+    ghost out = { time_out };
+
+    fn write(&mut self, found: Option<OffsetAndTimestamp>) {
+        *self = TimeOut::of(found);
     }
 }
 

@@ -1,14 +1,16 @@
 //! What comes of what a handle holds.
 ghost use Rattle.std.specs.Prelude.{◌≡◌, ℕ, length, Result, IfErr, IfOk, OnErr, OnOk};
-ghost use Rattle.kp_handles.specs.Holding.{BadBatch, BadCount, BadLetter, BadValue, HasAddressee, HasCount, HasRecord, HasSize, NoBatch, NoRecord, WritesBatch, WritesValue};
+ghost use Rattle.kp_handles.specs.Holding.{BadBatch, BadCount, BadFetched, BadLetter, BadValue, HasAborted, HasAddressee, HasCount, HasFetched, HasRecord, HasSize, NoAborted, NoBatch, NoRecord, WritesBatch, WritesValue};
 ghost use Rattle.kp_handles.specs.Numbers.{done_number};
 ghost use Rattle.kp_handles.specs.declared.misuse.Misuse.{Misuse};
+ghost use Rattle.kp_handles.specs.declared.outs.AbortedOut.{AbortedOut};
+ghost use Rattle.kp_handles.specs.declared.outs.FetchedOut.{FetchedOut};
 ghost use Rattle.kp_handles.specs.declared.outs.ValueOut.{ValueOut};
 
 use crate::answers::done;
 use kp_handles::{
-    Handle, ValueOut, addressee, batch_size, count, misuse_number, record_at, write_batch,
-    write_value,
+    AbortedOut, FetchedOut, Handle, ValueOut, aborted_at, addressee, batch_size, count, fetched_at,
+    misuse_number, record_at, write_batch, write_value,
 };
 use std::alloc::Global;
 use std::marker::Brand;
@@ -92,6 +94,45 @@ pub extern "C" fn kp_value(alloc: Global, records: &mut Handle, index: usize, to
     ensures same { records.new.object ≡ records.old.object }
 {
     done(write_value::<Brand>(alloc, records, index, to))
+}
+
+/// What a fetch gave, but for its batches and the aborted transactions.
+#[unsafe(no_mangle)]
+pub extern "C" fn kp_fetched(alloc: Global, fetched: &mut Handle, found: &mut FetchedOut) -> u32
+    ensures called { (answer : Result FetchedOut Misuse) × (result ≡ done_number answer)
+        × IfOk answer (λ seen. (found.new ≡ seen) × HasFetched fetched.old.object seen)
+        × IfErr answer (BadFetched fetched.old.object) × OnErr answer (found.new ≡ found.old) }
+    ensures same { fetched.new.object ≡ fetched.old.object }
+{
+    match fetched_at::<Brand>(alloc, fetched) {
+        Ok(seen) => {
+            *found = seen;
+            0
+        }
+        Err(misuse) => misuse_number(&misuse),
+    }
+}
+
+/// One of the aborted transactions that go with what was fetched.
+#[unsafe(no_mangle)]
+pub extern "C" fn kp_aborted(
+    alloc: Global,
+    fetched: &mut Handle,
+    index: usize,
+    found: &mut AbortedOut,
+) -> u32
+    ensures called { (answer : Result AbortedOut Misuse) × (result ≡ done_number answer)
+        × IfOk answer (λ seen. (found.new ≡ seen) × HasAborted fetched.old.object index seen)
+        × IfErr answer (NoAborted index fetched.old.object) × OnErr answer (found.new ≡ found.old) }
+    ensures same { fetched.new.object ≡ fetched.old.object }
+{
+    match aborted_at::<Brand>(alloc, fetched, index) {
+        Ok(seen) => {
+            *found = seen;
+            0
+        }
+        Err(misuse) => misuse_number(&misuse),
+    }
 }
 
 /// The node that a message goes to, or 255 for the controller.

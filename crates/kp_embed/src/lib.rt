@@ -12,4 +12,5 @@ mod nodes;
 mod producing;
 mod reading;
 mod segments;
+mod telling;
 mod texts;

@@ -3,11 +3,11 @@ ghost use Rattle.std.specs.Prelude.{◌≡◌, Result};
 ghost use Rattle.kp_types.specs.declared.refusal.Refusal.{Refusal};
 ghost use Rattle.kp_handles.specs.Called.{AreOfOne};
 ghost use Rattle.kp_handles.specs.Numbers.{answer_number};
-ghost use Rattle.kp_handles.specs.Reading.{CommittedCalled, ReadCalled};
+ghost use Rattle.kp_handles.specs.Reading.{CommittedCalled, FetchCalled, ReadCalled};
 ghost use Rattle.kp_handles.specs.declared.misuse.Misuse.{Misuse};
 
 use crate::answers::number;
-use kp_handles::{Handle, read, read_committed};
+use kp_handles::{Handle, fetch, read, read_committed};
 use std::alloc::Global;
 use std::marker::Brand;
 
@@ -45,4 +45,32 @@ pub extern "C" fn kp_read_committed(
     ensures cluster { (node.new.table ≡ node.old.table) × (pass.new.table ≡ pass.old.table) }
 {
     number(read_committed::<Brand>(alloc, node, pass, from, records))
+}
+
+/// Fetches for a consumer into a closed handle.
+#[tactic(auto, using(crate::proofs::OneCluster::first_is, crate::proofs::OneCluster::second_is))]
+#[unsafe(no_mangle)]
+pub extern "C" fn kp_fetch(
+    alloc: Global,
+    node: &mut Handle,
+    pass: &mut Handle,
+    from: u64,
+    most_bytes: u32,
+    read_committed: bool,
+    fetched: &mut Handle,
+) -> u32
+    requires { AreOfOne node.old.object node.old.table pass.old.object pass.old.table }
+    ensures called { (answer : Result (Result (Unit {0}) Refusal) Misuse) × (result ≡ answer_number answer)
+        × FetchCalled from most_bytes read_committed node.old.object node.new.object pass.old.object pass.new.object fetched.old.object fetched.new.object answer }
+    ensures cluster { (node.new.table ≡ node.old.table) × (pass.new.table ≡ pass.old.table) }
+{
+    number(fetch::<Brand>(
+        alloc,
+        node,
+        pass,
+        from,
+        most_bytes,
+        read_committed,
+        fetched,
+    ))
 }

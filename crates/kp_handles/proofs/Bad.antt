@@ -15,7 +15,7 @@ use Rattle.kp_replica.specs.declared.producing.Receipt.{Receipt}
 use Rattle.kp_handles.specs.CallerCalls.{BadCallers, ReceiptsTold}
 use Rattle.kp_handles.specs.Called.{BadCaller, BadNode, BadPair, BadRoom, PairCalled}
 use Rattle.kp_handles.specs.Handing.{BadHand, BadHanded, BadShare, HandedCalled, IsFree}
-use Rattle.kp_handles.specs.Holding.{BadCount, BadLetter, BadPart, BadPartOf}
+use Rattle.kp_handles.specs.Holding.{BadCount, BadFetched, BadLetter, BadPart, BadPartOf, segments_in}
 use Rattle.kp_handles.specs.Messages.{BadDecide, BadStep}
 use Rattle.kp_handles.specs.Objects.{ObjectView, caller, cluster, handed, is_open, message, node, segments}
 use Rattle.kp_handles.specs.Opening.{BadCallerOpening, BadNodeOpening}
@@ -211,17 +211,20 @@ closed_count old why e none = subst (BadCount old) (sym e) none
 pub closed_letter : (old : Option ObjectView) (why : Misuse) → why ≡ Closed → old ≡ None → BadLetter old why
 closed_letter old why e none = subst (BadLetter old) (sym e) none
 
-module _ {X : Type 0} (hold : List X → ObjectView) (size : X → ℕ) (index places : ℕ) where
-  pub bad_part : (o : ObjectView) (old : Option ObjectView) (why : Misuse) → old ≡ Some o → BadPartOf hold size index places o why → BadPart hold size index places old why
-  bad_part o old OtherKind e bad = (ap is_open e, λ xs f. bad xs (same_object o (hold xs) old e f))
-  bad_part o old OutOfRange e (xs, f, none) = (xs, e ∙ ap (λ (v : ObjectView). Some v) f, none)
-  bad_part o old BadLength e (xs, x, f, is, long) = (xs, x, e ∙ ap (λ (v : ObjectView). Some v) f, is, long)
+pub closed_fetched : (old : Option ObjectView) (why : Misuse) → why ≡ Closed → old ≡ None → BadFetched old why
+closed_fetched old why e none = subst (BadFetched old) (sym e) none
+
+module _ {X : Type 0} (inside : ObjectView → Option (List X)) (size : X → ℕ) (index places : ℕ) where
+  pub bad_part : (o : ObjectView) (old : Option ObjectView) (why : Misuse) → old ≡ Some o → BadPartOf inside size index places o why → BadPart inside size index places old why
+  bad_part o old OtherKind e bad = (o, e, bad)
+  bad_part o old OutOfRange e bad = (o, e, bad)
+  bad_part o old BadLength e bad = (o, e, bad)
   bad_part o old NoRoom e bad = absurd bad
   bad_part o old Closed e bad = absurd bad
   bad_part o old InUse e bad = absurd bad
 
-  pub closed_part : (old : Option ObjectView) (why : Misuse) → why ≡ Closed → old ≡ None → BadPart hold size index places old why
-  closed_part old why e none = subst (BadPart hold size index places old) (sym e) none
+  pub closed_part : (old : Option ObjectView) (why : Misuse) → why ≡ Closed → old ≡ None → BadPart inside size index places old why
+  closed_part old why e none = subst (BadPart inside size index places old) (sym e) none
 
 module _ (index places : ℕ) (out : Option ObjectView) where
   pub segment_closed : (old : Option ObjectView) (why : Misuse) → why ≡ Closed → old ≡ None → BadSegment index places old out why
@@ -229,8 +232,8 @@ module _ (index places : ℕ) (out : Option ObjectView) where
 
   pub segment_name_bad : (ss : List (SegmentName × List Written)) (s : SegmentName × List Written) (o : ObjectView) (why : Misuse)
       → o ≡ segments ss → slice_get ss index ≡ Some s → BadName s places why → BadSegment index places (Some o) None why
-  segment_name_bad ss s o BadLength e at bad = (ss, s, ap (λ (v : ObjectView). Some v) e, at, bad)
-  segment_name_bad ss s o NoRoom e at bad = ((ss, s, ap (λ (v : ObjectView). Some v) e, at, bad), refl)
+  segment_name_bad ss s o BadLength e at bad = (o, refl, (ss, s, ap segments_in e, at, bad))
+  segment_name_bad ss s o NoRoom e at bad = ((o, ss, s, refl, ap segments_in e, at, bad), refl)
   segment_name_bad ss s o Closed e at bad = absurd bad
   segment_name_bad ss s o OtherKind e at bad = absurd bad
   segment_name_bad ss s o InUse e at bad = absurd bad

@@ -4,18 +4,42 @@ use Rattle.kp_batch.specs.Batch.{Written, size_of, spelling}
 use Rattle.kp_crc.specs.Crc.{crc}
 use Rattle.kp_model.specs.Event.{Line}
 use Rattle.kp_model.specs.Letter.{goes_to, letter}
+use Rattle.kp_model.specs.Transactions.{Aborted}
 use Rattle.kp_model.specs.World.{Message as ModelMessage}
 use Rattle.kp_model.specs.declared.message.MessageBody.{MessageBody}
-use Rattle.kp_handles.specs.Objects.{ObjectView, message, batches, is_open, records, segments}
+use Rattle.kp_node.specs.Fetched.{FetchedView}
+use Rattle.kp_segment.specs.declared.name.SegmentName.{SegmentName}
+use Rattle.kp_handles.specs.Objects.{ObjectView, message, batches, fetched, is_open, records, segments}
 use Rattle.kp_handles.specs.declared.misuse.Misuse.{Misuse}
 use Rattle.kp_handles.specs.declared.misuse.Misuse.TheVariants.{Closed, OtherKind, OutOfRange, BadLength}
+use Rattle.kp_handles.specs.declared.outs.AbortedOut.{AbortedOut}
+use Rattle.kp_handles.specs.declared.outs.FetchedOut.{FetchedOut}
 use Rattle.kp_handles.specs.declared.outs.ValueOut.{ValueOut}
 
 -- ---- a list of something
 
--- how many of them there are, where it holds such
+-- the batches that it holds, the records, the segments, and the aborted transactions, where it holds such
+abbrev pub batches_in : ObjectView → Option (List Written)
+batches_in (batches ws) = Some ws
+batches_in (fetched f) = Some f.batches
+batches_in _ = None
+
+abbrev pub lines_in : ObjectView → Option (List Line)
+lines_in (records ls) = Some ls
+lines_in _ = None
+
+abbrev pub segments_in : ObjectView → Option (List (SegmentName × List Written))
+segments_in (segments ss) = Some ss
+segments_in _ = None
+
+abbrev pub aborted_in : ObjectView → Option (List Aborted)
+aborted_in (fetched f) = Some f.aborted
+aborted_in _ = None
+
+-- how many batches, records or segments there are, where it holds such
 abbrev pub count_in : ObjectView → Option ℕ
 count_in (batches ws) = Some (length ws)
+count_in (fetched f) = Some (length f.batches)
 count_in (records ls) = Some (length ls)
 count_in (segments ss) = Some (length ss)
 count_in _ = None
@@ -29,23 +53,21 @@ BadCount object Closed = object ≡ None
 BadCount object OtherKind = (o : ObjectView) × (object ≡ Some o) × (count_in o ≡ None)
 BadCount object _ = ⊥
 
--- the one of this index is such
-abbrev pub HasPart : {X : Type 0} → (List X → ObjectView) → ℕ → Option ObjectView → (X → Type 0) → Type 0
-HasPart {X} hold index object P = (xs : List X) × (x : X) × (object ≡ Some (hold xs)) × (slice_get xs index ≡ Some x) × P x
+-- the one of this index, of what it holds, is such
+abbrev pub HasPart : {X : Type 0} → (ObjectView → Option (List X)) → ℕ → Option ObjectView → (X → Type 0) → Type 0
+HasPart {X} inside index object P =
+    (o : ObjectView) × (xs : List X) × (x : X) × (object ≡ Some o) × (inside o ≡ Some xs) × (slice_get xs index ≡ Some x) × P x
 
 -- Why a call for the one of this index wasn't made; it has so many bytes, which may be too many for the places that there are.
-abbrev pub BadPartOf : {X : Type 0} → (List X → ObjectView) → (X → ℕ) → (index places : ℕ) → ObjectView → Misuse → Type 0
-BadPartOf {X} hold size index places object OtherKind = (xs : List X) → object ≡ hold xs → ⊥
-BadPartOf {X} hold size index places object OutOfRange = (xs : List X) × (object ≡ hold xs) × (slice_get xs index ≡ None)
-BadPartOf {X} hold size index places object BadLength = (xs : List X) × (x : X) × (object ≡ hold xs) × (slice_get xs index ≡ Some x) × (places < size x)
-BadPartOf hold size index places object _ = ⊥
+abbrev pub BadPartOf : {X : Type 0} → (ObjectView → Option (List X)) → (X → ℕ) → (index places : ℕ) → ObjectView → Misuse → Type 0
+BadPartOf inside size index places o OtherKind = inside o ≡ None
+BadPartOf {X} inside size index places o OutOfRange = (xs : List X) × (inside o ≡ Some xs) × (slice_get xs index ≡ None)
+BadPartOf {X} inside size index places o BadLength = (xs : List X) × (x : X) × (inside o ≡ Some xs) × (slice_get xs index ≡ Some x) × (places < size x)
+BadPartOf inside size index places o _ = ⊥
 
-abbrev pub BadPart : {X : Type 0} → (List X → ObjectView) → (X → ℕ) → (index places : ℕ) → Option ObjectView → Misuse → Type 0
-BadPart hold size index places object Closed = object ≡ None
-BadPart {X} hold size index places object OtherKind = (is_open object ≡ true) × ((xs : List X) → object ≡ Some (hold xs) → ⊥)
-BadPart {X} hold size index places object OutOfRange = (xs : List X) × (object ≡ Some (hold xs)) × (slice_get xs index ≡ None)
-BadPart {X} hold size index places object BadLength = (xs : List X) × (x : X) × (object ≡ Some (hold xs)) × (slice_get xs index ≡ Some x) × (places < size x)
-BadPart hold size index places object _ = ⊥
+abbrev pub BadPart : {X : Type 0} → (ObjectView → Option (List X)) → (X → ℕ) → (index places : ℕ) → Option ObjectView → Misuse → Type 0
+BadPart inside size index places object Closed = object ≡ None
+BadPart inside size index places object why = (o : ObjectView) × (object ≡ Some o) × BadPartOf inside size index places o why
 
 -- The bytes stand where `old` stood, and what comes after them is as it was.
 abbrev pub Writes : List ℕ → (old new : List ℕ) → Type 0
@@ -62,16 +84,16 @@ WritesSpelling w old new = new ≡ spelling crc w ++ drop (size_of w.body) old
 
 -- why one of the batches wasn't found, or not copied to so many places
 abbrev pub NoBatch : ℕ → Option ObjectView → Misuse → Type 0
-NoBatch index object why = BadPart batches (λ w. 0) index 0 object why
+NoBatch index object why = BadPart batches_in (λ w. 0) index 0 object why
 
 abbrev pub BadBatch : (index places : ℕ) → Option ObjectView → Misuse → Type 0
-BadBatch index places object why = BadPart batches batch_size index places object why
+BadBatch index places object why = BadPart batches_in batch_size index places object why
 
 abbrev pub HasSize : Option ObjectView → (index n : ℕ) → Type 0
-HasSize object index n = HasPart batches index object (λ w. n ≡ batch_size w)
+HasSize object index n = HasPart batches_in index object (λ w. n ≡ batch_size w)
 
 abbrev pub WritesBatch : Option ObjectView → ℕ → (old new : List ℕ) → Type 0
-WritesBatch object index old new = HasPart batches index object (λ w. WritesSpelling w old new)
+WritesBatch object index old new = HasPart batches_in index object (λ w. WritesSpelling w old new)
 
 -- ---- records
 
@@ -90,16 +112,41 @@ value_out l = record { offset = l.offset; size = value_size l; null = is_null l.
 
 -- why one of the records wasn't found, or its value not copied to so many places
 abbrev pub NoRecord : ℕ → Option ObjectView → Misuse → Type 0
-NoRecord index object why = BadPart records (λ l. 0) index 0 object why
+NoRecord index object why = BadPart lines_in (λ l. 0) index 0 object why
 
 abbrev pub BadValue : (index places : ℕ) → Option ObjectView → Misuse → Type 0
-BadValue index places object why = BadPart records value_size index places object why
+BadValue index places object why = BadPart lines_in value_size index places object why
 
 abbrev pub HasRecord : Option ObjectView → ℕ → ValueOut → Type 0
-HasRecord object index found = HasPart records index object (λ l. found ≡ value_out l)
+HasRecord object index found = HasPart lines_in index object (λ l. found ≡ value_out l)
 
 abbrev pub WritesValue : Option ObjectView → ℕ → (old new : List ℕ) → Type 0
-WritesValue object index old new = HasPart records index object (λ l. Writes (value_bytes l) old new)
+WritesValue object index old new = HasPart lines_in index object (λ l. Writes (value_bytes l) old new)
+
+-- ---- what a consumer's fetch gave
+
+abbrev pub fetched_out : FetchedView → FetchedOut
+fetched_out f = record { watermark = f.watermark; stable = f.stable; end = f.end; aborted = length f.aborted }
+
+abbrev pub aborted_out : Aborted → AbortedOut
+aborted_out a = record { producer_id = a.producer; first = a.first }
+
+-- where the node's marks stood, and how many aborted transactions there are
+abbrev pub HasFetched : Option ObjectView → FetchedOut → Type 0
+HasFetched object found = (f : FetchedView) × (object ≡ Some (fetched f)) × (found ≡ fetched_out f)
+
+-- why that wasn't told
+abbrev pub BadFetched : Option ObjectView → Misuse → Type 0
+BadFetched object Closed = object ≡ None
+BadFetched object OtherKind = (o : ObjectView) × (object ≡ Some o) × (aborted_in o ≡ None)
+BadFetched object _ = ⊥
+
+-- one of the aborted transactions, and why it wasn't found
+abbrev pub HasAborted : Option ObjectView → ℕ → AbortedOut → Type 0
+HasAborted object index found = HasPart aborted_in index object (λ a. found ≡ aborted_out a)
+
+abbrev pub NoAborted : ℕ → Option ObjectView → Misuse → Type 0
+NoAborted index object why = BadPart aborted_in (λ a. 0) index 0 object why
 
 -- ---- a message
 

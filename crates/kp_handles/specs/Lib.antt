@@ -12,3 +12,4 @@ pub mod PairCalls
 pub mod Reading
 pub mod Rows
 pub mod Segments
+pub mod Telling

@@ -8,14 +8,16 @@ use Rattle.kp_model.specs.declared.message.MessageBody.{MessageBody}
 use Rattle.kp_segment.specs.declared.name.SegmentName.{SegmentName}
 use Rattle.kp_board.specs.Views.{NodeView, CallerView}
 use Rattle.kp_board.specs.declared.passes.BoardName.{Ghosts}
+use Rattle.kp_node.specs.Fetched.{FetchedView}
 use Rattle.kp_node.specs.Seated.{SeatedNode}
 use Rattle.kp_handles.specs.declared.object.Cluster.{Cluster as ClusterOf}
 use Rattle.kp_handles.specs.declared.object.Kind.{Kind}
-use Rattle.kp_handles.specs.declared.object.Kind.TheVariants.{Empty, Cluster, Node, Caller, Message, Batches, Records, Segments, Handed}
+use Rattle.kp_handles.specs.declared.object.Kind.TheVariants.{Empty, Cluster, Node, Caller, Message, Batches, Fetched, Records, Segments, Handed}
 
 -- nothing; a board of so many nodes, with the passes of those that aren't open yet, how many callers' passes were opened, and the sizes of
 -- the nodes' logs; a node with its
--- pass; a caller's pass of a board of so many nodes; a message with its pass; batches, as a node answered them to a read; records, as
+-- pass; a caller's pass of a board of so many nodes; a message with its pass; batches, as a node answered them to a read; what a consumer's
+-- fetch gave; records, as
 -- a read-committed consumer gets them; a log's segments, each by its name with its batches; the bytes that a client hands in
 pub data ObjectView : Type 0 where
   empty : ObjectView
@@ -24,6 +26,7 @@ pub data ObjectView : Type 0 where
   caller : (nodes : ℕ) → CallerView → ObjectView
   message : MessageBody → ModelMessage → ObjectView
   batches : List Written → ObjectView
+  fetched : FetchedView → ObjectView
   records : List Line → ObjectView
   segments : List (SegmentName × List Written) → ObjectView
   handed : List ℕ → ObjectView
@@ -38,6 +41,7 @@ object_view (Node n) = node n
 object_view (Caller c) = caller c.board.value c.pass
 object_view (Message m) = message m.body m.pass
 object_view (Batches b) = batches b.items
+object_view (Fetched f) = fetched f
 object_view (Records r) = records r
 object_view (Segments s) = segments s.items
 object_view (Handed bytes) = handed bytes

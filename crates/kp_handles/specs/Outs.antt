@@ -12,6 +12,8 @@ use Rattle.kp_replica.specs.declared.act.Answer.{Answer}
 use Rattle.kp_replica.specs.declared.act.Answer.TheVariants.{Restarted}
 use Rattle.kp_node.specs.declared.ack.Ack.{Ack}
 use Rattle.kp_node.specs.declared.ack.Ack.TheVariants.{Yes, Lost, NotYet}
+use Rattle.kp_node.specs.declared.fetched.Isolation.{Isolation}
+use Rattle.kp_node.specs.declared.fetched.Isolation.TheVariants.{ReadUncommitted, ReadCommitted}
 use Rattle.kp_replica.specs.declared.altering.IsrChange.{IsrChange}
 use Rattle.kp_replica.specs.declared.altering.IsrChange.TheVariants.{Join, Leave}
 use Rattle.kp_replica.specs.declared.producing.Receipt.{Receipt}
@@ -70,6 +72,10 @@ abbrev pub ack_out : Ack → ℕ
 ack_out NotYet = 0
 ack_out Yes = 1
 ack_out Lost = 2
+
+abbrev pub isolation_in : Bool → Isolation
+isolation_in true = ReadCommitted
+isolation_in false = ReadUncommitted
 
 abbrev pub change_in : Bool → ℕ → IsrChange
 change_in true node = Join node

@@ -9,7 +9,7 @@ use Rattle.kp_segment.specs.Runs.{AreRunsOf}
 use Rattle.kp_segment.specs.declared.name.SegmentName.{SegmentName}
 use Rattle.kp_node.specs.Seated.{SeatedNode}
 use Rattle.kp_handles.specs.Called.{NodeGives}
-use Rattle.kp_handles.specs.Holding.{BadPart, HasPart, Writes}
+use Rattle.kp_handles.specs.Holding.{BadPart, HasPart, Writes, segments_in}
 use Rattle.kp_handles.specs.Objects.{ObjectView, batches, segments, is_open}
 use Rattle.kp_handles.specs.declared.misuse.Misuse.{Misuse}
 use Rattle.kp_handles.specs.declared.misuse.Misuse.TheVariants.{BadLength, InUse, NoRoom}
@@ -30,15 +30,15 @@ name_size s = length (segment_name s.0.base)
 -- why one of the segments wasn't given
 abbrev pub BadSegment : (index places : ℕ) → (object out : Option ObjectView) → Misuse → Type 0
 BadSegment index places object out InUse = is_open out ≡ true
-BadSegment index places object out NoRoom = HasPart segments index object (λ s. name_size s ≤ places) × (out ≡ None)
-BadSegment index places object out why = BadPart segments name_size index places object why
+BadSegment index places object out NoRoom = HasPart segments_in index object (λ s. name_size s ≤ places) × (out ≡ None)
+BadSegment index places object out why = BadPart segments_in name_size index places object why
 
 -- One of the segments: its file's name stands where `from` stood, and its batches in a handle that was closed; or memory was refused
 -- for that segment, or the call wasn't made, and nothing has changed.
 abbrev pub SegmentCalled : Option ObjectView → ℕ → (from to : List ℕ) → (out wrote : Option ObjectView) → Result (Result (Unit {0}) Refusal) Misuse → Type 0
 SegmentCalled object index from to out wrote (Ok (Ok done)) =
-    (out ≡ None) × HasPart segments index object (λ s. Writes (segment_name s.0.base) from to × (wrote ≡ Some (batches s.1)))
-SegmentCalled object index from to out wrote (Ok (Err refusal)) = (to ≡ from) × (wrote ≡ out) × HasPart segments index object (λ s. refusal ≡ Memory)
+    (out ≡ None) × HasPart segments_in index object (λ s. Writes (segment_name s.0.base) from to × (wrote ≡ Some (batches s.1)))
+SegmentCalled object index from to out wrote (Ok (Err refusal)) = (to ≡ from) × (wrote ≡ out) × HasPart segments_in index object (λ s. refusal ≡ Memory)
 SegmentCalled object index from to out wrote (Err why) = (to ≡ from) × (wrote ≡ out) × BadSegment index (length from) object out why
 
 -- the same of a segment, whose name may be too long for the places that there are, and of an object
@@ -53,6 +53,6 @@ GivesSegment s from to (Ok (Err refusal)) = (to ≡ from) × (refusal ≡ Memory
 GivesSegment s from to (Err why) = (to ≡ from) × BadName s (length from) why
 
 abbrev pub SegmentMet : ObjectView → ℕ → (from to : List ℕ) → Result (Result (Box ObjectView) Refusal) Misuse → Type 0
-SegmentMet object index from to (Ok (Ok made)) = HasPart segments index (Some object) (λ s. Writes (segment_name s.0.base) from to × (made.value ≡ batches s.1))
-SegmentMet object index from to (Ok (Err refusal)) = (to ≡ from) × HasPart segments index (Some object) (λ s. refusal ≡ Memory)
+SegmentMet object index from to (Ok (Ok made)) = HasPart segments_in index (Some object) (λ s. Writes (segment_name s.0.base) from to × (made.value ≡ batches s.1))
+SegmentMet object index from to (Ok (Err refusal)) = (to ≡ from) × HasPart segments_in index (Some object) (λ s. refusal ≡ Memory)
 SegmentMet object index from to (Err why) = (to ≡ from) × BadSegment index (length from) (Some object) None why

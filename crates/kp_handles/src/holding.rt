@@ -1,15 +1,15 @@
 //! What comes of what a handle holds.
 
-ghost use Rattle.std.specs.Prelude.{◌≡◌, ◌<◌, Some, length, IfSome, IfOk, IfErr, OnOk, OnErr};
+ghost use Rattle.std.specs.Prelude.{◌≡◌, ◌<◌, None, Some, length, IfSome, IfOk, IfErr, OnOk, OnErr};
 ghost use Rattle.kp_visible.specs.Lines.{line_of};
-ghost use Rattle.kp_handles.specs.Holding.{BadBatch, BadCount, BadLetter, BadPartOf, BadValue, HasAddressee, HasCount, HasRecord, HasSize, NoBatch, NoRecord, Writes, WritesBatch, WritesSpelling, WritesValue, batch_size, value_bytes, value_size};
-ghost use Rattle.kp_handles.specs.Objects.{batches, records};
+ghost use Rattle.kp_handles.specs.Holding.{BadBatch, BadCount, BadFetched, BadLetter, BadPartOf, BadValue, HasAborted, HasAddressee, HasCount, HasFetched, HasRecord, HasSize, NoAborted, NoBatch, NoRecord, Writes, WritesBatch, WritesSpelling, WritesValue, aborted_in, batch_size, batches_in, lines_in, value_bytes, value_size};
+ghost use Rattle.kp_handles.specs.declared.misuse.Misuse.TheVariants.{OtherKind};
 ghost use Rattle.kp_handles.specs.declared.misuse.Misuse.TheVariants.{BadLength};
 
 use crate::handle::{Handle, Unnamed, put, take};
 use crate::misuse::Misuse;
 use crate::object::{Kind, Object};
-use crate::outs::{ValueOut, addressee_out};
+use crate::outs::{AbortedOut, FetchedOut, ValueOut, addressee_out};
 use kp_batch::Batch;
 use kp_board::BoardName;
 use kp_visible::ReadRecord;
@@ -21,6 +21,7 @@ fn count_object<B: BoardName>(object: &Object<B>) -> Result<usize, Misuse>
 {
     match &object.kind {
         Kind::Batches(batches) => Ok(batches.len()),
+        Kind::Fetched(fetched) => Ok(fetched.batches().len()),
         Kind::Records(records) => Ok(records.len()),
         Kind::Segments(segments) => Ok(segments.len()),
         _ => Err(Misuse::OtherKind),
@@ -41,16 +42,25 @@ pub fn count<B: BoardName + Unnamed>(alloc: Global, handle: &mut Handle) -> Resu
     found
 }
 
-fn size_object<B: BoardName>(object: &Object<B>, index: usize) -> Result<u32, Misuse>
-    ensures found { IfOk result (HasSize (Some object.now) index) }
-    ensures only { IfErr result (BadPartOf batches (λ w. 0) index 0 object.now) }
+// The batches that it holds.
+fn batches_of<B: BoardName>(object: &Object<B>) -> Result<&[Batch], Misuse>
+    ensures found { IfOk result (λ batches. batches_in object.now ≡ Some batches.now) }
+    ensures only { IfErr result (λ why. (why ≡ OtherKind) × (batches_in object.now ≡ None)) }
 {
     match &object.kind {
-        Kind::Batches(batches) => match batches.get(index) {
-            Some(batch) => Ok(batch.size()),
-            None => Err(Misuse::OutOfRange),
-        },
+        Kind::Batches(batches) => Ok(batches),
+        Kind::Fetched(fetched) => Ok(fetched.batches()),
         _ => Err(Misuse::OtherKind),
+    }
+}
+
+fn size_object<B: BoardName>(object: &Object<B>, index: usize) -> Result<u32, Misuse>
+    ensures found { IfOk result (HasSize (Some object.now) index) }
+    ensures only { IfErr result (BadPartOf batches_in (λ w. 0) index 0 object.now) }
+{
+    match batches_of(object)?.get(index) {
+        Some(batch) => Ok(batch.size()),
+        None => Err(Misuse::OutOfRange),
     }
 }
 
@@ -87,15 +97,12 @@ fn copy_batch(batch: &Batch, to: &mut [u8]) -> Result<(), Misuse>
 
 fn write_object<B: BoardName>(object: &Object<B>, index: usize, to: &mut [u8]) -> Result<(), Misuse>
     ensures written { OnOk result (WritesBatch (Some object.now) index to.old to.new) }
-    ensures only { IfErr result (BadPartOf batches batch_size index (length to.old) object.now) }
+    ensures only { IfErr result (BadPartOf batches_in batch_size index (length to.old) object.now) }
     ensures same { OnErr result (to.new ≡ to.old) }
 {
-    match &object.kind {
-        Kind::Batches(batches) => match batches.get(index) {
-            Some(batch) => copy_batch(batch, to),
-            None => Err(Misuse::OutOfRange),
-        },
-        _ => Err(Misuse::OtherKind),
+    match batches_of(object)?.get(index) {
+        Some(batch) => copy_batch(batch, to),
+        None => Err(Misuse::OutOfRange),
     }
 }
 
@@ -122,7 +129,7 @@ pub fn write_batch<B: BoardName + Unnamed>(
 
 fn record_object<B: BoardName>(object: &Object<B>, index: usize) -> Result<ValueOut, Misuse>
     ensures found { IfOk result (HasRecord (Some object.now) index) }
-    ensures only { IfErr result (BadPartOf records (λ l. 0) index 0 object.now) }
+    ensures only { IfErr result (BadPartOf lines_in (λ l. 0) index 0 object.now) }
 {
     match &object.kind {
         Kind::Records(records) => {
@@ -180,7 +187,7 @@ fn value_of<'a>(read: ReadRecord<'a>) -> &'a [u8]
 
 fn value_object<B: BoardName>(object: &Object<B>, index: usize, to: &mut [u8]) -> Result<(), Misuse>
     ensures written { OnOk result (WritesValue (Some object.now) index to.old to.new) }
-    ensures only { IfErr result (BadPartOf records value_size index (length to.old) object.now) }
+    ensures only { IfErr result (BadPartOf lines_in value_size index (length to.old) object.now) }
     ensures same { OnErr result (to.new ≡ to.old) }
 {
     match &object.kind {
@@ -213,6 +220,65 @@ pub fn write_value<B: BoardName + Unnamed>(
     let done = value_object(&object, index, to);
     put(handle, object);
     done
+}
+
+fn fetched_object<B: BoardName>(object: &Object<B>) -> Result<FetchedOut, Misuse>
+    ensures found { IfOk result (HasFetched (Some object.now)) }
+    ensures only { IfErr result (BadFetched (Some object.now)) }
+{
+    match &object.kind {
+        Kind::Fetched(fetched) => Ok(FetchedOut::of(fetched)),
+        _ => Err(Misuse::OtherKind),
+    }
+}
+
+/// Where high watermark, last stable offset and the log's end stood when it was fetched, and how many aborted transactions go with the
+/// batches. Closed, OtherKind. O(1).
+#[tactic(auto, using(crate::proofs::Bad::closed_fetched))]
+pub fn fetched_at<B: BoardName + Unnamed>(
+    alloc: Global,
+    handle: &mut Handle,
+) -> Result<FetchedOut, Misuse>
+    requires { IfSome handle.old.object (λ _. handle.old.table ≡ B.table) }
+    ensures found { IfOk result (HasFetched handle.old.object) }
+    ensures only { IfErr result (BadFetched handle.old.object) }
+    ensures same { handle.new.object ≡ handle.old.object }
+{
+    let object = take::<B>(alloc, handle)?;
+    let found = fetched_object(&object);
+    put(handle, object);
+    found
+}
+
+fn aborted_object<B: BoardName>(object: &Object<B>, index: usize) -> Result<AbortedOut, Misuse>
+    ensures found { IfOk result (HasAborted (Some object.now) index) }
+    ensures only { IfErr result (BadPartOf aborted_in (λ a. 0) index 0 object.now) }
+{
+    match &object.kind {
+        Kind::Fetched(fetched) => match fetched.aborted().get(index) {
+            Some(aborted) => Ok(AbortedOut::of(aborted)),
+            None => Err(Misuse::OutOfRange),
+        },
+        _ => Err(Misuse::OtherKind),
+    }
+}
+
+/// The aborted transaction at this index, from 0 on, by rising first offset. Closed, OtherKind, OutOfRange. O(1).
+#[tactic(auto, using(crate::proofs::Bad::bad_part, crate::proofs::Bad::closed_part))]
+pub fn aborted_at<B: BoardName + Unnamed>(
+    alloc: Global,
+    handle: &mut Handle,
+    index: usize,
+) -> Result<AbortedOut, Misuse>
+    requires { IfSome handle.old.object (λ _. handle.old.table ≡ B.table) }
+    ensures found { IfOk result (HasAborted handle.old.object index) }
+    ensures only { IfErr result (NoAborted index handle.old.object) }
+    ensures same { handle.new.object ≡ handle.old.object }
+{
+    let object = take::<B>(alloc, handle)?;
+    let found = aborted_object(&object, index);
+    put(handle, object);
+    found
 }
 
 fn addressee_object<B: BoardName>(object: &Object<B>) -> Result<u8, Misuse>

@@ -19,21 +19,25 @@ mod outs;
 mod producing;
 mod reading;
 mod segments;
+mod telling;
 
 pub use callers::{elect, leadership, tell_receipts, watermark};
 pub use calling::Called;
 pub use clusters::{close, open, open_caller, open_node};
 pub use handing::hand;
 pub use handle::{Handle, Unnamed, is_open};
-pub use holding::{addressee, batch_size, count, record_at, write_batch, write_value};
+pub use holding::{
+    aborted_at, addressee, batch_size, count, fetched_at, record_at, write_batch, write_value,
+};
 pub use messages::{decide, send, step};
 pub use misuse::Misuse;
 pub use nodes::{adopt, checkpoint, raise, restart, stop};
 pub use numbers::{misuse_number, refusal_number, write_name};
 pub use outs::{
-    LeadershipOut, LimitsIn, MarkerIn, ReceiptOut, RestartOut, RoleOut, ValueOut, ack_out,
-    change_in,
+    AbortedOut, FetchedOut, LeadershipOut, LimitsIn, MarkerIn, ReceiptOut, RestartOut, RoleOut,
+    ValueOut, ack_out, change_in,
 };
 pub use producing::{acked, mark_in, produce, produce_handed};
-pub use reading::{read, read_committed};
+pub use reading::{fetch, read, read_committed};
 pub use segments::{segment, segments_of};
+pub use telling::{EpochOut, StateOut, TimeOut, end_for, offset_for_time, show};

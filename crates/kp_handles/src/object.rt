@@ -9,7 +9,7 @@ use crate::segments::SegmentShare;
 use bytes::BytesMut;
 use kp_batch::{Batch, Handed};
 use kp_board::{Board, BoardName, Callers, FreshPass, Message, Pass};
-use kp_node::Node;
+use kp_node::{Fetched, Node};
 use kp_types::Limits;
 use kp_visible::ReadRecords;
 use std::alloc::Global;
@@ -57,6 +57,7 @@ pub enum Kind<B: BoardName> {
     Caller(Caller<B>),
     Message(Message<B>),
     Batches(Vec<Batch>),
+    Fetched(Fetched),
     Records(ReadRecords),
     Segments(Vec<SegmentShare>),
     Handed(InHand),
@@ -120,6 +121,16 @@ impl<B: BoardName> Held<B> for Vec<Batch> {
 
     fn into_kind(self) -> Kind<B> {
         Kind::Batches(self)
+    }
+}
+
+impl<B: BoardName> Held<B> for Fetched {
+    ghost use Rattle.kp_handles.specs.Objects.{fetched};
+
+    ghost held = { fetched };
+
+    fn into_kind(self) -> Kind<B> {
+        Kind::Fetched(self)
     }
 }
 

@@ -1,13 +1,14 @@
 //! What calls read from their caller's memory, and write there.
 ghost use Rattle.std.specs.Prelude.{◌≡◌};
 ghost use Rattle.kp_visible.specs.Lines.{line_of};
-ghost use Rattle.kp_handles.specs.Holding.{addressee_out, value_out};
+ghost use Rattle.kp_handles.specs.Holding.{aborted_out, addressee_out, fetched_out, value_out};
 ghost use Rattle.kp_handles.specs.Outs.{ack_out, change_in, kind_in, limits_in, marker_in, receipt_in, receipt_out, leadership_out, restart_out, role_out};
 
 use kp_marker::{Kind, Marker};
 use kp_model::{LeaderAndIsr, MessageBody};
-use kp_node::Ack;
+use kp_node::{Ack, Fetched};
 use kp_replica::{Answer, IsrChange, Receipt, Role};
+use kp_txns::AbortedTransaction;
 use kp_types::{Limits, NODE_PLACES};
 use kp_visible::ReadRecord;
 
@@ -274,6 +275,56 @@ impl ValueOut {
                 size: 0,
                 null: true,
             },
+        }
+    }
+}
+
+/// What a consumer's fetch gave, but for its batches and the aborted transactions.
+#[repr(C)]
+#[derive(Clone, Copy)]
+pub struct FetchedOut {
+    /// The node's high watermark.
+    pub watermark: u64,
+    /// The last stable offset at that watermark.
+    pub stable: u64,
+    /// The node's log end offset.
+    pub end: u64,
+    /// How many aborted transactions there are.
+    pub aborted: usize,
+}
+
+impl FetchedOut {
+    /// What was fetched, as it is told. O(1).
+    pub fn of(fetched: &Fetched) -> FetchedOut
+        ensures { result ≡ fetched_out fetched.now }
+    {
+        FetchedOut {
+            watermark: fetched.watermark(),
+            stable: fetched.stable_offset(),
+            end: fetched.end_offset(),
+            aborted: fetched.aborted().len(),
+        }
+    }
+}
+
+/// An aborted transaction, as a fetch tells it.
+#[repr(C)]
+#[derive(Clone, Copy)]
+pub struct AbortedOut {
+    /// Whose it was.
+    pub producer_id: u64,
+    /// The offset of its first record.
+    pub first: u64,
+}
+
+impl AbortedOut {
+    /// A transaction as it is told. O(1).
+    pub fn of(aborted: &AbortedTransaction) -> AbortedOut
+        ensures { result ≡ aborted_out aborted.now }
+    {
+        AbortedOut {
+            producer_id: aborted.producer,
+            first: aborted.first,
         }
     }
 }

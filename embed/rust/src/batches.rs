@@ -30,12 +30,24 @@ impl Batches {
     /// Puts the next one's bytes in place of what the buffer holds, and says whether there was one. They are those that were handed
     /// in, with base offset and leader epoch stamped. [`Error::NoRoom`] leaves the batch for the next call. O(n) in its bytes.
     pub fn next_into(&mut self, bytes: &mut Vec<u8>) -> Result<bool, Error> {
+        bytes.clear();
+        self.append_to(bytes)
+    }
+
+    /// Puts the next one's bytes behind what the buffer holds, as an answer to a client wants them, and says whether there was one.
+    /// After an error the buffer is as it was, and the batch is left for the next call. O(n) in its bytes.
+    pub fn append_to(&mut self, bytes: &mut Vec<u8>) -> Result<bool, Error> {
         if self.is_empty() {
             return Ok(false);
         }
+        let held = bytes.len();
         let size = self.raw.size(self.next)?;
-        bytes.resize(size, 0);
-        self.raw.copy(self.next, bytes)?;
+        bytes.resize(held + size, 0);
+        let copied = self.raw.copy(self.next, &mut bytes[held..]);
+        if copied.is_err() {
+            bytes.truncate(held);
+        }
+        copied?;
         self.next += 1;
         Ok(true)
     }

@@ -1,11 +1,15 @@
 //! A cluster: its nodes, each behind its lock, and the passes of its callers.
 
 use crate::error::Error;
-use crate::ffi::{Limits, RawCluster, RawNode, RawPass};
+use crate::ffi::{Limits, RawCluster, RawMessage, RawNode, RawPass, RestartOut, RoleOut};
 use crate::message::Message;
 use crate::node::Node;
-use crate::values::Leadership;
-use std::sync::{Arc, Mutex, MutexGuard, PoisonError};
+use crate::values::{Ack, Leadership, Receipt, Role};
+use std::mem::replace;
+use std::ops::{Deref, DerefMut};
+use std::sync::atomic::{AtomicU64, AtomicUsize, Ordering};
+use std::sync::{Arc, Condvar, Mutex, MutexGuard, PoisonError};
+use std::time::{Duration, Instant};
 
 impl Default for Limits {
     /// Kafka's own: segments of 1 GiB, an index entry each 4 KiB, batches of up to 1 MiB.
@@ -19,10 +23,199 @@ pub(crate) fn lock<T>(mutex: &Mutex<T>) -> MutexGuard<'_, T> {
     mutex.lock().unwrap_or_else(PoisonError::into_inner)
 }
 
+// Wakes those that wait at a node.
+//
+// No wake-up is lost. Who waits counts itself in `waiting`, reads `rung`, looks, and goes to sleep only where `rung` is still the same
+// under the lock of `door`. Who changed something counts it in `rung`, reads `waiting`, and where anybody waits takes that lock before it
+// notifies. All four are in the one order of `SeqCst`. If nobody was read to wait, whoever waits later reads this count in `rung`, so what
+// was changed before it is seen by the look. If somebody was, the lock is taken before that one tests `rung`, which has changed then, or
+// after that one sleeps, whom the notice wakes.
+#[derive(Debug, Default)]
+struct Bell {
+    rung: AtomicU64,
+    waiting: AtomicUsize,
+    door: Mutex<()>,
+    wakes: Condvar,
+}
+
+impl Bell {
+    // Counts a change that stands already, and says whether anybody waits.
+    fn count(&self) -> bool {
+        self.rung.fetch_add(1, Ordering::SeqCst);
+        self.waiting.load(Ordering::SeqCst) > 0
+    }
+
+    // After `count`.
+    fn wake(&self) {
+        drop(lock(&self.door));
+        self.wakes.notify_all();
+    }
+
+    fn ring(&self) {
+        if self.count() {
+            self.wake();
+        }
+    }
+
+    // Looks now, and after each change, until something is found; the last look begins when the time is up.
+    fn wait<T>(&self, limit: Duration, look: impl FnMut() -> Result<Option<T>, Error>) -> Result<Option<T>, Error> {
+        let end = Instant::now().checked_add(limit); // none: for ever
+        self.waiting.fetch_add(1, Ordering::SeqCst);
+        let found = self.look_until(end, look);
+        self.waiting.fetch_sub(1, Ordering::SeqCst);
+        found
+    }
+
+    fn look_until<T>(&self, end: Option<Instant>, mut look: impl FnMut() -> Result<Option<T>, Error>) -> Result<Option<T>, Error> {
+        loop {
+            let seen = self.rung.load(Ordering::SeqCst);
+            let is_last = end.is_some_and(|end| end <= Instant::now());
+            let found = look()?;
+            if found.is_some() || is_last {
+                return Ok(found);
+            }
+            self.sleep(seen, end);
+        }
+    }
+
+    // Until a change is counted that wasn't seen, or the time is up.
+    fn sleep(&self, seen: u64, end: Option<Instant>) {
+        let mut door = lock(&self.door);
+        while self.rung.load(Ordering::SeqCst) == seen {
+            let left = end.map_or(Duration::MAX, |end| end.saturating_duration_since(Instant::now()));
+            if left.is_zero() {
+                return;
+            }
+            door = match end {
+                Some(_) => self.wakes.wait_timeout(door, left).unwrap_or_else(PoisonError::into_inner).0,
+                None => self.wakes.wait(door).unwrap_or_else(PoisonError::into_inner),
+            };
+        }
+    }
+}
+
+// What befell a node by calls of this crate.
+#[derive(Clone, Copy, Debug, Default)]
+pub(crate) struct Past {
+    // How often it was restarted.
+    pub life: u64,
+    // How many records it took up.
+    pub records: u64,
+    // What the last one made of it, in this life.
+    pub role: Option<Role>,
+}
+
+#[derive(Debug)]
+struct Kept {
+    raw: RawNode,
+    past: Past,
+    // A high watermark that it had in this life; where nobody waits it may have a higher one.
+    mark: u64,
+}
+
+#[derive(Debug)]
+struct Room {
+    kept: Mutex<Kept>,
+    bell: Bell,
+}
+
+impl Room {
+    fn new(raw: RawNode) -> Room {
+        let kept = Kept { raw, past: Past::default(), mark: 0 };
+        Room { kept: Mutex::new(kept), bell: Bell::default() }
+    }
+}
+
+// The library's node behind its lock. The calls that may change its high watermark, or whether it is up, wake those that wait for that.
+#[derive(Debug)]
+pub(crate) struct Held<'a> {
+    kept: MutexGuard<'a, Kept>,
+    bell: &'a Bell,
+}
+
+impl Deref for Held<'_> {
+    type Target = RawNode;
+
+    fn deref(&self) -> &RawNode {
+        &self.kept.raw
+    }
+}
+
+impl DerefMut for Held<'_> {
+    fn deref_mut(&mut self) -> &mut RawNode {
+        &mut self.kept.raw
+    }
+}
+
+impl Held<'_> {
+    pub(crate) fn past(&self) -> Past {
+        self.kept.past
+    }
+
+    pub(crate) fn adopt(&mut self) -> Result<RoleOut, Error> {
+        let role = self.kept.raw.adopt()?;
+        let past = &mut self.kept.past;
+        (past.records, past.role) = (past.records + 1, Some(Role::from(role)));
+        self.bell.ring();
+        Ok(role)
+    }
+
+    pub(crate) fn raise(&mut self) -> Result<u64, Error> {
+        let mark = self.kept.raw.raise()?;
+        if self.has_moved(mark) {
+            self.bell.ring();
+        }
+        Ok(mark)
+    }
+
+    pub(crate) fn stop(&mut self) -> Result<(), Error> {
+        self.kept.raw.stop()?;
+        self.kept.past.role = None;
+        self.bell.ring();
+        Ok(())
+    }
+
+    pub(crate) fn restart(&mut self) -> Result<RestartOut, Error> {
+        let restarted = self.kept.raw.restart()?;
+        (self.kept.past.life, self.kept.past.role) = (restarted.life, None);
+        self.kept.mark = restarted.watermark;
+        self.bell.ring();
+        Ok(restarted)
+    }
+
+    pub(crate) fn step(&mut self, message: RawMessage) -> Result<Option<RawMessage>, Error> {
+        let stepped = self.kept.raw.step(message);
+        match &stepped {
+            Ok(_) => {
+                if self.bell.count() && self.may_have_moved() {
+                    self.bell.wake();
+                }
+            }
+            Err(error) if error.is_memory() => self.bell.ring(), // it may be down
+            Err(_) => {}                                         // it is as before
+        }
+        stepped
+    }
+
+    // Within a life a high watermark only rises, and is never below what is kept of it.
+    fn has_moved(&mut self, mark: u64) -> bool {
+        mark != replace(&mut self.kept.mark, mark)
+    }
+
+    fn may_have_moved(&mut self) -> bool {
+        match self.kept.raw.show() {
+            Ok(state) => self.has_moved(state.watermark),
+            Err(_) => true,
+        }
+    }
+}
+
 #[derive(Debug)]
 struct Shared {
+    // The cluster's.
+    number: u64,
     board: Mutex<RawCluster>,
-    nodes: Vec<Mutex<RawNode>>,
+    nodes: Vec<Room>,
 }
 
 /// One to seven nodes that replicate one log, and the controller's record of who leads. A clone is the same cluster; its memory is
@@ -56,8 +249,8 @@ impl Cluster {
     /// [`Error::NoRoom`]. O(n) in the nodes.
     pub fn open(nodes: u8, limits: Limits) -> Result<Cluster, Error> {
         let mut board = RawCluster::open(nodes, &limits)?;
-        let opened: Result<Vec<Mutex<RawNode>>, Error> = (0..nodes).map(|_| board.node().map(Mutex::new)).collect();
-        let shared = Shared { nodes: opened?, board: Mutex::new(board) };
+        let opened: Result<Vec<Room>, Error> = (0..nodes).map(|_| board.node().map(Room::new)).collect();
+        let shared = Shared { number: board.cluster(), nodes: opened?, board: Mutex::new(board) };
         Ok(Cluster { shared: Arc::new(shared) })
     }
 
@@ -75,8 +268,82 @@ impl Cluster {
     /// Waits for a node's lock, and takes it. Let go of it before you ask for another node's, as two threads that hold one node
     /// each could wait for one another. [`Error::OutOfRange`] where there is no such node.
     pub fn node(&self, number: u8) -> Result<Node<'_>, Error> {
-        let held = self.shared.nodes.get(usize::from(number)).ok_or(Error::OutOfRange)?;
-        Ok(Node::new(number, lock(held)))
+        let room = self.room(number)?;
+        Ok(Node::new(number, Held { kept: lock(&room.kept), bell: &room.bell }))
+    }
+
+    /// Waits until a node's high watermark lies above an offset, for so long at most, and says where it is then: at once where it
+    /// lies above already, and `None` where the time is up. A time that no clock reaches is no bound. A node that is down is waited for,
+    /// too, as somebody may restart it. [`Error::OutOfRange`] where there is no such node; [`Error::OtherCluster`].
+    ///
+    /// It sleeps, and looks anew, without a lock and in O(1), after each call of this crate by which the node's watermark may have
+    /// risen. Hold no node meanwhile: whoever would raise it waits for that.
+    ///
+    /// ```
+    /// use kpart::{Cluster, Limits};
+    /// use std::time::Duration;
+    ///
+    /// # fn main() -> Result<(), kpart::Error> {
+    /// let cluster = Cluster::open(1, Limits::default())?;
+    /// let mut pass = cluster.pass()?;
+    /// pass.elect(0)?;
+    /// assert_eq!(cluster.wait_mark(&mut pass, 0, 0, Duration::from_millis(1))?, None);
+    /// let batch = include_bytes!(concat!(env!("CARGO_MANIFEST_DIR"), "/tests/one_record.batch"));
+    /// let other = cluster.clone();
+    /// std::thread::spawn(move || -> Result<(), kpart::Error> {
+    ///     let mut producer = other.pass()?;
+    ///     let mut leader = other.node(0)?;
+    ///     leader.adopt()?;
+    ///     leader.produce(&mut producer, batch)?;
+    ///     leader.raise()?;
+    ///     Ok(())
+    /// });
+    /// assert_eq!(cluster.wait_mark(&mut pass, 0, 0, Duration::from_secs(20))?, Some(1));
+    /// # Ok(()) }
+    /// ```
+    pub fn wait_mark(&self, pass: &mut Pass, node: u8, above: u64, limit: Duration) -> Result<Option<u64>, Error> {
+        let room = self.room(node)?;
+        if pass.raw.cluster() != self.shared.number {
+            return Err(Error::OtherCluster);
+        }
+        room.bell.wait(limit, || {
+            let mark = pass.watermark(node)?;
+            Ok((mark > above).then_some(mark))
+        })
+    }
+
+    /// Waits until a node knows whether the receipt's batch is committed, for so long at most: what [`Node::acked`] says then, at once
+    /// where it is known already, and [`Ack::NotYet`] where the time is up. F28 as soon as the node is down. [`Error::OutOfRange`]
+    /// where there is no such node; [`Error::OtherCluster`].
+    ///
+    /// It sleeps as [`Cluster::wait_mark`] does, but looks under the node's lock, as [`Node::acked`] does: hold no node meanwhile. A
+    /// node that leads no more may never know: bound the time, and ask the next leader.
+    ///
+    /// ```
+    /// use kpart::{Ack, Cluster, Limits, Workers};
+    /// use std::time::Duration;
+    ///
+    /// # fn main() -> Result<(), kpart::Error> {
+    /// let cluster = Cluster::open(3, Limits::default())?;
+    /// let mut pass = cluster.pass()?;
+    /// pass.elect(0)?;
+    /// cluster.node(0)?.adopt()?;
+    /// let _workers = Workers::start(&cluster, Duration::from_millis(1))?;
+    /// let batch = include_bytes!(concat!(env!("CARGO_MANIFEST_DIR"), "/tests/one_record.batch"));
+    /// let receipt = cluster.node(0)?.produce(&mut pass, batch)?;
+    /// assert_eq!(cluster.wait_acked(&mut pass, 0, &receipt, Duration::from_secs(20))?, Ack::Yes);
+    /// # Ok(()) }
+    /// ```
+    pub fn wait_acked(&self, pass: &mut Pass, node: u8, receipt: &Receipt, limit: Duration) -> Result<Ack, Error> {
+        let known = self.room(node)?.bell.wait(limit, || {
+            let ack = self.node(node)?.acked(pass, receipt)?;
+            Ok((ack != Ack::NotYet).then_some(ack))
+        })?;
+        Ok(known.unwrap_or(Ack::NotYet))
+    }
+
+    fn room(&self, number: u8) -> Result<&Room, Error> {
+        self.shared.nodes.get(usize::from(number)).ok_or(Error::OutOfRange)
     }
 }
 
@@ -112,6 +379,7 @@ impl Pass {
     }
 
     /// A node's high watermark: all below it is committed. [`Error::OutOfRange`] where there is no such node. O(1), and no lock.
+    /// [`Cluster::wait_mark`] waits until it rises.
     pub fn watermark(&mut self, node: u8) -> Result<u64, Error> {
         self.raw.watermark(node)
     }
@@ -144,5 +412,61 @@ impl Pass {
     /// up; F29 where the message is no proposal. The message is spent in any case. O(1), and no lock.
     pub fn decide(&mut self, proposal: Message) -> Result<Message, Error> {
         Message::new(self.raw.decide(proposal.raw)?)
+    }
+}
+
+#[cfg(test)]
+mod tests {
+    use super::*;
+    use std::sync::atomic::AtomicBool;
+    use std::thread;
+
+    const SOON: Duration = Duration::from_millis(50);
+    const LONG: Duration = Duration::from_secs(20);
+
+    // A change that comes between the look and the sleep.
+    #[test]
+    fn what_changes_behind_a_look_is_seen_at_once() {
+        let (bell, start, mut looks) = (Bell::default(), Instant::now(), 0);
+        let found = bell.wait(LONG, || {
+            looks += 1;
+            bell.ring();
+            Ok((looks == 3).then_some(looks))
+        });
+        assert_eq!(found, Ok(Some(3)));
+        assert!(start.elapsed() < LONG);
+    }
+
+    #[test]
+    fn one_looks_at_first_at_changes_and_at_last() {
+        let (bell, mut looks) = (Bell::default(), 0);
+        let mut look = || {
+            looks += 1;
+            Ok(None::<()>)
+        };
+        assert_eq!(bell.wait(SOON, &mut look), Ok(None));
+        assert_eq!(bell.wait(Duration::ZERO, &mut look), Ok(None));
+        assert_eq!(looks, 2 + 1);
+        let (mut looks, has_rung) = (0, AtomicBool::new(false));
+        thread::scope(|scope| {
+            scope.spawn(|| {
+                while bell.waiting.load(Ordering::SeqCst) == 0 {
+                    thread::yield_now();
+                }
+                for _ in 0..100 {
+                    bell.count(); // nothing that anybody waits for
+                }
+                has_rung.store(true, Ordering::SeqCst);
+                bell.ring();
+            });
+            let found = bell.wait(LONG, || {
+                looks += 1;
+                Ok(has_rung.load(Ordering::SeqCst).then_some(7))
+            });
+            assert_eq!(found, Ok(Some(7)));
+        });
+        assert!(looks <= 1 + 100 + 1, "{looks} looks");
+        assert_eq!(bell.wait(LONG, || Err::<Option<()>, _>(Error::NoRoom)), Err(Error::NoRoom));
+        assert_eq!(bell.waiting.load(Ordering::SeqCst), 0);
     }
 }

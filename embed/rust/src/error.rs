@@ -95,6 +95,30 @@ impl Refusal {
         }
     }
 
+    /// The error code of Kafka's protocol, as 6 (NOT_LEADER_OR_FOLLOWER) for F15, where `docs/RULES.md` names one, and none where it
+    /// doesn't: which code a broker answers then is its own choice. O(1).
+    ///
+    /// ```
+    /// use kpart::Refusal;
+    ///
+    /// assert_eq!(Refusal::NotLeader.kafka_code(), Some(6));
+    /// assert_eq!(Refusal::Down.kafka_code(), None);
+    /// ```
+    pub fn kafka_code(&self) -> Option<i16> {
+        Some(match self {
+            Refusal::OffsetOutOfRange => 1,
+            Refusal::BadCrc => 2,
+            Refusal::NotLeader => 6,
+            Refusal::TooLarge => 10,
+            Refusal::OutOfOrderSequence => 45,
+            Refusal::InvalidProducerEpoch => 47,
+            Refusal::InvalidTxnState => 48,
+            Refusal::FencedLeaderEpoch => 74,
+            Refusal::UnknownLeaderEpoch => 75,
+            _ => return None,
+        })
+    }
+
     /// Its name in the rules, which the library has.
     pub fn name(self) -> &'static str {
         match self {
@@ -234,5 +258,23 @@ mod tests {
         assert_eq!(Error::of(8, 61).to_string(), "F8 BadRecord 61");
         assert_eq!(Error::of(32, 0), Error::Refused(Refusal::Other(32)));
         assert!(Error::of(33, 0).is_memory() && Error::of(68, 0).is_memory());
+    }
+    // A row of the rules' table, as `| F4 | BadCrc (2) | ..`: the number, and Kafka's code, if it has one.
+    fn row(line: &str) -> Option<(u32, Option<i16>)> {
+        let mut cells = line.strip_prefix("| F")?.split('|');
+        let number = cells.next()?.trim().parse().ok()?;
+        let (_, bracket) = cells.next()?.split_once('(').unwrap_or_default();
+        Some((number, bracket.trim_end().trim_end_matches(')').parse().ok()))
+    }
+
+    #[test]
+    fn kafkas_codes_are_those_of_the_rules() {
+        let rules = std::fs::read_to_string(concat!(env!("CARGO_MANIFEST_DIR"), "/../../docs/RULES.md")).expect("the rules");
+        let rows: Vec<(u32, Option<i16>)> = rules.lines().filter_map(row).collect();
+        assert!(rows.iter().map(|(number, _)| *number).eq(1..=34), "each number has its row");
+        assert_eq!(rows.iter().filter(|(_, code)| code.is_some()).count(), 9);
+        for (number, code) in rows {
+            assert_eq!(Refusal::of(number, 0).kafka_code(), code, "F{number}");
+        }
     }
 }

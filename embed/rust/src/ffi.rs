@@ -79,6 +79,54 @@ pub(crate) struct ValueOut {
     pub null: bool,
 }
 
+#[repr(C)]
+#[derive(Clone, Copy, Default)]
+pub(crate) struct FetchedOut {
+    pub watermark: u64,
+    pub stable: u64,
+    pub end: u64,
+    pub aborted: usize,
+}
+
+#[repr(C)]
+#[derive(Clone, Copy, Default)]
+pub(crate) struct AbortedOut {
+    pub producer_id: u64,
+    pub first: u64,
+}
+
+#[repr(C)]
+#[derive(Clone, Copy, Default)]
+pub(crate) struct StateOut {
+    pub life: u64,
+    pub end: u64,
+    pub watermark: u64,
+    pub stable: u64,
+    pub checkpoint: u64,
+    pub start: u64,
+    pub kept_epoch: u32,
+    pub epoch: u32,
+    pub adopted: bool,
+    pub status: u8,
+    pub leader: u8,
+}
+
+#[repr(C)]
+#[derive(Clone, Copy, Default)]
+pub(crate) struct EpochOut {
+    pub end: u64,
+    pub epoch: u32,
+    pub found: bool,
+}
+
+#[repr(C)]
+#[derive(Clone, Copy, Default)]
+pub(crate) struct TimeOut {
+    pub offset: u64,
+    pub timestamp: u64,
+    pub found: bool,
+}
+
 // Closed where all is zero; else it owns what lies at its pointer.
 #[derive(Debug)]
 #[repr(C)]
@@ -102,6 +150,8 @@ unsafe extern "C" {
     fn kp_adopt(node: &mut Handle, role: &mut RoleOut) -> u32;
     fn kp_raise(node: &mut Handle, offset: &mut u64) -> u32;
     fn kp_checkpoint(node: &mut Handle, offset: &mut u64) -> u32;
+    fn kp_show(node: &mut Handle, found: &mut StateOut) -> u32;
+    fn kp_end_for(node: &mut Handle, epoch: u32, found: &mut EpochOut) -> u32;
     fn kp_stop(node: &mut Handle) -> u32;
     fn kp_restart(node: &mut Handle, restarted: &mut RestartOut) -> u32;
     fn kp_ask(node: &mut Handle, message: &mut Handle) -> u32;
@@ -116,11 +166,15 @@ unsafe extern "C" {
     fn kp_read(node: &mut Handle, pass: &mut Handle, from: u64, batches: &mut Handle) -> u32;
 
     fn kp_read_committed(node: &mut Handle, pass: &mut Handle, from: u64, records: &mut Handle) -> u32;
+    fn kp_offset_for_time(node: &mut Handle, pass: &mut Handle, time: u64, read_committed: bool, found: &mut TimeOut) -> u32;
+    fn kp_fetch(node: &mut Handle, pass: &mut Handle, from: u64, most_bytes: u32, read_committed: bool, fetched: &mut Handle) -> u32;
     fn kp_segments(node: &mut Handle, segments: &mut Handle) -> u32;
 
     fn kp_count(handle: &mut Handle, found: &mut usize) -> u32;
     fn kp_batch_size(batches: &mut Handle, index: usize, size: &mut u32) -> u32;
     fn kp_batch(batches: &mut Handle, index: usize, to: *mut u8, count: usize) -> u32;
+    fn kp_fetched(fetched: &mut Handle, found: &mut FetchedOut) -> u32;
+    fn kp_aborted(fetched: &mut Handle, index: usize, found: &mut AbortedOut) -> u32;
     fn kp_committed(records: &mut Handle, index: usize, found: &mut ValueOut) -> u32;
     fn kp_value(records: &mut Handle, index: usize, to: *mut u8, count: usize) -> u32;
     fn kp_segment(segments: &mut Handle, index: usize, name: *mut u8, count: usize, batches: &mut Handle) -> u32;
@@ -200,7 +254,7 @@ pub(crate) struct RawHanded {
     handle: Handle,
 }
 
-/// Batches that were read.
+/// Batches that were read, or what was fetched with them.
 #[derive(Debug)]
 pub(crate) struct RawBatches {
     handle: Handle,
@@ -219,6 +273,11 @@ pub(crate) struct RawSegments {
 }
 
 impl RawCluster {
+    /// Its number, which no other cluster has.
+    pub(crate) fn cluster(&self) -> u64 {
+        self.cluster
+    }
+
     pub(crate) fn open(nodes: u8, limits: &Limits) -> Result<RawCluster, Error> {
         let mut handle = Handle::closed();
         // SAFETY: the handle is closed.
@@ -243,6 +302,11 @@ impl RawCluster {
 }
 
 impl RawPass {
+    /// The number of its cluster.
+    pub(crate) fn cluster(&self) -> u64 {
+        self.cluster
+    }
+
     pub(crate) fn elect(&mut self, node: u8) -> Result<LeadershipOut, Error> {
         let mut found = LeadershipOut::default();
         // SAFETY: the handle is the library's.
@@ -300,6 +364,28 @@ impl RawNode {
         // SAFETY: the handle is the library's.
         answered(unsafe { kp_checkpoint(&mut self.handle, &mut offset) })?;
         Ok(offset)
+    }
+
+    pub(crate) fn show(&mut self) -> Result<StateOut, Error> {
+        let mut found = StateOut::default();
+        // SAFETY: the handle is the library's.
+        answered(unsafe { kp_show(&mut self.handle, &mut found) })?;
+        Ok(found)
+    }
+
+    pub(crate) fn end_for(&mut self, epoch: u32) -> Result<EpochOut, Error> {
+        let mut found = EpochOut::default();
+        // SAFETY: the handle is the library's.
+        answered(unsafe { kp_end_for(&mut self.handle, epoch, &mut found) })?;
+        Ok(found)
+    }
+
+    pub(crate) fn offset_for_time(&mut self, pass: &mut RawPass, time: u64, read_committed: bool) -> Result<TimeOut, Error> {
+        of_one(self.cluster, pass.cluster)?;
+        let mut found = TimeOut::default();
+        // SAFETY: both handles are the library's, and of one cluster.
+        answered(unsafe { kp_offset_for_time(&mut self.handle, &mut pass.handle, time, read_committed, &mut found) })?;
+        Ok(found)
     }
 
     pub(crate) fn stop(&mut self) -> Result<(), Error> {
@@ -384,6 +470,14 @@ impl RawNode {
         Ok(RawRecords { handle })
     }
 
+    pub(crate) fn fetch(&mut self, pass: &mut RawPass, from: u64, most_bytes: u32, read_committed: bool) -> Result<RawBatches, Error> {
+        of_one(self.cluster, pass.cluster)?;
+        let mut handle = Handle::closed();
+        // SAFETY: two handles are the library's, and of one cluster; the third is closed.
+        answered(unsafe { kp_fetch(&mut self.handle, &mut pass.handle, from, most_bytes, read_committed, &mut handle) })?;
+        Ok(RawBatches { handle })
+    }
+
     pub(crate) fn segments(&mut self) -> Result<RawSegments, Error> {
         let mut handle = Handle::closed();
         // SAFETY: one handle is the library's, the other is closed.
@@ -466,6 +560,22 @@ impl RawBatches {
         // SAFETY: the handle is the library's.
         answered(unsafe { kp_batch_size(&mut self.handle, index, &mut size) })?;
         Ok(size as usize)
+    }
+
+    /// What was fetched beside the batches.
+    pub(crate) fn fetched(&mut self) -> Result<FetchedOut, Error> {
+        let mut found = FetchedOut::default();
+        // SAFETY: the handle is the library's.
+        answered(unsafe { kp_fetched(&mut self.handle, &mut found) })?;
+        Ok(found)
+    }
+
+    /// One of the aborted transactions.
+    pub(crate) fn aborted(&mut self, index: usize) -> Result<AbortedOut, Error> {
+        let mut found = AbortedOut::default();
+        // SAFETY: the handle is the library's.
+        answered(unsafe { kp_aborted(&mut self.handle, index, &mut found) })?;
+        Ok(found)
     }
 
     /// Copies a batch to the front of the place.

@@ -12,8 +12,14 @@
 //! | to do so from several threads | [`Batch`], [`Node::produce_batch`]: copied and tested outside of the lock |
 //! | to read what is committed, batch by batch | [`Node::read`] |
 //! | to read records, none of an aborted transaction | [`Node::read_committed`] |
+//! | to answer a Kafka consumer's fetch, of one moment | [`Node::fetch`] |
+//! | to know what a node is, and where it stands | [`Node::show`], [`Node::end_for`], [`Node::offset_for_time`] |
 //! | to keep a node's log as files | [`Node::segments`] |
+//! | to wait until something is committed, without a loop | [`Cluster::wait_acked`], [`Cluster::wait_mark`] |
 //! | followers to replicate | [`Workers`], or [`Node::ask`] and [`Node::step`] by hand |
+//! | to hear what becomes of the nodes | [`Workers::start_with`] |
+//! | to test a service where messages are lost or late | [`Workers::link`] |
+//! | Kafka's error code for a refusal | [`Refusal::kafka_code`] |
 //! | a slow node out of the in-sync set | [`Workers::propose`], or [`Node::alter`] and [`Pass::decide`] |
 //!
 //! Three nodes, with a worker each, and a batch that is committed on all of them:
@@ -31,12 +37,9 @@
 //!
 //! let batch = include_bytes!(concat!(env!("CARGO_MANIFEST_DIR"), "/tests/one_record.batch"));
 //! let receipt = cluster.node(0)?.produce(&mut pass, batch)?;
-//! while cluster.node(0)?.acked(&mut pass, &receipt)? != Ack::Yes {
-//!     std::thread::sleep(Duration::from_millis(1));
-//! }
-//! while pass.watermark(2)? <= receipt.last {
-//!     std::thread::sleep(Duration::from_millis(1)); // node 2 has it already, and hears soon that it is committed
-//! }
+//! let limit = Duration::from_secs(20);
+//! assert_eq!(cluster.wait_acked(&mut pass, 0, &receipt, limit)?, Ack::Yes);
+//! cluster.wait_mark(&mut pass, 2, receipt.last, limit)?; // node 2 has it already, and hears soon that it is committed
 //! let read: Vec<Vec<u8>> = cluster.node(2)?.read(&mut pass, 0)?.collect::<Result<_, _>>()?;
 //! assert_eq!(read[0][16..], batch[16..]);
 //! workers.stop();
@@ -76,8 +79,10 @@ mod batch;
 mod batches;
 mod cluster;
 mod error;
+mod fetched;
 #[allow(unsafe_code)]
 mod ffi;
+mod links;
 mod message;
 mod node;
 mod records;
@@ -89,10 +94,12 @@ pub use batch::Batch;
 pub use batches::Batches;
 pub use cluster::{Cluster, Pass};
 pub use error::{Error, Refusal};
+pub use fetched::{AbortedTransaction, Fetched, Isolation};
 pub use ffi::Limits;
+pub use links::{Link, Place};
 pub use message::{Addressee, Message};
 pub use node::Node;
 pub use records::{CommittedRecord, Records};
 pub use segments::{Segment, Segments};
-pub use values::{Ack, Change, Leadership, Marker, Receipt, Restarted, Role};
-pub use workers::Workers;
+pub use values::{Ack, Change, EpochEnd, Leadership, Marker, NodeState, Receipt, Restarted, Role, Status, TimeOffset};
+pub use workers::{Event, Workers};

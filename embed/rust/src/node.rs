@@ -2,26 +2,30 @@
 
 use crate::batch::Batch;
 use crate::batches::Batches;
-use crate::cluster::Pass;
+use crate::cluster::{Held, Pass, Past};
 use crate::error::Error;
-use crate::ffi::{MarkerIn, RawNode, ReceiptOut};
+use crate::fetched::{Fetched, Isolation};
+use crate::ffi::{MarkerIn, ReceiptOut};
 use crate::message::Message;
 use crate::records::Records;
 use crate::segments::Segments;
-use crate::values::{Ack, Change, Marker, Receipt, Restarted, Role};
-use std::sync::MutexGuard;
+use crate::values::{Ack, Change, EpochEnd, Marker, NodeState, Receipt, Restarted, Role, TimeOffset};
 
 /// A node, as long as its lock is held: drop it to let others in. Each call is an event of the run, or none, as a read; a node that is
 /// down refuses all but [`Node::restart`] by F28.
 #[derive(Debug)]
 pub struct Node<'a> {
     number: u8,
-    raw: MutexGuard<'a, RawNode>,
+    raw: Held<'a>,
 }
 
 impl<'a> Node<'a> {
-    pub(crate) fn new(number: u8, raw: MutexGuard<'a, RawNode>) -> Node<'a> {
+    pub(crate) fn new(number: u8, raw: Held<'a>) -> Node<'a> {
         Node { number, raw }
+    }
+
+    pub(crate) fn past(&self) -> Past {
+        self.raw.past()
     }
 
     /// Its number.
@@ -122,6 +126,32 @@ impl<'a> Node<'a> {
     pub fn read_committed(&mut self, pass: &mut Pass, from: u64) -> Result<Records, Error> {
         let raw = self.raw.read_committed(&mut pass.raw, from)?;
         Records::new(raw)
+    }
+
+    /// The node's state, as it knows itself; also of a node that is down. No memory; O(log n) in the open transactions.
+    pub fn show(&mut self) -> Result<NodeState, Error> {
+        self.raw.show().map(NodeState::from)
+    }
+
+    /// The largest leader epoch at most this one of which the leader's log has a batch, and where that ends: what Kafka's
+    /// OffsetForLeaderEpoch answers. F15 where the node doesn't lead. O(log n) in the epochs.
+    pub fn end_for(&mut self, epoch: u32) -> Result<Option<EpochEnd>, Error> {
+        self.raw.end_for(epoch).map(EpochEnd::of)
+    }
+
+    /// The first record whose timestamp is at least this one, in milliseconds, if a consumer of that isolation is shown it: what Kafka's
+    /// ListOffsets answers for a time. A marker counts as a record. O(log n) in the log, and O(n) in one interval of its time index.
+    pub fn offset_for_time(&mut self, pass: &mut Pass, time: u64, isolation: Isolation) -> Result<Option<TimeOffset>, Error> {
+        self.raw.offset_for_time(&mut pass.raw, time, isolation == Isolation::ReadCommitted).map(TimeOffset::of)
+    }
+
+    /// What a consumer is given from an offset on, all of one moment: committed batches from the one that holds the offset on, as many as
+    /// fit into so many bytes, but at least one where there is one; read committed those below the last stable offset, and the aborted
+    /// transactions by which a Kafka client filters just these batches. F16 above the node's log end, F33. O(log n) in the log and its
+    /// aborted transactions, and O(1) for each batch, as they are shared, not copied.
+    pub fn fetch(&mut self, pass: &mut Pass, from: u64, most_bytes: u32, isolation: Isolation) -> Result<Fetched, Error> {
+        let raw = self.raw.fetch(&mut pass.raw, from, most_bytes, isolation == Isolation::ReadCommitted)?;
+        Fetched::new(raw)
     }
 
     /// The node's log as the segments that a broker would keep as files, also of a node that is down, and also what isn't committed.

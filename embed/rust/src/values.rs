@@ -1,6 +1,6 @@
 //! Plain values that calls take and give.
 
-use crate::ffi::{LeadershipOut, MarkerIn, ReceiptOut, RestartOut, RoleOut};
+use crate::ffi::{EpochOut, LeadershipOut, MarkerIn, ReceiptOut, RestartOut, RoleOut, StateOut, TimeOut};
 
 /// What a node is under the controller's record that it took up.
 #[derive(Clone, Copy, Debug, PartialEq, Eq)]
@@ -19,6 +19,54 @@ pub enum Role {
         /// The leader epoch.
         epoch: u32,
     },
+}
+
+/// What a node is, as it knows itself.
+#[derive(Clone, Copy, Debug, PartialEq, Eq)]
+pub enum Status {
+    /// It is stopped.
+    Down,
+    /// It has taken up no record since it started.
+    Idle,
+    /// What the record that it took up last makes it.
+    Plays(Role),
+}
+
+/// A node's state, of one moment. Its log begins at offset 0.
+#[derive(Clone, Copy, Debug, PartialEq, Eq)]
+pub struct NodeState {
+    /// How often it was restarted.
+    pub life: u64,
+    /// The leader epoch that it last took up, in this life or an earlier one; none where it has taken up none.
+    pub kept_epoch: Option<u32>,
+    /// What it is.
+    pub status: Status,
+    /// Its log end offset.
+    pub end: u64,
+    /// Its high watermark; of one that is down, that at which it went down.
+    pub watermark: u64,
+    /// The last stable offset at that watermark.
+    pub stable: u64,
+    /// The high watermark that it last noted, from which a restart begins.
+    pub checkpoint: u64,
+}
+
+/// Where a leader epoch ends in a leader's log.
+#[derive(Clone, Copy, Debug, PartialEq, Eq)]
+pub struct EpochEnd {
+    /// The leader epoch.
+    pub epoch: u32,
+    /// The offset after its last record.
+    pub end: u64,
+}
+
+/// A record's offset and timestamp.
+#[derive(Clone, Copy, Debug, PartialEq, Eq)]
+pub struct TimeOffset {
+    /// Its offset.
+    pub offset: u64,
+    /// Milliseconds since 1970.
+    pub timestamp: u64,
 }
 
 /// The controller's record.
@@ -106,6 +154,31 @@ impl From<RoleOut> for Role {
         } else {
             Role::Follows { leader: role.leader, epoch: role.epoch }
         }
+    }
+}
+
+impl From<StateOut> for NodeState {
+    fn from(state: StateOut) -> NodeState {
+        let StateOut { life, end, watermark, stable, checkpoint, start, kept_epoch, epoch, adopted, status, leader } = state;
+        let status = match status {
+            1 => Status::Idle,
+            2 => Status::Plays(Role::Leads { epoch, start }),
+            3 => Status::Plays(Role::Follows { leader, epoch }),
+            _ => Status::Down,
+        };
+        NodeState { life, kept_epoch: adopted.then_some(kept_epoch), status, end, watermark, stable, checkpoint }
+    }
+}
+
+impl EpochEnd {
+    pub(crate) fn of(found: EpochOut) -> Option<EpochEnd> {
+        found.found.then_some(EpochEnd { epoch: found.epoch, end: found.end })
+    }
+}
+
+impl TimeOffset {
+    pub(crate) fn of(found: TimeOut) -> Option<TimeOffset> {
+        found.found.then_some(TimeOffset { offset: found.offset, timestamp: found.timestamp })
     }
 }
 

@@ -1,7 +1,8 @@
 //! Each call once, and what the types refuse.
 
 use kpart::{
-    Ack, Addressee, Batch, Change, Cluster, CommittedRecord, Error, Leadership, Limits, Marker, Message, Pass, Refusal, Role, Segment,
+    AbortedTransaction, Ack, Addressee, Batch, Change, Cluster, CommittedRecord, EpochEnd, Error, Fetched, Isolation, Leadership, Limits,
+    Marker, Message, NodeState, Pass, Refusal, Role, Segment, Status, TimeOffset,
 };
 
 const ONE_RECORD: &[u8] = include_bytes!("one_record.batch");
@@ -224,6 +225,147 @@ fn a_read_committed_consumer_gets_what_was_committed() -> Done {
     Ok(())
 }
 
+fn fetched(cluster: &Cluster, pass: &mut Pass, from: u64, isolation: Isolation) -> Result<Fetched, Error> {
+    cluster.node(0)?.fetch(pass, from, 1 << 20, isolation)
+}
+
+// Its batches' sizes, and high watermark, last stable offset and log end.
+fn shown(fetched: &Fetched) -> (usize, u64, u64, u64) {
+    (fetched.batches.len(), fetched.watermark, fetched.stable, fetched.end)
+}
+
+#[test]
+fn a_fetch_is_of_one_moment() -> Done {
+    let (cluster, mut pass) = led(1)?;
+    for batch in [TRANSACTION, ABORTED] {
+        cluster.node(0)?.produce(&mut pass, batch)?; // at 0 and 1, and at 2
+    }
+    assert_eq!(shown(&fetched(&cluster, &mut pass, 0, Isolation::ReadUncommitted)?), (0, 0, 0, 3));
+    cluster.node(0)?.raise()?;
+    assert_eq!(shown(&fetched(&cluster, &mut pass, 0, Isolation::ReadCommitted)?), (0, 3, 0, 3));
+    cluster.node(0)?.mark(&mut pass, &ended(13, false))?; // at 3
+    cluster.node(0)?.mark(&mut pass, &ended(12, true))?; // at 4
+    cluster.node(0)?.raise()?;
+    let all = fetched(&cluster, &mut pass, 1, Isolation::ReadUncommitted)?;
+    assert_eq!((shown(&all), all.aborted), ((4, 5, 5, 5), vec![]));
+    let aborted = vec![AbortedTransaction { producer_id: 13, first: 2 }];
+    for (from, count) in [(0, 4), (1, 4), (2, 3), (3, 2)] {
+        let found = fetched(&cluster, &mut pass, from, Isolation::ReadCommitted)?;
+        assert_eq!((shown(&found), &found.aborted), ((count, 5, 5, 5), &aborted), "from {from}");
+    }
+    let marker = fetched(&cluster, &mut pass, 4, Isolation::ReadCommitted)?;
+    assert_eq!((shown(&marker), marker.aborted), ((1, 5, 5, 5), vec![])); // it ended below
+    let committed = cluster.node(0)?.fetch(&mut pass, 0, TRANSACTION.len() as u32, Isolation::ReadCommitted)?;
+    assert_eq!((committed.batches.len(), committed.aborted), (1, vec![])); // it begins above
+    assert_eq!(fetched(&cluster, &mut pass, 6, Isolation::ReadCommitted).err(), Some(Refusal::OffsetOutOfRange.into()));
+    cluster.node(0)?.stop()?;
+    assert_eq!(fetched(&cluster, &mut pass, 0, Isolation::ReadUncommitted).err(), Some(Refusal::Down.into()));
+    Ok(())
+}
+
+#[test]
+fn a_fetch_has_one_batch_at_least_and_as_many_as_fit() -> Done {
+    let (cluster, mut pass) = led(1)?;
+    for _ in 0..3 {
+        cluster.node(0)?.produce(&mut pass, ONE_RECORD)?;
+    }
+    cluster.node(0)?.raise()?;
+    let size = ONE_RECORD.len() as u32;
+    for (most, count) in [(0, 1), (1, 1), (size, 1), (2 * size - 1, 1), (2 * size, 2), (3 * size - 1, 2), (u32::MAX, 3)] {
+        let found = cluster.node(0)?.fetch(&mut pass, 0, most, Isolation::ReadUncommitted)?;
+        assert_eq!(found.batches.len(), count, "{most} bytes");
+    }
+    let mut found = fetched(&cluster, &mut pass, 1, Isolation::ReadUncommitted)?;
+    let mut answer = b"before".to_vec();
+    while found.batches.append_to(&mut answer)? {}
+    assert_eq!(answer.len(), 6 + 2 * ONE_RECORD.len());
+    assert_eq!((&answer[..6], answer[13], answer[13 + ONE_RECORD.len()]), (&b"before"[..], 1, 2)); // base offsets, in their last bytes
+    assert_eq!(&answer[6 + 16..6 + ONE_RECORD.len()], &ONE_RECORD[16..]);
+    Ok(())
+}
+
+#[test]
+fn a_node_shows_its_state() -> Done {
+    let (cluster, mut pass) = opened(2)?;
+    let fresh = NodeState { life: 0, kept_epoch: None, status: Status::Idle, end: 0, watermark: 0, stable: 0, checkpoint: 0 };
+    assert_eq!(cluster.node(1)?.show()?, fresh);
+    pass.elect(1)?;
+    pass.elect(1)?;
+    cluster.node(0)?.adopt()?;
+    assert_eq!(
+        cluster.node(0)?.show()?,
+        NodeState { kept_epoch: Some(1), status: Status::Plays(Role::Follows { leader: 1, epoch: 1 }), ..fresh }
+    );
+    cluster.node(1)?.adopt()?;
+    for batch in [ONE_RECORD, TRANSACTION] {
+        cluster.node(1)?.produce(&mut pass, batch)?;
+    }
+    for _ in 0..3 {
+        replicate(&cluster, &mut pass, 0)?;
+        cluster.node(1)?.raise()?;
+    }
+    pass.elect(1)?;
+    cluster.node(1)?.adopt()?;
+    cluster.node(1)?.checkpoint()?;
+    cluster.node(1)?.produce(&mut pass, ONE_RECORD)?;
+    let leads = Status::Plays(Role::Leads { epoch: 2, start: 3 });
+    let wanted = NodeState { life: 0, kept_epoch: Some(2), status: leads, end: 4, watermark: 3, stable: 1, checkpoint: 3 };
+    assert_eq!(cluster.node(1)?.show()?, wanted);
+    cluster.node(1)?.stop()?;
+    assert_eq!(cluster.node(1)?.show()?, NodeState { status: Status::Down, ..wanted });
+    cluster.node(1)?.restart()?;
+    assert_eq!(cluster.node(1)?.show()?, NodeState { life: 1, status: Status::Idle, ..wanted });
+    Ok(())
+}
+
+#[test]
+fn a_leader_says_where_an_epoch_ends() -> Done {
+    let (cluster, mut pass) = led(1)?;
+    assert_eq!(cluster.node(0)?.end_for(7)?, None);
+    for epoch in 0..3 {
+        if epoch != 1 {
+            cluster.node(0)?.produce(&mut pass, TRANSACTION)?; // the second one is the first once more
+            cluster.node(0)?.produce(&mut pass, ONE_RECORD)?;
+        }
+        pass.elect(0)?;
+        cluster.node(0)?.adopt()?;
+    }
+    let ends = [(0, 0, 3), (1, 0, 3), (2, 2, 4), (9, 2, 4)];
+    for (asked, epoch, end) in ends {
+        assert_eq!(cluster.node(0)?.end_for(asked)?, Some(EpochEnd { epoch, end }), "of {asked}");
+    }
+    cluster.node(0)?.stop()?;
+    assert_eq!(cluster.node(0)?.end_for(0), Err(Refusal::Down.into()));
+    cluster.node(0)?.restart()?;
+    assert_eq!(cluster.node(0)?.end_for(0), Err(Refusal::NotLeader.into()));
+    Ok(())
+}
+
+#[test]
+fn an_offset_is_found_for_a_time_where_it_is_shown() -> Done {
+    let (cluster, mut pass) = led(1)?;
+    let found = |pass: &mut Pass, time, isolation| cluster.node(0)?.offset_for_time(pass, time, isolation);
+    let marker = Marker { timestamp: 9_000_000_000_000, ..ended(12, true) };
+    cluster.node(0)?.produce(&mut pass, TRANSACTION)?; // at 0 and 1
+    assert_eq!(found(&mut pass, 0, Isolation::ReadUncommitted)?, None);
+    cluster.node(0)?.raise()?;
+    let first = found(&mut pass, 0, Isolation::ReadUncommitted)?;
+    assert_eq!(first.map(|it| it.offset), Some(0));
+    assert_eq!(found(&mut pass, 0, Isolation::ReadCommitted)?, None); // it is open
+    cluster.node(0)?.mark(&mut pass, &marker)?; // at 2
+    assert_eq!(found(&mut pass, marker.timestamp, Isolation::ReadUncommitted)?, None);
+    cluster.node(0)?.raise()?;
+    assert_eq!(found(&mut pass, 0, Isolation::ReadCommitted)?, first);
+    let last = TimeOffset { offset: 2, timestamp: marker.timestamp };
+    for isolation in [Isolation::ReadUncommitted, Isolation::ReadCommitted] {
+        assert_eq!(found(&mut pass, marker.timestamp - 1, isolation)?, Some(last));
+        assert_eq!(found(&mut pass, marker.timestamp + 1, isolation)?, None);
+    }
+    cluster.node(0)?.stop()?;
+    assert_eq!(found(&mut pass, 0, Isolation::ReadUncommitted), Err(Refusal::Down.into()));
+    Ok(())
+}
+
 #[test]
 fn a_log_is_segments() -> Done {
     let limits = Limits { segment_bytes: 2 * ONE_RECORD.len() as u32, ..Limits::default() };
@@ -270,6 +412,7 @@ fn handles_of_two_clusters_are_told_apart() -> Done {
     let request = one.node(1)?.ask()?;
     assert_eq!(other.node(0)?.step(request).err(), Some(Error::OtherCluster));
     assert_eq!(one.node(0)?.read_committed(&mut stranger, 0).err(), Some(Error::OtherCluster));
+    assert_eq!(one.node(0)?.fetch(&mut stranger, 0, 1, Isolation::ReadCommitted).err(), Some(Error::OtherCluster));
     let proposal = one.node(0)?.alter(Change::Leave(1))?;
     assert_eq!(stranger.decide(proposal).err(), Some(Error::OtherCluster));
     Ok(())

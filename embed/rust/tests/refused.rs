@@ -3,10 +3,13 @@
 //! This program has a heap of its own for the library, in place of the kit's: it counts growths, and refuses one of them, or
 //! each so many of the first ones.
 
-use kpart::{Ack, Addressee, Change, Cluster, CommittedRecord, Error, Limits, Marker, Message, Pass, Receipt, Refusal, Workers};
+use kpart::{
+    Ack, Addressee, Change, Cluster, CommittedRecord, Error, Event, Limits, Marker, Message, Pass, Receipt, Refusal, Role, Workers,
+};
 use std::alloc::{Layout, alloc, dealloc, realloc};
 use std::sync::Mutex;
 use std::sync::atomic::{AtomicU64, Ordering};
+use std::sync::mpsc::channel;
 use std::time::Duration;
 
 const ONE_RECORD: &[u8] = include_bytes!("one_record.batch");
@@ -151,8 +154,9 @@ fn serve() -> Result<Vec<Vec<u8>>, Error> {
         again(|| cluster.node(0)?.raise())?;
     }
     for receipt in &receipts {
-        assert_eq!(cluster.node(0)?.acked(&mut pass, receipt)?, Ack::Yes);
+        assert_eq!(cluster.wait_acked(&mut pass, 0, receipt, Duration::ZERO)?, Ack::Yes);
     }
+    assert_eq!(cluster.wait_mark(&mut pass, 1, 20, Duration::ZERO)?, Some(21));
     let proposal = again(|| cluster.node(0)?.alter(Change::Leave(1)))?;
     carry(&cluster, &mut pass, proposal)?;
     cluster.node(0)?.checkpoint()?;
@@ -197,14 +201,13 @@ fn replicated(cluster: &Cluster, batches: u64) -> Result<(), Error> {
     pass.elect(0)?;
     let workers = again(|| again(|| Workers::start(cluster, Duration::from_micros(200))))?;
     let mut appended = 0;
-    while pass.watermark(1)? < batches {
+    while cluster.wait_mark(&mut pass, 1, batches - 1, Duration::from_micros(100))?.is_none() {
         if appended < batches {
             match cluster.node(0)?.produce(&mut pass, ONE_RECORD) {
                 Ok(_) => appended += 1,
                 Err(error) => assert!(error.is_memory() || error == Refusal::NotLeader.into(), "{error}"),
             }
         }
-        std::thread::sleep(Duration::from_micros(100));
     }
     workers.stop();
     Ok(())
@@ -233,6 +236,10 @@ fn comes(mut holds: impl FnMut() -> bool) -> bool {
     })
 }
 
+fn is_of_the_follower(event: &Event) -> bool {
+    matches!(event, Event::Mark { node: 1, .. } | Event::Role { node: 1, .. } | Event::Down { node: 1 })
+}
+
 #[test]
 fn a_fallen_node_starts_again_whatever_comes_before_its_turn() {
     let _alone = ONE_AT_A_TIME.lock().unwrap_or_else(|poisoned| poisoned.into_inner());
@@ -242,7 +249,11 @@ fn a_fallen_node_starts_again_whatever_comes_before_its_turn() {
     pass.elect(0).expect("it is elected");
     node(0).adopt().expect("it leads");
     node(0).produce(&mut pass, ONE_RECORD).expect("it leads");
-    let workers = Workers::start(&cluster, Duration::from_secs(3_600)).expect("there is room");
+    let (told, events) = channel();
+    let hook = move |event| {
+        let _heard = told.send(event);
+    };
+    let workers = Workers::start_with(&cluster, Duration::from_secs(3_600), hook).expect("there is room");
     // Node 1 has asked at its first turn, and taken the answer, so no message is under way.
     assert!(comes(|| node(1).segments().is_ok_and(|mut segments| segments.next().is_some())));
     // So many that their lists grow as node 1 takes them.
@@ -260,7 +271,35 @@ fn a_fallen_node_starts_again_whatever_comes_before_its_turn() {
     let has_fallen = comes(|| node(1).checkpoint() == Err(Refusal::Down.into()));
     EVERY.store(u64::MAX, Ordering::SeqCst);
     assert!(has_fallen, "memory was refused as it took the batch");
+    let follows = Event::Role { node: 1, role: Role::Follows { leader: 0, epoch: 0 } };
+    let heard = || std::iter::from_fn(|| events.recv_timeout(Duration::from_secs(20)).ok()).find(is_of_the_follower);
+    assert_eq!((heard(), heard()), (Some(follows), Some(Event::Down { node: 1 })));
     workers.post(second);
     workers.turn(1);
     assert!(comes(|| node(1).checkpoint().is_ok()), "it is up again");
+    drop(workers);
+    // It is told once that it fell, though more came for it before it was up again.
+    assert_eq!((heard(), heard()), (Some(follows), None));
+}
+
+#[test]
+fn a_refused_start_leaves_nothing() {
+    let _alone = ONE_AT_A_TIME.lock().unwrap_or_else(|poisoned| poisoned.into_inner());
+    let cluster = Cluster::open(3, Limits::default()).expect("there is room");
+    let held = HELD.load(Ordering::SeqCst);
+    let mut refused = 0;
+    loop {
+        GROWTHS.store(0, Ordering::SeqCst);
+        REFUSED.store(refused, Ordering::SeqCst);
+        let started = Workers::start_with(&cluster, Duration::from_secs(3_600), |_| {});
+        REFUSED.store(u64::MAX, Ordering::SeqCst);
+        let error = started.map(Workers::stop).err();
+        assert_eq!(HELD.load(Ordering::SeqCst), held, "all memory came back");
+        match error {
+            Some(error) => assert_eq!(error, Error::NoRoom),
+            None => break,
+        }
+        refused += 1;
+    }
+    assert!(refused >= 4, "a pass for the controller, and one for each node");
 }

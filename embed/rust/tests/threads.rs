@@ -22,6 +22,7 @@ fn what_may_cross_threads() {
     is_send::<kpart::Message>();
     is_send::<kpart::Batches>();
     is_send::<Batch>();
+    is_send::<kpart::Event>();
     is_send::<Workers>();
     is_sync::<Workers>();
 }
@@ -51,14 +52,13 @@ fn put(cluster: &Cluster, pass: &mut Pass) -> Result<Receipt, Error> {
 
 fn is_kept(cluster: &Cluster, pass: &mut Pass, receipt: &Receipt) -> Result<bool, Error> {
     let mut rounds = 0;
-    while rounds < 200 {
+    while rounds < 20 {
         let (leader, epoch) = pass.leadership()?.leader.expect("somebody leads");
-        let ack = cluster.node(leader)?.acked(pass, receipt)?;
+        let ack = cluster.wait_acked(pass, leader, receipt, Duration::from_millis(1))?;
         if ack != Ack::NotYet {
             return Ok(ack == Ack::Yes);
         }
         rounds += u32::from(epoch != receipt.epoch); // maybe no log has it any more
-        pause();
     }
     Ok(false)
 }
