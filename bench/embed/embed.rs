@@ -1,11 +1,12 @@
 //! Times producing and reading through the library's C functions (`embed/kpart.h`), beside a node of plain Rust (`../nodes/node.rs`).
 //!
 //!     embed MIB RUNS                    the table: batches of 100 bytes and of 16 KiB, by one thread and by four
-//!     embed one SIDE BYTES THREADS MIB  nanoseconds of the clock for producing and for reading a batch, and a sum of what was read
+//!     embed one SIDE BYTES THREADS MIB  nanoseconds of the clock for producing, reading and fetching a batch, and a sum of what was read
 //!
 //! SIDE is 0 for the library, 1 for plain Rust. All threads share one node, which is alone in sync. Each produces its share of the
 //! batches from bytes of its own, which the node copies; the last one raises the high watermark. Then each reads the whole log in pieces
-//! of at most 1 MiB, and copies each batch into a buffer, with what the leader has stamped. Each run of a side is a process of its own.
+//! of at most 1 MiB, and copies each batch into a buffer, with what the leader has stamped; and once more as a read-committed consumer's fetch,
+//! with high watermark, last stable offset, log end and the aborted transactions of each piece. Each run of a side is a process of its own.
 
 #![allow(dead_code)]
 
@@ -54,6 +55,9 @@ pub trait Side: Sync {
 
     /// Copies a piece from an offset on, batch by batch, into the buffer, and gives each to `took`; the offset behind it.
     fn read(&self, own: &mut Self::Own, from: u64, buffer: &mut Vec<u8>, took: &mut impl FnMut(&[u8])) -> u64;
+
+    /// The same of a read-committed consumer's fetch; what it tells besides goes into the sum.
+    fn fetch(&self, own: &mut Self::Own, from: u64, buffer: &mut Vec<u8>, took: &mut impl FnMut(&[u8]), told: &mut u64) -> u64;
 }
 
 struct Plain {
@@ -75,13 +79,24 @@ impl Side for Plain {
 
     fn read(&self, _own: &mut (), from: u64, buffer: &mut Vec<u8>, took: &mut impl FnMut(&[u8])) -> u64 {
         let batches = self.node.read(from).expect("batches");
-        for batch in &batches {
-            buffer.clear();
-            buffer.extend_from_slice(batch.bytes());
-            encoder::stamp(buffer, batch.base as i64, batch.epoch.map_or(-1, |epoch| epoch as i32));
-            took(buffer);
-        }
+        copied(&batches, buffer, took);
         from + batches.len() as u64
+    }
+
+    fn fetch(&self, _own: &mut (), from: u64, buffer: &mut Vec<u8>, took: &mut impl FnMut(&[u8]), told: &mut u64) -> u64 {
+        let fetched = self.node.fetch(from).expect("batches");
+        copied(&fetched.batches, buffer, took);
+        *told += fetched.mark + fetched.stable + fetched.end + fetched.aborted.len() as u64;
+        from + fetched.batches.len() as u64
+    }
+}
+
+fn copied(batches: &[decoder::Batch], buffer: &mut Vec<u8>, took: &mut impl FnMut(&[u8])) {
+    for batch in batches {
+        buffer.clear();
+        buffer.extend_from_slice(batch.bytes());
+        encoder::stamp(buffer, batch.base as i64, batch.epoch.map_or(-1, |epoch| epoch as i32));
+        took(buffer);
     }
 }
 
@@ -114,6 +129,14 @@ fn read_all<S: Side>(side: &S, end: u64) -> u64 {
     sum
 }
 
+fn fetch_all<S: Side>(side: &S, end: u64) -> u64 {
+    let (mut own, mut buffer, mut next, mut sum, mut told) = (side.own(), Vec::new(), 0, 0, 0);
+    while next < end {
+        next = side.fetch(&mut own, next, &mut buffer, &mut |bytes| sum += sum_of(bytes), &mut told);
+    }
+    sum + told
+}
+
 fn one<S: Side>(side: &S, size: usize, threads: usize, mib: usize) {
     let bytes = encoder::batch(1_000, 1, size, 0, false);
     let each = (mib << 20) / (size + 128) / threads;
@@ -125,7 +148,9 @@ fn one<S: Side>(side: &S, size: usize, threads: usize, mib: usize) {
     let (producing, count) = timed(threads, produce);
     side.raise();
     let (reading, sum) = timed(threads, || read_all(side, count));
-    println!("{}\n{}\n{sum}", producing / u128::from(count), reading / u128::from(count * threads as u64));
+    let (fetching, told) = timed(threads, || fetch_all(side, count));
+    let each = u128::from(count * threads as u64);
+    println!("{}\n{}\n{}\n{}", producing / u128::from(count), reading / each, fetching / each, sum + told);
 }
 
 fn run_one(words: &[usize]) {
@@ -140,17 +165,17 @@ fn table(mib: usize, runs: usize) {
     println!("bytes   threads  job        library      rust   ratio   (nanoseconds of the clock for one batch)");
     for size in SIZES {
         for threads in THREADS {
-            let mut pairs: Pairs<2> = Pairs::new();
+            let mut pairs: Pairs<3> = Pairs::new();
             let wanted = std::cell::Cell::new(None);
             for _ in 0..runs {
                 pairs.run(|side| {
                     let found: Vec<u64> = alone::numbers(&[&side, &size, &threads, &mib]);
-                    assert_eq!(*wanted.get().get_or_insert(found[2]), found[2], "the sums differ");
-                    wanted.set(Some(found[2]));
-                    [found[0] as f64, found[1] as f64]
+                    assert_eq!(*wanted.get().get_or_insert(found[3]), found[3], "the sums differ");
+                    wanted.set(Some(found[3]));
+                    [found[0] as f64, found[1] as f64, found[2] as f64]
                 });
             }
-            for (job, name) in ["produce", "read"].iter().enumerate() {
+            for (job, name) in ["produce", "read", "fetch"].iter().enumerate() {
                 let [library, rust] = pairs.least(job);
                 println!("{size:<6}  {threads:<7}  {name:<8}  {library:>8.0}  {rust:>8.0}  {:>6.2}", pairs.ratio(job));
             }

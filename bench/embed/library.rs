@@ -32,6 +32,8 @@ unsafe extern "C" {
     fn kp_hand(handed: &mut Handle, bytes: *const u8, length: usize) -> u32;
     fn kp_produce_handed(node: &mut Handle, pass: &mut Handle, handed: &mut Handle, receipt: &mut Out) -> u32;
     fn kp_read(node: &mut Handle, pass: &mut Handle, from: u64, batches: &mut Handle) -> u32;
+    fn kp_fetch(node: &mut Handle, pass: &mut Handle, from: u64, most_bytes: u32, read_committed: bool, fetched: &mut Handle) -> u32;
+    fn kp_fetched(fetched: &mut Handle, found: &mut Out) -> u32;
     fn kp_count(handle: &mut Handle, found: &mut usize) -> u32;
     fn kp_batch_size(batches: &mut Handle, index: usize, size: &mut u32) -> u32;
     fn kp_batch(batches: &mut Handle, index: usize, to: *mut u8, length: usize) -> u32;
@@ -117,20 +119,34 @@ impl Side for Library {
         let mut batches = Handle::closed();
         // SAFETY: two handles are the library's, and of one cluster; the third is closed.
         done(unsafe { kp_read(&mut self.node.lock().expect("a node"), &mut own.pass, from, &mut batches) });
-        let mut count = 0;
-        // SAFETY: the handle is the library's.
-        done(unsafe { kp_count(&mut batches, &mut count) });
-        for index in 0..count {
-            let mut size = 0;
-            // SAFETY: the handle is the library's.
-            done(unsafe { kp_batch_size(&mut batches, index, &mut size) });
-            buffer.resize(size as usize, 0);
-            // SAFETY: the handle is the library's; the pointer and the length are a vector's.
-            done(unsafe { kp_batch(&mut batches, index, buffer.as_mut_ptr(), buffer.len()) });
-            took(buffer);
-        }
-        from + count as u64
+        from + copied(&mut batches, buffer, took)
     }
+
+    fn fetch(&self, own: &mut PassOf, from: u64, buffer: &mut Vec<u8>, took: &mut impl FnMut(&[u8]), told: &mut u64) -> u64 {
+        let (mut fetched, mut found) = (Handle::closed(), Out::default());
+        // SAFETY: two handles are the library's, and of one cluster; the third is closed.
+        done(unsafe { kp_fetch(&mut self.node.lock().expect("a node"), &mut own.pass, from, 1 << 20, true, &mut fetched) });
+        // SAFETY: the handle is the library's.
+        done(unsafe { kp_fetched(&mut fetched, &mut found) });
+        *told += found[..4].iter().sum::<u64>(); // high watermark, last stable offset, log end, how many aborted transactions
+        from + copied(&mut fetched, buffer, took)
+    }
+}
+
+fn copied(batches: &mut Handle, buffer: &mut Vec<u8>, took: &mut impl FnMut(&[u8])) -> u64 {
+    let mut count = 0;
+    // SAFETY: the handle is the library's.
+    done(unsafe { kp_count(batches, &mut count) });
+    for index in 0..count {
+        let mut size = 0;
+        // SAFETY: the handle is the library's.
+        done(unsafe { kp_batch_size(batches, index, &mut size) });
+        buffer.resize(size as usize, 0);
+        // SAFETY: the handle is the library's; the pointer and the length are a vector's.
+        done(unsafe { kp_batch(batches, index, buffer.as_mut_ptr(), buffer.len()) });
+        took(buffer);
+    }
+    count as u64
 }
 
 /// A thread's pass.

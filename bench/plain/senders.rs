@@ -229,6 +229,18 @@ impl Senders {
         open.map_or(mark, |(first, _)| *first).min(mark)
     }
 
+    /// Producer and first offset of the aborted transactions that overlap these offsets, by rising first offset.
+    #[allow(dead_code)]
+    pub fn overlapping(&self, start: u64, end: u64) -> Vec<(i64, u64)> {
+        let from = self.aborted.partition_point(|aborted| aborted.marker < start);
+        let stop = self.aborted[from..].iter().position(|aborted| aborted.stable >= end);
+        let to = stop.map_or(self.aborted.len(), |stop| from + stop + 1);
+        let those = self.aborted[from..to].iter().filter(|aborted| aborted.first < end);
+        let mut found: Vec<(i64, u64)> = those.map(|aborted| (aborted.producer, aborted.first)).collect();
+        found.sort_unstable_by_key(|entry| entry.1);
+        found
+    }
+
     /// Whether a transactional batch belongs to an aborted transaction: the producer's first marker behind it is an abort's.
     pub fn hides(&self, producer: i64, base: u64) -> bool {
         let start = self
