@@ -156,6 +156,32 @@ static void reads_committed(kp_handle *node, client *c) {
     wants("close", kp_close(&records), KP_DONE);
 }
 
+/* What a broker answers a consumer of transactions with: two batches from the client's second one on, and all that the consumer filters
+ * them by; and what the node knows of itself. */
+static void answers_a_consumer(kp_handle *node, client *c, size_t size) {
+    kp_handle fetched = {0};
+    kp_fetched_out found;
+    kp_aborted_out aborted;
+    kp_node_state state;
+    kp_epoch_end end;
+    kp_time_offset time;
+    size_t count;
+    wants("fetch", kp_fetch(node, &c->pass, c->receipts[1].base, (uint32_t)(2 * size), true, &fetched), KP_DONE);
+    wants("fetched", kp_fetched(&fetched, &found), KP_DONE);
+    holds("of one moment", found.watermark == CLIENTS * BATCHES && found.stable == found.watermark && found.end == found.watermark);
+    holds("no transaction was aborted", found.aborted == 0);
+    wants("none", kp_aborted(&fetched, 0, &aborted), KP_OUT_OF_RANGE);
+    wants("count", kp_count(&fetched, &count), KP_DONE);
+    holds("as many as fit", count == 2);
+    wants("close", kp_close(&fetched), KP_DONE);
+    wants("show", kp_show(node, &state), KP_DONE);
+    holds("it leads", state.status == KP_LEADS && state.epoch == 0 && state.adopted && state.kept_epoch == 0);
+    wants("end", kp_end_for(node, 7, &end), KP_DONE);
+    holds("of epoch 0", end.found && end.epoch == 0 && end.end == CLIENTS * BATCHES);
+    wants("time", kp_offset_for_time(node, &c->pass, 0, true, &time), KP_DONE);
+    holds("the first record", time.found && time.offset == 0);
+}
+
 /* The log is one segment, whose file has so many batches. */
 static void has_file(kp_handle *node, size_t wanted) {
     uint8_t name[KP_NAME_BYTES];
@@ -239,6 +265,7 @@ int main(void) {
 
     reads(&nodes[0].node, one, size);
     reads_committed(&nodes[0].node, one);
+    answers_a_consumer(&nodes[0].node, one, size);
 
     kp_handle proposal = {0};
     wants("propose", kp_alter(&nodes[0].node, false, 2, &proposal), KP_DONE);

@@ -25,6 +25,31 @@ pub struct AbortedTransaction {
 /// What one fetch gives, all of one moment. A client that drops control batches and, of the transactional ones, those whose producer has
 /// an entry in `aborted` that begins at or below the batch, until that producer's abort marker, is left with just the batches that a
 /// read-committed consumer is to see: that is proved of the library.
+///
+/// ```
+/// use kpart::{AbortedTransaction, Cluster, Isolation, Limits, Marker};
+///
+/// # fn main() -> Result<(), kpart::Error> {
+/// let cluster = Cluster::open(1, Limits::default())?;
+/// let mut pass = cluster.pass()?;
+/// pass.elect(0)?;
+/// let mut leader = cluster.node(0)?;
+/// leader.adopt()?;
+///
+/// // A batch of producer 13's transaction, which is aborted.
+/// leader.produce(&mut pass, include_bytes!(concat!(env!("CARGO_MANIFEST_DIR"), "/tests/aborted.batch")))?;
+/// let marker = Marker { producer_id: 13, producer_epoch: 0, coordinator_epoch: 0, timestamp: 1_000, commits: false };
+/// leader.mark(&mut pass, &marker)?;
+/// leader.raise()?;
+///
+/// let mut fetched = leader.fetch(&mut pass, 0, 1_048_576, Isolation::ReadCommitted)?;
+/// assert_eq!((fetched.watermark, fetched.stable, fetched.end), (2, 2, 2));
+/// assert_eq!(fetched.aborted, [AbortedTransaction { producer_id: 13, first: 0 }]);
+/// let mut answer = Vec::new(); // of a broker: the batches, one behind another
+/// while fetched.batches.append_to(&mut answer)? {}
+/// # assert!(answer.len() > 100);
+/// # Ok(()) }
+/// ```
 #[derive(Debug)]
 pub struct Fetched {
     /// The batches, in the order of the log.

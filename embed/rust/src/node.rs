@@ -129,6 +129,24 @@ impl<'a> Node<'a> {
     }
 
     /// The node's state, as it knows itself; also of a node that is down. No memory; O(log n) in the open transactions.
+    ///
+    /// ```
+    /// use kpart::{Cluster, Isolation, Limits, Role, Status};
+    ///
+    /// # fn main() -> Result<(), kpart::Error> {
+    /// let cluster = Cluster::open(2, Limits::default())?;
+    /// let mut pass = cluster.pass()?;
+    /// pass.elect(1)?;
+    /// let mut node = cluster.node(1)?;
+    /// assert_eq!(node.show()?.status, Status::Idle); // it doesn't know yet
+    /// node.adopt()?;
+    /// assert_eq!(node.show()?.status, Status::Plays(Role::Leads { epoch: 0, start: 0 }));
+    /// assert_eq!(node.end_for(0)?, None); // no batch of the epoch stands there
+    /// assert_eq!(node.offset_for_time(&mut pass, 0, Isolation::ReadCommitted)?, None);
+    /// node.stop()?;
+    /// assert_eq!(node.show()?.status, Status::Down);
+    /// # Ok(()) }
+    /// ```
     pub fn show(&mut self) -> Result<NodeState, Error> {
         self.raw.show().map(NodeState::from)
     }

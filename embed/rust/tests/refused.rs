@@ -4,7 +4,8 @@
 //! each so many of the first ones.
 
 use kpart::{
-    Ack, Addressee, Change, Cluster, CommittedRecord, Error, Event, Limits, Marker, Message, Pass, Receipt, Refusal, Role, Workers,
+    AbortedTransaction, Ack, Addressee, Change, Cluster, CommittedRecord, EpochEnd, Error, Event, Isolation, Limits, Marker, Message, Pass,
+    Receipt, Refusal, Role, Workers,
 };
 use std::alloc::{Layout, alloc, dealloc, realloc};
 use std::sync::Mutex;
@@ -13,6 +14,8 @@ use std::sync::mpsc::channel;
 use std::time::Duration;
 
 const ONE_RECORD: &[u8] = include_bytes!("one_record.batch");
+// Of producer 13's transaction: one record.
+const ABORTED: &[u8] = include_bytes!("aborted.batch");
 const HEAD: usize = 32; // before each block stands its size
 const FIRST: u64 = 1_000;
 
@@ -169,7 +172,24 @@ fn serve() -> Result<Vec<Vec<u8>>, Error> {
     assert_eq!(all_read(&cluster, &mut pass, 1)?, all);
     assert_eq!(all_committed(&cluster, &mut pass)?.len(), 20);
     assert_eq!(all_kept(&cluster)?, all);
+    fetches(&cluster, &mut pass)?;
     Ok(all)
+}
+
+// A transaction more, which is aborted, and what a consumer's fetch tells then.
+fn fetches(cluster: &Cluster, pass: &mut Pass) -> Result<(), Error> {
+    again(|| cluster.node(0)?.produce(pass, ABORTED))?;
+    let marker = Marker { producer_id: 13, producer_epoch: 0, coordinator_epoch: 0, timestamp: 1_000, commits: false };
+    again(|| cluster.node(0)?.mark(pass, &marker))?;
+    cluster.node(0)?.raise()?;
+    let fetched = again(|| cluster.node(0)?.fetch(pass, 0, u32::MAX, Isolation::ReadCommitted))?;
+    let aborted = vec![AbortedTransaction { producer_id: 13, first: 21 }];
+    assert_eq!((fetched.batches.len(), fetched.aborted, fetched.stable), (23, aborted, 23));
+    assert_eq!(cluster.node(0)?.show()?.end, 23);
+    assert_eq!(cluster.node(0)?.end_for(0)?, Some(EpochEnd { epoch: 0, end: 21 }));
+    let last = cluster.node(0)?.offset_for_time(pass, 0, Isolation::ReadCommitted)?;
+    assert_eq!(last.map(|it| it.offset), Some(0));
+    Ok(())
 }
 
 fn counted() -> (u64, Vec<Vec<u8>>) {
