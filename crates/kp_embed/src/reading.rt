@@ -64,13 +64,5 @@ pub extern "C" fn kp_fetch(
         × FetchCalled from most_bytes read_committed node.old.object node.new.object pass.old.object pass.new.object fetched.old.object fetched.new.object answer }
     ensures cluster { (node.new.table ≡ node.old.table) × (pass.new.table ≡ pass.old.table) }
 {
-    number(fetch::<Brand>(
-        alloc,
-        node,
-        pass,
-        from,
-        most_bytes,
-        read_committed,
-        fetched,
-    ))
+    number(fetch::<Brand>(alloc, node, pass, from, most_bytes, read_committed, fetched))
 }
