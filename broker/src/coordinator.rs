@@ -1,0 +1,319 @@
+//! The transaction coordinator's state, in memory: ids, epochs, and markers that are handed in until they are committed.
+//!
+//! One thread at a time ends a transaction: a second marker that came late could end the producer's next one.
+
+use crate::codes::code;
+use crate::hub::Hub;
+use crate::lock;
+use crate::members::CommittedOffset;
+use crate::partition::Waited;
+use crate::reply::Passes;
+use kpart::{Error, Marker, Refusal};
+use kwire::ErrorCode;
+use std::collections::{BTreeSet, HashMap};
+use std::sync::Mutex;
+use std::sync::atomic::Ordering::SeqCst;
+use std::time::{Duration, Instant, SystemTime, UNIX_EPOCH};
+
+/// Kafka's `transaction.max.timeout.ms`.
+const LONGEST: i32 = 900_000;
+/// For so long markers are handed in again, before the client is told to try again.
+const ENDING: Duration = Duration::from_secs(30);
+/// The same where nobody waits for it.
+const EXPIRING: Duration = Duration::from_secs(2);
+/// How often a marker is tried where nothing has changed.
+const RETRY: Duration = Duration::from_millis(20);
+/// The longest transactional id.
+const LONGEST_ID: usize = 1_000;
+/// The most offsets that a transaction keeps.
+const MOST_OFFSETS: usize = 1_000;
+/// The greatest epoch that a producer is given; behind it comes a new producer id.
+const LAST_EPOCH: i16 = i16::MAX - 1;
+
+/// All transactional ids.
+pub struct Transactions {
+    most: usize,
+    all: Mutex<HashMap<String, Transaction>>,
+}
+
+/// Offsets of a group that are kept once their transaction commits.
+#[derive(Clone, Debug)]
+pub struct PendingOffset {
+    /// The group.
+    pub group: String,
+    /// The partition's place.
+    pub place: usize,
+    /// What is committed.
+    pub offset: CommittedOffset,
+}
+
+#[derive(Clone, Copy, PartialEq, Eq)]
+enum State {
+    Empty,
+    Open,
+    /// Markers are to be handed in; somebody does so where it is busy.
+    Ending {
+        commits: bool,
+        busy: bool,
+    },
+    Ended {
+        commits: bool,
+    },
+}
+
+struct Transaction {
+    producer_id: i64,
+    epoch: i16,
+    timeout: Duration,
+    state: State,
+    since: Instant,
+    partitions: BTreeSet<usize>,
+    offsets: Vec<PendingOffset>,
+}
+
+/// A producer's id and epoch.
+pub type Producer = (i64, i16);
+
+/// A transaction that somebody has begun to end.
+struct Ending {
+    producer: Producer,
+    commits: bool,
+    partitions: Vec<usize>,
+}
+
+impl Transaction {
+    /// Begins to end it, if nobody does.
+    fn ending(&mut self, commits: bool) -> Ending {
+        self.state = State::Ending { commits, busy: true };
+        Ending { producer: (self.producer_id, self.epoch), commits, partitions: self.partitions.iter().copied().collect() }
+    }
+
+    /// Fences the producer that has begun it, and aborts.
+    fn fenced(&mut self) -> Ending {
+        self.epoch = self.epoch.saturating_add(1);
+        self.ending(false)
+    }
+
+    /// Opens it, where it isn't open.
+    fn open(&mut self) -> Result<(), ErrorCode> {
+        match self.state {
+            State::Ending { .. } => return Err(ErrorCode::ConcurrentTransactions),
+            State::Open => {}
+            State::Empty | State::Ended { .. } => (self.state, self.since) = (State::Open, Instant::now()),
+        }
+        Ok(())
+    }
+}
+
+impl Transactions {
+    /// At most so many ids.
+    pub fn new(most: usize) -> Transactions {
+        Transactions { most, all: Mutex::default() }
+    }
+
+    /// How many ids there are, and how many of their transactions are open or ending.
+    pub fn count(&self) -> (usize, usize) {
+        let all = lock(&self.all);
+        (all.len(), all.values().filter(|it| matches!(it.state, State::Open | State::Ending { .. })).count())
+    }
+
+    fn with<T>(&self, id: &str, producer: Producer, act: impl FnOnce(&mut Transaction) -> Result<T, ErrorCode>) -> Result<T, ErrorCode> {
+        let mut all = lock(&self.all);
+        let found = all.get_mut(id).ok_or(ErrorCode::InvalidProducerIdMapping)?;
+        if found.producer_id != producer.0 {
+            return Err(ErrorCode::InvalidProducerIdMapping);
+        }
+        if found.epoch != producer.1 {
+            return Err(ErrorCode::InvalidProducerEpoch);
+        }
+        act(found)
+    }
+
+    /// Partitions join the transaction, which is opened.
+    pub fn add(&self, id: &str, producer: Producer, places: &[usize]) -> Result<(), ErrorCode> {
+        self.with(id, producer, |it| {
+            it.open()?;
+            it.partitions.extend(places);
+            Ok(())
+        })
+    }
+
+    /// Keeps a group's offsets until the transaction ends.
+    pub fn keep_offsets(&self, id: &str, producer: Producer, offsets: Vec<PendingOffset>) -> Result<(), ErrorCode> {
+        self.with(id, producer, |it| match it.state {
+            State::Open => {
+                for new in offsets {
+                    it.offsets.retain(|old| (old.place, &old.group) != (new.place, &new.group));
+                    if it.offsets.len() >= MOST_OFFSETS {
+                        return Err(ErrorCode::InvalidCommitOffsetSize);
+                    }
+                    it.offsets.push(new);
+                }
+                Ok(())
+            }
+            State::Ending { .. } => Err(ErrorCode::ConcurrentTransactions),
+            State::Empty | State::Ended { .. } => Err(ErrorCode::InvalidTxnState),
+        })
+    }
+
+    /// Whether a transaction has offsets of the group for the partition, of which isn't known yet whether they count.
+    pub fn has_pending(&self, group: &str, place: usize) -> bool {
+        lock(&self.all).values().any(|it| it.offsets.iter().any(|it| it.place == place && it.group == group))
+    }
+}
+
+fn fresh(hub: &Hub) -> i64 {
+    i64::try_from(hub.next_producer.fetch_add(1, SeqCst)).unwrap_or(i64::MAX)
+}
+
+/// What InitProducerId answers. A transaction that is open is aborted first, and whoever began it is fenced.
+pub fn init(hub: &Hub, passes: &mut Passes, id: Option<&str>, timeout_ms: i32, own: Option<Producer>) -> Result<Producer, ErrorCode> {
+    let Some(id) = id else { return Ok((fresh(hub), 0)) };
+    if id.is_empty() || id.len() > LONGEST_ID {
+        return Err(ErrorCode::InvalidRequest);
+    }
+    if !(1..=LONGEST).contains(&timeout_ms) {
+        return Err(ErrorCode::InvalidTransactionTimeout);
+    }
+    let timeout = Duration::from_millis(u64::from(timeout_ms.unsigned_abs()));
+    let mut own = own;
+    loop {
+        match begin(hub, id, timeout, own)? {
+            Begun::Ready(producer) => return Ok(producer),
+            Begun::Aborts(ending) => complete(hub, passes, id, &ending, Instant::now() + ENDING)?,
+        }
+        own = None; // it was looked at, and the epoch has been raised since
+    }
+}
+
+enum Begun {
+    Ready(Producer),
+    Aborts(Ending),
+}
+
+fn begin(hub: &Hub, id: &str, timeout: Duration, own: Option<Producer>) -> Result<Begun, ErrorCode> {
+    let transactions = &hub.transactions;
+    let mut all = lock(&transactions.all);
+    let count = all.len();
+    let Some(found) = all.get_mut(id) else {
+        if count >= transactions.most {
+            return Err(ErrorCode::InvalidRequest);
+        }
+        let (state, since) = (State::Empty, Instant::now());
+        let (partitions, offsets) = (BTreeSet::new(), Vec::new());
+        let new = Transaction { producer_id: fresh(hub), epoch: 0, timeout, state, since, partitions, offsets };
+        let producer = (new.producer_id, new.epoch);
+        all.insert(id.to_string(), new);
+        return Ok(Begun::Ready(producer));
+    };
+    if own.is_some_and(|it| it != (found.producer_id, found.epoch)) {
+        return Err(ErrorCode::InvalidProducerEpoch);
+    }
+    match found.state {
+        State::Ending { busy: true, .. } => return Err(ErrorCode::ConcurrentTransactions),
+        State::Ending { commits, busy: false } => return Ok(Begun::Aborts(found.ending(commits))),
+        State::Open => return Ok(Begun::Aborts(found.fenced())),
+        State::Empty | State::Ended { .. } => {}
+    }
+    if found.epoch >= LAST_EPOCH {
+        (found.producer_id, found.epoch) = (fresh(hub), 0);
+    } else {
+        found.epoch += 1;
+    }
+    (found.state, found.timeout) = (State::Empty, timeout);
+    Ok(Begun::Ready((found.producer_id, found.epoch)))
+}
+
+/// What EndTxn answers. The same end again is no fault.
+pub fn end(hub: &Hub, passes: &mut Passes, id: &str, producer: Producer, commits: bool) -> Result<(), ErrorCode> {
+    let ending = hub.transactions.with(id, producer, |it| match it.state {
+        State::Open => Ok(Some(it.ending(commits))),
+        State::Ending { commits: before, busy } if before == commits => {
+            if busy {
+                Err(ErrorCode::ConcurrentTransactions)
+            } else {
+                Ok(Some(it.ending(commits)))
+            }
+        }
+        State::Ended { commits: before } if before == commits => Ok(None),
+        State::Empty | State::Ending { .. } | State::Ended { .. } => Err(ErrorCode::InvalidTxnState),
+    })?;
+    match ending {
+        Some(ending) => complete(hub, passes, id, &ending, Instant::now() + ENDING),
+        None => Ok(()),
+    }
+}
+
+/// Hands the markers of all partitions in, and then lets the group's offsets count.
+fn complete(hub: &Hub, passes: &mut Passes, id: &str, ending: &Ending, until: Instant) -> Result<(), ErrorCode> {
+    let marked = ending.partitions.iter().try_for_each(|place| mark(hub, passes, *place, ending, until));
+    let mut all = lock(&hub.transactions.all);
+    let Some(found) = all.get_mut(id) else { return marked };
+    let commits = ending.commits;
+    if marked.is_err() {
+        found.state = State::Ending { commits, busy: false };
+        return marked;
+    }
+    found.state = State::Ended { commits };
+    found.partitions.clear();
+    let offsets = std::mem::take(&mut found.offsets);
+    if commits {
+        hub.groups.put(offsets);
+    }
+    marked
+}
+
+fn now_ms() -> u64 {
+    let since = SystemTime::now().duration_since(UNIX_EPOCH).unwrap_or_default();
+    u64::try_from(since.as_millis()).unwrap_or_default()
+}
+
+/// Hands a marker in at whoever leads, until it is committed. One more of the same transaction ends nothing.
+fn mark(hub: &Hub, passes: &mut Passes, place: usize, ending: &Ending, until: Instant) -> Result<(), ErrorCode> {
+    let partition = hub.partitions.get(place).ok_or(ErrorCode::UnknownTopicOrPartition)?;
+    let marker = Marker {
+        producer_id: u64::try_from(ending.producer.0).map_err(|_| ErrorCode::InvalidProducerIdMapping)?,
+        producer_epoch: u16::try_from(ending.producer.1).map_err(|_| ErrorCode::InvalidProducerEpoch)?,
+        coordinator_epoch: 0,
+        timestamp: now_ms(),
+        commits: ending.commits,
+    };
+    while Instant::now() < until && !hub.is_closing() {
+        let count = hub.news.count();
+        let pass = passes.of(hub, place)?;
+        let leader = pass.leadership().map_err(code)?.leader.map(|it| it.0);
+        if let Some(leader) = leader.filter(|it| hub.is_up(*it)) {
+            let handed = partition.cluster.node(leader).and_then(|mut it| it.mark(pass, &marker));
+            match handed {
+                Ok(receipt) => {
+                    partition.nudge(leader);
+                    let taken = (&receipt, Some(receipt.epoch));
+                    if partition.wait_acked(pass, leader, taken, until, || !hub.is_up(leader)) == Waited::Committed {
+                        return Ok(());
+                    }
+                }
+                Err(Error::Refused(Refusal::NotLeader | Refusal::Down)) => {}
+                Err(error) if error.is_memory() => {}
+                Err(error) => return Err(code(error)),
+            }
+        }
+        hub.news.wait(count, until.min(Instant::now() + RETRY));
+    }
+    Err(ErrorCode::CoordinatorNotAvailable)
+}
+
+/// Aborts transactions that are open for too long, and ends those whose end nobody waits for any more.
+pub fn expire(hub: &Hub, passes: &mut Passes) {
+    let mut late = Vec::new();
+    for (id, it) in lock(&hub.transactions.all).iter_mut() {
+        match it.state {
+            State::Open if it.since.elapsed() > it.timeout => late.push((id.clone(), it.fenced())),
+            State::Ending { commits, busy: false } => late.push((id.clone(), it.ending(commits))),
+            _ => {}
+        }
+    }
+    for (id, ending) in late {
+        // A later look tries again.
+        let _ended = complete(hub, passes, &id, &ending, Instant::now() + EXPIRING);
+    }
+}

@@ -1,0 +1,90 @@
+//! ListOffsets and OffsetForLeaderEpoch.
+
+use crate::codes::code;
+use crate::fetch::isolation;
+use crate::partition::check_epoch;
+use crate::reply::{Call, Close, Reply};
+use kpart::Isolation;
+use kwire::ErrorCode;
+use kwire::offsets::list_offsets::{
+    EARLIEST, LATEST, ListOffsetsPartition, ListOffsetsRequest, ListOffsetsResponse, ListedPartition, ListedTopic,
+};
+use kwire::offsets::offset_for_leader_epoch::{
+    EpochEnd, EpochEndTopic, EpochPartition, OffsetForLeaderEpochRequest, OffsetForLeaderEpochResponse,
+};
+
+fn signed(number: u64) -> i64 {
+    i64::try_from(number).unwrap_or(i64::MAX)
+}
+
+fn epoch_number(epoch: u32) -> i32 {
+    i32::try_from(epoch).unwrap_or(-1)
+}
+
+/// Offsets by time, or the log's ends.
+pub fn list_offsets(call: &mut Call<'_>, request: &ListOffsetsRequest<'_>, reply: Reply<'_>) -> Result<(), Close> {
+    let isolation = isolation(request.isolation_level);
+    let mut topics = Vec::with_capacity(request.topics.len());
+    for topic in &request.topics {
+        let mut partitions = Vec::with_capacity(topic.partitions.len());
+        for asked in &topic.partitions {
+            let found = call.check_failing().and_then(|()| listed(call, topic.name, asked, isolation).map_err(i16::from));
+            let fault = |error_code| ListedPartition { error_code, ..ListedPartition::default() };
+            let listed = found.unwrap_or_else(fault);
+            partitions.push(ListedPartition { partition_index: asked.partition_index, ..listed });
+        }
+        topics.push(ListedTopic { name: topic.name, partitions });
+    }
+    reply.send(&ListOffsetsResponse { throttle_time_ms: 0, topics })
+}
+
+fn listed(call: &mut Call<'_>, topic: &str, asked: &ListOffsetsPartition, isolation: Isolation) -> Result<ListedPartition, ErrorCode> {
+    let place = call.hub.find(topic, asked.partition_index)?;
+    let partition = call.hub.partitions.get(place).ok_or(ErrorCode::UnknownTopicOrPartition)?;
+    let pass = call.passes.of(call.hub, place)?;
+    let mut node = partition.cluster.node(call.node).map_err(code)?;
+    let state = node.show().map_err(code)?;
+    let epoch = check_epoch(&state, asked.current_leader_epoch)?;
+    let of = |offset| ListedPartition { offset, leader_epoch: epoch_number(epoch), ..ListedPartition::default() };
+    match asked.timestamp {
+        LATEST if isolation == Isolation::ReadCommitted => Ok(of(signed(state.stable))),
+        LATEST => Ok(of(signed(state.watermark))),
+        EARLIEST => Ok(ListedPartition { offset: 0, ..ListedPartition::default() }),
+        time => {
+            let time = u64::try_from(time).map_err(|_| ErrorCode::UnsupportedVersion)?;
+            let found = node.offset_for_time(pass, time, isolation).map_err(code)?;
+            let one = |it: kpart::TimeOffset| ListedPartition {
+                timestamp: signed(it.timestamp),
+                offset: signed(it.offset),
+                ..ListedPartition::default()
+            };
+            Ok(found.map(one).unwrap_or_default())
+        }
+    }
+}
+
+/// Where an epoch ends in the leader's log.
+pub fn offset_for_leader_epoch(call: &mut Call<'_>, request: &OffsetForLeaderEpochRequest<'_>, reply: Reply<'_>) -> Result<(), Close> {
+    let mut topics = Vec::with_capacity(request.topics.len());
+    for topic in &request.topics {
+        let mut partitions = Vec::with_capacity(topic.partitions.len());
+        for asked in &topic.partitions {
+            let found = call.check_failing().and_then(|()| epoch_end(call, topic.topic, asked).map_err(i16::from));
+            let fault = |error_code| EpochEnd { error_code, ..EpochEnd::default() };
+            partitions.push(EpochEnd { partition: asked.partition, ..found.unwrap_or_else(fault) });
+        }
+        topics.push(EpochEndTopic { topic: topic.topic, partitions });
+    }
+    reply.send(&OffsetForLeaderEpochResponse { throttle_time_ms: 0, topics })
+}
+
+fn epoch_end(call: &Call<'_>, topic: &str, asked: &EpochPartition) -> Result<EpochEnd, ErrorCode> {
+    let place = call.hub.find(topic, asked.partition)?;
+    let partition = call.hub.partitions.get(place).ok_or(ErrorCode::UnknownTopicOrPartition)?;
+    let mut node = partition.cluster.node(call.node).map_err(code)?;
+    check_epoch(&node.show().map_err(code)?, asked.current_leader_epoch)?;
+    let Ok(epoch) = u32::try_from(asked.leader_epoch) else { return Ok(EpochEnd::default()) };
+    let found = node.end_for(epoch).map_err(code)?;
+    let one = |it: kpart::EpochEnd| EpochEnd { leader_epoch: epoch_number(it.epoch), end_offset: signed(it.end), ..EpochEnd::default() };
+    Ok(found.map(one).unwrap_or_default())
+}

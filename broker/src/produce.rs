@@ -1,0 +1,224 @@
+//! Produce: the reading thread appends, the answering thread waits until batches are committed.
+
+use crate::codes::code;
+use crate::connection::Header;
+use crate::hub::Hub;
+use crate::partition::Waited;
+use crate::reply::{Close, Passes, Reply};
+use crate::{lock, requests};
+use kpart::{Batch, Pass, Receipt};
+use kwire::batch::mended;
+use kwire::produce::{ProduceRequest, ProduceResponse, ProducedPartition, ProducedTopic};
+use kwire::{ErrorCode, Message, Reader, api};
+use std::sync::Mutex;
+use std::sync::atomic::Ordering::SeqCst;
+use std::time::{Duration, Instant};
+
+/// The longest that a producer may have its answer wait.
+const LONGEST: i32 = 600_000;
+
+/// The passes to which a connection's receipts come, by partition.
+pub struct Producer {
+    passes: Vec<Mutex<Option<Pass>>>,
+}
+
+impl Producer {
+    /// With no pass yet.
+    pub fn new(hub: &Hub) -> Producer {
+        Producer { passes: hub.partitions.iter().map(|_| Mutex::default()).collect() }
+    }
+}
+
+/// A Produce whose batches were handed in.
+pub struct Produced {
+    /// The request's header.
+    pub header: Header,
+    acks: i16,
+    until: Instant,
+    topics: Vec<(String, Vec<Part>)>,
+}
+
+/// What became of a batch: that it was taken, or the code that is answered.
+struct Part {
+    index: i32,
+    came: Result<Taken, i16>,
+}
+
+/// A batch that the node has taken.
+struct Taken {
+    /// The partition's place.
+    place: usize,
+    receipt: Receipt,
+    /// The leader epoch in which it was handed in. That of a duplicate's receipt may be an earlier one.
+    epoch: Option<u32>,
+}
+
+/// Hands all batches of a Produce in.
+pub fn append(
+    hub: &Hub,
+    node: u8,
+    producer: &Producer,
+    batch: &mut Option<Batch>,
+    header: Header,
+    reader: &mut Reader<'_>,
+) -> Result<Produced, Close> {
+    requests::check_version(header.key, header.version)?;
+    let request = ProduceRequest::decode(reader, header.version)?;
+    let failing = hub.failure(api::PRODUCE.key);
+    let mut topics = Vec::with_capacity(request.topic_data.len());
+    for topic in &request.topic_data {
+        let mut parts = Vec::with_capacity(topic.partition_data.len());
+        for it in &topic.partition_data {
+            let came = match failing {
+                Some(code) => Err(code),
+                None => {
+                    let bytes = it.records.whole().unwrap_or_default();
+                    append_one(hub, node, producer, batch, request.acks, (topic.name, it.index), bytes).map_err(i16::from)
+                }
+            };
+            parts.push(Part { index: it.index, came });
+        }
+        topics.push((topic.name.to_string(), parts));
+    }
+    let wait = Duration::from_millis(u64::from(request.timeout_ms.clamp(1, LONGEST).unsigned_abs()));
+    Ok(Produced { header, acks: request.acks, until: header.came + wait, topics })
+}
+
+/// Hands one batch to the node, which says whether it takes it.
+fn append_one(
+    hub: &Hub,
+    node: u8,
+    producer: &Producer,
+    batch: &mut Option<Batch>,
+    acks: i16,
+    (topic, index): (&str, i32),
+    bytes: &[u8],
+) -> Result<Taken, ErrorCode> {
+    if !(-1..=1).contains(&acks) {
+        return Err(ErrorCode::InvalidRequiredAcks);
+    }
+    let place = hub.find(topic, index)?;
+    let (Some(partition), Some(slot)) = (hub.partitions.get(place), producer.passes.get(place)) else {
+        return Err(ErrorCode::UnknownTopicOrPartition);
+    };
+    let batch = handed(batch, bytes)?;
+    let mut slot = lock(slot);
+    let pass = match &mut *slot {
+        Some(pass) => pass,
+        empty => empty.insert(partition.cluster.pass().map_err(code)?),
+    };
+    check_in_sync(hub, pass, acks)?;
+    let receipt = partition.cluster.node(node).and_then(|mut it| it.produce_batch(pass, batch)).map_err(code)?;
+    drop(slot);
+    hub.counts.batches.fetch_add(1, SeqCst);
+    hub.counts.duplicates.fetch_add(receipt.duplicate.into(), SeqCst);
+    partition.nudge(node);
+    let epoch = if receipt.duplicate { partition.led(node) } else { Some(receipt.epoch) };
+    Ok(Taken { place, receipt, epoch })
+}
+
+/// The bytes as the library's batch, whose memory is used again. A batch of the kind that sarama writes is mended first.
+fn handed<'b>(batch: &'b mut Option<Batch>, bytes: &[u8]) -> Result<&'b mut Batch, ErrorCode> {
+    let mended = mended(bytes);
+    let bytes = mended.as_deref().unwrap_or(bytes);
+    match batch {
+        Some(it) => {
+            it.set(bytes).map_err(code)?;
+            Ok(it)
+        }
+        empty => Ok(empty.insert(Batch::new(bytes).map_err(code)?)),
+    }
+}
+
+/// Kafka's `min.insync.replicas`, which acks all ask for.
+fn check_in_sync(hub: &Hub, pass: &mut Pass, acks: i16) -> Result<(), ErrorCode> {
+    if acks != -1 || hub.options.min_insync <= 1 {
+        return Ok(());
+    }
+    let record = pass.leadership().map_err(code)?;
+    let count = record.in_sync.iter().filter(|it| **it).count();
+    if count < usize::from(hub.options.min_insync) { Err(ErrorCode::NotEnoughReplicas) } else { Ok(()) }
+}
+
+/// Waits as the producer's acks say, and answers.
+pub fn answer(
+    hub: &Hub,
+    node: u8,
+    producer: &Producer,
+    passes: &mut Passes,
+    produced: &Produced,
+    is_off: &dyn Fn() -> bool,
+    reply: Reply<'_>,
+) -> Result<(), Close> {
+    let mut responses = Vec::with_capacity(produced.topics.len());
+    let mut is_refused = false;
+    for (name, parts) in &produced.topics {
+        let mut partition_responses = Vec::with_capacity(parts.len());
+        for part in parts {
+            let became = became(hub, producer, passes, produced, part, (node, is_off))?;
+            is_refused |= became.is_err();
+            partition_responses.push(ProducedPartition {
+                index: part.index,
+                error_code: became.err().unwrap_or_default(),
+                base_offset: became.unwrap_or(-1),
+                log_start_offset: if became.is_ok() { 0 } else { -1 },
+                ..ProducedPartition::default()
+            });
+        }
+        responses.push(ProducedTopic { name, partition_responses });
+    }
+    if produced.acks == 0 {
+        // Nobody is told otherwise.
+        return if is_refused { Err(Close::because("a batch of acks 0 was refused")) } else { Ok(()) };
+    }
+    hub.wait_released(node, is_off);
+    if is_off() {
+        return Err(Close::Quiet);
+    }
+    reply.send(&ProduceResponse { responses, throttle_time_ms: 0 })
+}
+
+/// The offset that the producer is told, or the code.
+fn became(
+    hub: &Hub,
+    producer: &Producer,
+    passes: &mut Passes,
+    produced: &Produced,
+    part: &Part,
+    (node, is_off): (u8, &dyn Fn() -> bool),
+) -> Result<Result<i64, i16>, Close> {
+    let taken = match &part.came {
+        Ok(taken) => taken,
+        Err(code) => return Ok(Err(*code)),
+    };
+    let base = i64::try_from(taken.receipt.base).unwrap_or(-1);
+    let Some(partition) = hub.partitions.get(taken.place).filter(|_| produced.acks == -1) else { return Ok(Ok(base)) };
+    let not_leader = ErrorCode::NotLeaderOrFollower;
+    if taken.epoch.is_some_and(|it| passes.is_refused(taken.place, it)) {
+        return Ok(Err(not_leader.into()));
+    }
+    let waited = match taken_over(hub, producer, passes, taken.place) {
+        Ok(pass) => partition.wait_acked(pass, node, (&taken.receipt, taken.epoch), produced.until, is_off),
+        Err(code) => Waited::Failed(code),
+    };
+    match waited {
+        Waited::Committed => Ok(Ok(base)),
+        Waited::Failed(code) => {
+            if let Some(epoch) = taken.epoch.filter(|_| code == not_leader) {
+                passes.refuse(taken.place, epoch);
+            }
+            Ok(Err(code.into()))
+        }
+        Waited::Down => Err(Close::Quiet),
+    }
+}
+
+/// The answering thread's pass, with the receipts of the reading thread's, which goes on meanwhile.
+fn taken_over<'p>(hub: &Hub, producer: &Producer, passes: &'p mut Passes, place: usize) -> Result<&'p mut Pass, ErrorCode> {
+    let pass = passes.of(hub, place)?;
+    let slot = producer.passes.get(place).ok_or(ErrorCode::UnknownTopicOrPartition)?;
+    if let Some(from) = &mut *lock(slot) {
+        pass.take_receipts(from).map_err(code)?;
+    }
+    Ok(pass)
+}
