@@ -10,6 +10,7 @@ import time
 
 from confluent_kafka import Consumer, KafkaException, Producer, TopicPartition
 from host import LONG, QUICK, Host, check
+from reading import read
 
 STEPS, CHANCE = int(sys.argv[1]), random.Random(int(sys.argv[2]) if len(sys.argv) > 2 else 1)
 HOST = Host()
@@ -22,24 +23,10 @@ def producer(name, **more):
     return made
 
 
-def read(isolation):
+def all_shown(isolation):
     """The values that a consumer is shown; fetches are small, so that lists of aborted transactions come in pieces."""
-    consumer = Consumer({"bootstrap.servers": HOST.bootstrap, "group.id": isolation, "enable.partition.eof": True,
-                         "isolation.level": isolation, "message.max.bytes": 2000, "fetch.message.max.bytes": 2000,
-                         "fetch.max.bytes": 2000, **QUICK})
-    consumer.assign([TopicPartition(HOST.topic, 0, 0)])
-    found, end = [], time.time() + LONG
-    while time.time() < end:
-        message = consumer.poll(1.0)
-        if message is None:
-            continue
-        if message.error():
-            if message.error().name() == "_PARTITION_EOF":
-                break
-            continue
-        found.append(message.value().decode())
-    consumer.close()
-    return found
+    return read(HOST.bootstrap, HOST.topic, isolation, **{"message.max.bytes": 2000, "fetch.message.max.bytes": 2000,
+                                                          "fetch.max.bytes": 2000})
 
 
 def produce(made, value):
@@ -96,15 +83,15 @@ def random_transactions():
         if CHANCE.random() < 0.015:
             move_leader()
     check("the plain producer's are acknowledged", plain.flush(LONG) == 0)
-    shown = read("read_committed")
+    shown = all_shown("read_committed")
     check("while some are open, nothing else is shown", set(shown) <= set(WANTED) and len(set(shown)) == len(shown))
     for one, part in made:
         if part:
             flush(one)
             one.abort_transaction(LONG)
-    shown = read("read_committed")
+    shown = all_shown("read_committed")
     check("all that was committed is shown, and nothing else", sorted(shown) == sorted(WANTED), (len(shown), len(WANTED)))
-    everything = read("read_uncommitted")
+    everything = all_shown("read_uncommitted")
     print(f"{STEPS} steps: {len(everything)} records, of which {len(shown)} are committed")
     check("read uncommitted shows each once", len(everything) == len(set(everything)) and set(everything) <= set(ALL))
 
@@ -124,7 +111,7 @@ def fencing():
     new.begin_transaction()
     produce(new, "not fenced")
     new.commit_transaction(LONG)
-    shown = read("read_committed")
+    shown = all_shown("read_committed")
     check("what it wrote isn't shown, and what the new one wrote is", "fenced" not in shown and "not fenced" in shown)
 
 
@@ -149,7 +136,7 @@ def consume_and_produce():
         offset = consumer.committed([at], LONG)[0].offset
         check(f"offsets of a transaction that {'commits' if commits else 'aborts'}", (offset > 0) == commits, offset)
     consumer.close()
-    shown = read("read_committed")
+    shown = all_shown("read_committed")
     check("with its records", "transformed True" in shown and "transformed False" not in shown)
 
 

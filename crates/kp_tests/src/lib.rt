@@ -26,6 +26,10 @@ mod log_truncation_tests;
 #[cfg(test)]
 mod logs;
 #[cfg(test)]
+mod node_consumed;
+#[cfg(test)]
+mod node_consumer_tests;
+#[cfg(test)]
 mod node_meeting_tests;
 #[cfg(test)]
 mod node_seated;

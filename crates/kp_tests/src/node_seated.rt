@@ -3,6 +3,7 @@
 ghost use Rattle.std.specs.Prelude.{◌≡◌};
 
 use crate::logs::LIMITS;
+use crate::node_consumed::{tell_end, tell_fetched, tell_found, tell_state};
 use crate::replica_played::{push_isr, push_record, push_role, push_sent};
 use crate::shown::push_bytes;
 use crate::world_tests::{MARKER, bytes_of};
@@ -10,9 +11,9 @@ use kp_batch::Batch;
 use kp_board::{Board, BoardName, FreshPass, Message, Opened, Pass};
 use kp_marker::HandedMarker;
 use kp_model::LeaderAndIsr;
-use kp_node::{Ack, Node};
+use kp_node::{Ack, Isolation, Node};
 use kp_replica::{Answer, IsrChange, Receipt};
-use kp_types::{NodeId, Offset, Refusal};
+use kp_types::{Epoch, NodeId, Offset, Refusal};
 use std::alloc::{AllocError, Global};
 use std::marker::Brand;
 use std::sync::Arc;
@@ -39,6 +40,14 @@ pub(crate) enum Turn {
     Read(NodeId, Offset),
     /// The bytes of what is read.
     ReadBytes(NodeId, Offset),
+    /// A consumer's fetch from this offset, of so many bytes and at least a batch.
+    Fetch(NodeId, Offset, u32, Isolation),
+    /// Where the first record of this time or a later one stands, as a consumer is shown it.
+    OffsetForTime(NodeId, u64, Isolation),
+    /// Where this leader epoch ends.
+    EndFor(NodeId, Epoch),
+    /// What the node tells of itself.
+    Show(NodeId),
     Ask(NodeId),
     /// The message of this number gets to where it goes. It stays, and may come again.
     Deliver(usize),
@@ -64,7 +73,8 @@ struct Seats<B: BoardName> {
     receipt: Option<Receipt>,
 }
 
-fn push_batches(text: &mut String, batches: &[Batch]) -> Result<(), AllocError> {
+/// How many batches, and of each its base offset and base timestamp.
+pub(crate) fn push_batches(text: &mut String, batches: &[Batch]) -> Result<(), AllocError> {
     write!(text, "batches {}", batches.len())?;
     for batch in batches {
         let (base, time) = (batch.base_offset(), batch.base_timestamp());
@@ -183,6 +193,8 @@ fn tell_call<B: BoardName>(
         Turn::Checkpoint(_) => tell_checkpoint(text, node),
         Turn::Stop(_) => tell_stop(text, node),
         Turn::Restart(_) => tell_restart(text, node),
+        Turn::Show(_) => tell_state(text, &node.show()),
+        Turn::EndFor(_, epoch) => tell_end(text, node.end_for(*epoch)?),
         _ => Err(Refusal::BadCount),
     }
 }
@@ -339,6 +351,26 @@ impl<B: BoardName> Seats<B> {
         push_written(self.alloc, text, batches.as_slice())
     }
 
+    // What a node tells a consumer.
+    fn consume(
+        &mut self,
+        text: &mut String,
+        pass: &mut Pass<B>,
+        node: NodeId,
+        turn: &Turn,
+    ) -> Result<(), Refusal> {
+        let node = self.node(node)?;
+        match turn {
+            Turn::Fetch(_, from, most, isolation) => {
+                tell_fetched(text, &node.fetch(pass, *from, *most, *isolation)?)
+            }
+            Turn::OffsetForTime(_, time, isolation) => {
+                tell_found(text, node.offset_for_time(pass, *time, *isolation)?)
+            }
+            _ => Err(Refusal::BadCount),
+        }
+    }
+
     // What a node answers to a call that needs nothing but itself.
     fn call(&mut self, text: &mut String, node: NodeId, turn: &Turn) -> Result<(), Refusal> {
         tell_call(text, self.node(node)?, turn)
@@ -370,7 +402,12 @@ impl<B: BoardName> Seats<B> {
             | Turn::Raise(node)
             | Turn::Checkpoint(node)
             | Turn::Stop(node)
-            | Turn::Restart(node) => self.call(text, *node, turn),
+            | Turn::Restart(node)
+            | Turn::Show(node)
+            | Turn::EndFor(node, _) => self.call(text, *node, turn),
+            Turn::Fetch(node, ..) | Turn::OffsetForTime(node, ..) => {
+                self.consume(text, pass, *node, turn)
+            }
         }
     }
 
