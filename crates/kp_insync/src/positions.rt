@@ -43,6 +43,13 @@ impl Positions {
         }
     }
 
+    /// What each node reported, by its number; none where it has reported nothing. O(1).
+    pub fn all(&self) -> [Option<Offset>; NODE_PLACES]
+        ensures { result ≡ self.now }
+    {
+        self.ends
+    }
+
     /// The node reports that its log ends at this offset: the greatest that it reported is kept. A number that no node has,
     /// from [`kp_types::MOST_NODES`] on, changes nothing.
     pub fn report(&mut self, node: NodeId, end: Offset)

@@ -41,7 +41,8 @@ abbrev pub IsProposal : NumberedNode → IsrChange → Letter → Type 0
 IsProposal m change letter =
     WhereLeads m.state.mode (λ l. letter ≡ Proposing (proposal m.number l (changed_isr change l.isr)))
 
--- The leader tells the record that it knows, and the in-sync replicas that it has proposed.
+-- The leader tells the record that it knows, the in-sync replicas that it has proposed, and what the others have reported.
 abbrev pub IsKnownBy : NumberedNode → Known → Type 0
 IsKnownBy m known =
-    WhereLeads m.state.mode (λ l. (record_of known.record ≡ known_by m.number l) × (option_map members_of known.pending ≡ l.pending))
+    WhereLeads m.state.mode (λ l. (record_of known.record ≡ known_by m.number l) × (option_map members_of known.pending ≡ l.pending)
+    × (known.reported ≡ l.reported))

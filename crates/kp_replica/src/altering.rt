@@ -8,7 +8,7 @@ ghost use Rattle.kp_replica.specs.Modes.{leading_of};
 
 use crate::replica::{Leading, Mode, Replica};
 use kp_model::{Decision, Leader, LeaderAndIsr, MessageBody, NodeSet, Proposal};
-use kp_types::{NodeId, Refusal};
+use kp_types::{NODE_PLACES, NodeId, Offset, Refusal};
 
 /// A change of the in-sync replicas, for which their leader asks.
 #[derive(Clone, Copy, PartialEq, Eq)]
@@ -28,13 +28,16 @@ pub struct Learned {
     pub version: u32,
 }
 
-/// What a leader knows of the controller's record, and what it has proposed.
+/// What a leader knows of the controller's record, what it has proposed, and what the other nodes have reported to it.
 #[derive(Clone, Copy)]
 pub struct Known {
     /// The record: this node leads, in its leader epoch, with these in-sync replicas, and the record has this version.
     pub record: LeaderAndIsr,
     /// The in-sync replicas that it has proposed, until it learns what the controller decided; none where it has proposed none.
     pub pending: Option<NodeSet>,
+    /// The log end offset that each other node has reported since this one began to lead, by its number: the greatest; none where it has
+    /// reported nothing.
+    pub reported: [Option<Offset>; NODE_PLACES],
 }
 
 /// Whether the sets have the same nodes. O(1).
@@ -133,8 +136,9 @@ impl Replica {
         }
     }
 
-    /// What the leader knows of the controller's record: its in-sync replicas, and the pending ones, count for the high watermark. F15
-    /// where the node doesn't lead. O(1), and no memory (Kafka protocol guide, 'DescribeTopicPartitions'; KIP-497).
+    /// What the leader knows of the controller's record: its in-sync replicas, and the pending ones, count for the high watermark; and
+    /// what the other nodes have reported. F15 where the node doesn't lead. O(1), and no memory (Kafka protocol guide,
+    /// 'DescribeTopicPartitions', 'DescribeQuorum'; KIP-497).
     pub fn known(&self) -> Result<Known, Refusal>
         ensures known { IfOk result (IsKnownBy self.now) }
         ensures refused { IsRefusedOnlyBy (unless_leads self.now.state.mode (λ _. None)) result }
@@ -145,6 +149,7 @@ impl Replica {
         Ok(Known {
             record: leading.known(self.number),
             pending: leading.pending,
+            reported: leading.positions.all(),
         })
     }
 
