@@ -6,5 +6,6 @@ pub mod CallerCalls
 pub mod Fetched
 pub mod Fetches
 pub mod Tells
+pub mod Describes
 pub mod MessageCalls
 pub mod Laws

@@ -1,12 +1,17 @@
 -- What a node tells of itself and of its log, of one moment (own rule; Kafka protocol guide, ListOffsets and OffsetForLeaderEpoch; KIP-101).
-use Rattle.std.specs.Prelude.{◌≡◌, ℕ, nat_lt, Option, Some, None, Result, IfOk, OnOk, OnErr, if◌then◌else◌}
+use Rattle.std.specs.Prelude.{◌≡◌, ℕ, nat_lt, map, Option, Some, None, Result, IfOk, OnOk, OnErr, if◌then◌else◌}
+use Rattle.std.specs.Global.{Vec}
 use Rattle.std.specs.Option.{option_map}
-use Rattle.kp_types.specs.Causes.{IsRefusedOnlyBy}
+use Rattle.kp_types.specs.Causes.{IsRefusedBy, IsRefusedOnlyBy}
 use Rattle.kp_types.specs.declared.refusal.Refusal.{Refusal}
 use Rattle.kp_types.specs.declared.refusal.Refusal.TheVariants as refusals
+use Rattle.kp_batch.specs.Batch.{Written}
+use Rattle.kp_log.specs.Logged.{reaching}
+use Rattle.kp_log.specs.Refusals.{read_cause}
 use Rattle.kp_model.specs.Effect.{is_down}
 use Rattle.kp_model.specs.Epochs.{end_for}
-use Rattle.kp_model.specs.Log.{end_of}
+use Rattle.kp_model.specs.Fetching.{first_within}
+use Rattle.kp_model.specs.Log.{end_of, logged}
 use Rattle.kp_model.specs.Lookups.{offset_for_time}
 use Rattle.kp_model.specs.Transactions.{stable}
 use Rattle.kp_model.specs.World.{Mode, Down, Idle, Leads, Follows, Node}
@@ -34,6 +39,13 @@ told_state x =
       stable = stable x.log x.watermark;
       checkpoint = x.checkpoint;
     }
+
+-- ---- its log
+
+-- It told the batches from the one that holds an offset on, as many as fit into so many bytes, but at least one.
+pub record TellsLog (from most : ℕ) (x : Node) (result : Result (Vec Written) Refusal) : Type 0 where
+  pub batches : IfOk result (λ batches. map logged batches.items ≡ first_within most (reaching from x.log))
+  pub refused : IsRefusedBy (read_cause x.log from) result
 
 -- ---- where an epoch ends
 

@@ -8,6 +8,7 @@ ghost use Rattle.kp_node.specs.Laws.{SeenBatchesStay};
 mod ack;
 mod altering;
 mod asking;
+mod describing;
 mod fetched;
 mod fetching;
 mod keeping;
@@ -20,6 +21,7 @@ mod stopping;
 mod telling;
 
 pub use ack::Ack;
+pub use describing::ProducerInLog;
 pub use fetched::{Fetched, Isolation};
 pub use node::Node;
 pub use telling::NodeState;

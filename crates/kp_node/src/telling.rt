@@ -6,12 +6,14 @@ ghost use Rattle.kp_model.specs.Lookups.{offset_for_time};
 ghost use Rattle.kp_segment.specs.Walk.{offset_and_timestamp};
 ghost use Rattle.kp_replica.specs.Broker.{node_at};
 ghost use Rattle.kp_node.specs.Fetches.{shown_up_to};
-ghost use Rattle.kp_node.specs.Tells.{TellsEnd, TellsOffset, down_cause, found_below, told_state};
+ghost use Rattle.kp_node.specs.Tells.{TellsEnd, TellsLog, TellsOffset, down_cause, found_below, told_state};
 
 use crate::fetched::Isolation;
 use crate::fetching::shown_up_to;
 use crate::node::Node;
+use kp_batch::{Batch, share_all};
 use kp_board::{BoardName, Pass};
+use kp_log::first_within;
 use kp_model::EpochEnd;
 use kp_replica::{Broker, Role, Status};
 use kp_segment::OffsetAndTimestamp;
@@ -70,6 +72,16 @@ impl<B: BoardName> Node<B> {
             stable: log.stable_offset(watermark),
             checkpoint: self.broker.checkpoint_offset(),
         }
+    }
+
+    /// Shares of the batches from the one that holds an offset on, also of those that aren't committed, as many as fit into so many bytes, but
+    /// at least one where there is one; also of a node that is down. For a host that writes them down. F16 above the log's end, F33. The
+    /// cost is that of `PartitionLog::read`, and O(1) for each batch. (Own rule.)
+    pub fn log_from(&self, from: Offset, most_bytes: u32) -> Result<Vec<Batch>, Refusal>
+        ensures { TellsLog from most_bytes self.now.node.state result }
+    {
+        let batches = self.broker.log().read(from)?;
+        share_all(self.alloc, first_within(batches, most_bytes))
     }
 
     /// The largest leader epoch at most this one of which the leader's log has a batch, and where that epoch ends there; none where it
