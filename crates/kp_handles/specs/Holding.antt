@@ -1,24 +1,27 @@
 -- What comes of what a handle holds (own rule).
 use Rattle.std.specs.Prelude.{◌≡◌, ◌<◌, ◌++◌, ℕ, Bool, true, false, List, [], length, drop, slice_get, unwrap_or, Option, Some, None}
-use Rattle.kp_batch.specs.Batch.{Written, size_of, spelling}
+use Rattle.kp_batch.specs.Batch.{Written, attributes, count_of, max_time, size_of, spelling}
+use Rattle.kp_batch.specs.Producer.{producer_epoch_of, producer_of, sequence_of}
 use Rattle.kp_crc.specs.Crc.{crc}
 use Rattle.kp_model.specs.Event.{Line}
 use Rattle.kp_model.specs.Letter.{goes_to, letter}
-use Rattle.kp_model.specs.Transactions.{Aborted}
+use Rattle.kp_model.specs.Transactions.{Aborted, Open}
 use Rattle.kp_model.specs.World.{Message as ModelMessage}
 use Rattle.kp_model.specs.declared.message.MessageBody.{MessageBody}
 use Rattle.kp_node.specs.Fetched.{FetchedView}
 use Rattle.kp_segment.specs.declared.name.SegmentName.{SegmentName}
-use Rattle.kp_handles.specs.Objects.{ObjectView, message, batches, fetched, is_open, records, segments}
+use Rattle.kp_handles.specs.Objects.{ObjectView, message, batches, fetched, is_open, records, segments, transactions}
 use Rattle.kp_handles.specs.declared.misuse.Misuse.{Misuse}
 use Rattle.kp_handles.specs.declared.misuse.Misuse.TheVariants.{Closed, OtherKind, OutOfRange, BadLength}
 use Rattle.kp_handles.specs.declared.outs.AbortedOut.{AbortedOut}
 use Rattle.kp_handles.specs.declared.outs.FetchedOut.{FetchedOut}
+use Rattle.kp_handles.specs.declared.outs.HeadOut.{HeadOut}
+use Rattle.kp_handles.specs.declared.outs.OpenOut.{OpenOut}
 use Rattle.kp_handles.specs.declared.outs.ValueOut.{ValueOut}
 
 -- ---- a list of something
 
--- the batches that it holds, the records, the segments, and the aborted transactions, where it holds such
+-- the batches that it holds, the records, the open transactions, the segments, and the aborted transactions, where it holds such
 abbrev pub batches_in : ObjectView → Option (List Written)
 batches_in (batches ws) = Some ws
 batches_in (fetched f) = Some f.batches
@@ -28,6 +31,10 @@ abbrev pub lines_in : ObjectView → Option (List Line)
 lines_in (records ls) = Some ls
 lines_in _ = None
 
+abbrev pub open_in : ObjectView → Option (List Open)
+open_in (transactions ts) = Some ts
+open_in _ = None
+
 abbrev pub segments_in : ObjectView → Option (List (SegmentName × List Written))
 segments_in (segments ss) = Some ss
 segments_in _ = None
@@ -36,11 +43,12 @@ abbrev pub aborted_in : ObjectView → Option (List Aborted)
 aborted_in (fetched f) = Some f.aborted
 aborted_in _ = None
 
--- how many batches, records or segments there are, where it holds such
+-- how many batches, records, open transactions or segments there are, where it holds such
 abbrev pub count_in : ObjectView → Option ℕ
 count_in (batches ws) = Some (length ws)
 count_in (fetched f) = Some (length f.batches)
 count_in (records ls) = Some (length ls)
+count_in (transactions ts) = Some (length ts)
 count_in (segments ss) = Some (length ss)
 count_in _ = None
 
@@ -88,6 +96,25 @@ NoBatch index object why = BadPart batches_in (λ w. 0) index 0 object why
 
 abbrev pub BadBatch : (index places : ℕ) → Option ObjectView → Misuse → Type 0
 BadBatch index places object why = BadPart batches_in batch_size index places object why
+
+-- what it hasn't got has all bits set, as Kafka's -1
+abbrev pub head_out : Written → HeadOut
+head_out w =
+    record {
+      base = w.base;
+      base_timestamp = w.body.base_time;
+      max_timestamp = max_time w.body;
+      producer_id = unwrap_or (producer_of w.body.content) 18446744073709551615;
+      epoch = unwrap_or w.epoch 4294967295;
+      count = count_of w.body;
+      base_sequence = unwrap_or (sequence_of w.body.content) 4294967295;
+      size = size_of w.body;
+      producer_epoch = unwrap_or (producer_epoch_of w.body.content) 65535;
+      attributes = attributes w.body.content;
+    }
+
+abbrev pub HasHead : Option ObjectView → ℕ → HeadOut → Type 0
+HasHead object index found = HasPart batches_in index object (λ w. found ≡ head_out w)
 
 abbrev pub HasSize : Option ObjectView → (index n : ℕ) → Type 0
 HasSize object index n = HasPart batches_in index object (λ w. n ≡ batch_size w)
@@ -147,6 +174,17 @@ HasAborted object index found = HasPart aborted_in index object (λ a. found ≡
 
 abbrev pub NoAborted : ℕ → Option ObjectView → Misuse → Type 0
 NoAborted index object why = BadPart aborted_in (λ a. 0) index 0 object why
+
+-- ---- transactions that are open
+
+abbrev pub open_out : Open → OpenOut
+open_out t = record { producer_id = t.producer; first = t.first }
+
+abbrev pub HasOpen : Option ObjectView → ℕ → OpenOut → Type 0
+HasOpen object index found = HasPart open_in index object (λ t. found ≡ open_out t)
+
+abbrev pub NoOpen : ℕ → Option ObjectView → Misuse → Type 0
+NoOpen index object why = BadPart open_in (λ t. 0) index 0 object why
 
 -- ---- a message
 

@@ -1,5 +1,6 @@
 pub mod Called
 pub mod Calling
+pub mod Describing
 pub mod CallerCalls
 pub mod Handing
 pub mod Holding
@@ -11,5 +12,6 @@ pub mod Outs
 pub mod PairCalls
 pub mod Reading
 pub mod Rows
+pub mod Saying
 pub mod Segments
 pub mod Telling

@@ -3,6 +3,7 @@ use Rattle.std.specs.Prelude.{ℕ, List, map, Bool, true, false, Option, Some, N
 use Rattle.kp_batch.specs.Batch.{Written}
 use Rattle.kp_types.specs.declared.limits.Limits.{Limits}
 use Rattle.kp_model.specs.Event.{Line}
+use Rattle.kp_model.specs.Transactions.{Open}
 use Rattle.kp_model.specs.World.{Message as ModelMessage}
 use Rattle.kp_model.specs.declared.message.MessageBody.{MessageBody}
 use Rattle.kp_segment.specs.declared.name.SegmentName.{SegmentName}
@@ -12,13 +13,13 @@ use Rattle.kp_node.specs.Fetched.{FetchedView}
 use Rattle.kp_node.specs.Seated.{SeatedNode}
 use Rattle.kp_handles.specs.declared.object.Cluster.{Cluster as ClusterOf}
 use Rattle.kp_handles.specs.declared.object.Kind.{Kind}
-use Rattle.kp_handles.specs.declared.object.Kind.TheVariants.{Empty, Cluster, Node, Caller, Message, Batches, Fetched, Records, Segments, Handed}
+use Rattle.kp_handles.specs.declared.object.Kind.TheVariants.{Empty, Cluster, Node, Caller, Message, Batches, Fetched, Records, Transactions, Segments, Handed}
 
 -- nothing; a board of so many nodes, with the passes of those that aren't open yet, how many callers' passes were opened, and the sizes of
 -- the nodes' logs; a node with its
 -- pass; a caller's pass of a board of so many nodes; a message with its pass; batches, as a node answered them to a read; what a consumer's
 -- fetch gave; records, as
--- a read-committed consumer gets them; a log's segments, each by its name with its batches; the bytes that a client hands in
+-- a read-committed consumer gets them; transactions that are open; a log's segments, each by its name with its batches; the bytes that a client hands in
 pub data ObjectView : Type 0 where
   empty : ObjectView
   cluster : (nodes : ℕ) → (waiting : List NodeView) → (callers : ℕ) → Limits → ObjectView
@@ -28,6 +29,7 @@ pub data ObjectView : Type 0 where
   batches : List Written → ObjectView
   fetched : FetchedView → ObjectView
   records : List Line → ObjectView
+  transactions : List Open → ObjectView
   segments : List (SegmentName × List Written) → ObjectView
   handed : List ℕ → ObjectView
 
@@ -43,6 +45,7 @@ object_view (Message m) = message m.body m.pass
 object_view (Batches b) = batches b.items
 object_view (Fetched f) = fetched f
 object_view (Records r) = records r
+object_view (Transactions t) = transactions t.items
 object_view (Segments s) = segments s.items
 object_view (Handed bytes) = handed bytes
 

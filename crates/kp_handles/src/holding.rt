@@ -2,14 +2,14 @@
 
 ghost use Rattle.std.specs.Prelude.{◌≡◌, ◌<◌, None, Some, length, IfSome, IfOk, IfErr, OnOk, OnErr};
 ghost use Rattle.kp_visible.specs.Lines.{line_of};
-ghost use Rattle.kp_handles.specs.Holding.{BadBatch, BadCount, BadFetched, BadLetter, BadPartOf, BadValue, HasAborted, HasAddressee, HasCount, HasFetched, HasRecord, HasSize, NoAborted, NoBatch, NoRecord, Writes, WritesBatch, WritesSpelling, WritesValue, aborted_in, batch_size, batches_in, lines_in, value_bytes, value_size};
+ghost use Rattle.kp_handles.specs.Holding.{BadBatch, BadCount, BadFetched, BadLetter, BadPartOf, BadValue, HasAborted, HasAddressee, HasCount, HasFetched, HasHead, HasOpen, HasRecord, HasSize, NoAborted, NoBatch, NoOpen, NoRecord, Writes, WritesBatch, WritesSpelling, WritesValue, aborted_in, batch_size, batches_in, lines_in, open_in, value_bytes, value_size};
 ghost use Rattle.kp_handles.specs.declared.misuse.Misuse.TheVariants.{OtherKind};
 ghost use Rattle.kp_handles.specs.declared.misuse.Misuse.TheVariants.{BadLength};
 
 use crate::handle::{Handle, Unnamed, put, take};
 use crate::misuse::Misuse;
 use crate::object::{Kind, Object};
-use crate::outs::{AbortedOut, FetchedOut, ValueOut, addressee_out};
+use crate::outs::{AbortedOut, FetchedOut, HeadOut, OpenOut, ValueOut, addressee_out};
 use kp_batch::Batch;
 use kp_board::BoardName;
 use kp_visible::ReadRecord;
@@ -23,12 +23,13 @@ fn count_object<B: BoardName>(object: &Object<B>) -> Result<usize, Misuse>
         Kind::Batches(batches) => Ok(batches.len()),
         Kind::Fetched(fetched) => Ok(fetched.batches().len()),
         Kind::Records(records) => Ok(records.len()),
+        Kind::Transactions(open) => Ok(open.len()),
         Kind::Segments(segments) => Ok(segments.len()),
         _ => Err(Misuse::OtherKind),
     }
 }
 
-/// How many batches, records or segments stand in the handle. Closed, OtherKind. O(1).
+/// How many batches, records, open transactions or segments stand in the handle. Closed, OtherKind. O(1).
 #[tactic(auto, using(crate::proofs::Bad::closed_count))]
 pub fn count<B: BoardName + Unnamed>(alloc: Global, handle: &mut Handle) -> Result<usize, Misuse>
     requires { IfSome handle.old.object (λ _. handle.old.table ≡ B.table) }
@@ -78,6 +79,34 @@ pub fn batch_size<B: BoardName + Unnamed>(
 {
     let object = take::<B>(alloc, handle)?;
     let found = size_object(&object, index);
+    put(handle, object);
+    found
+}
+
+fn head_object<B: BoardName>(object: &Object<B>, index: usize) -> Result<HeadOut, Misuse>
+    ensures found { IfOk result (HasHead (Some object.now) index) }
+    ensures only { IfErr result (BadPartOf batches_in (λ w. 0) index 0 object.now) }
+{
+    match batches_of(object)?.get(index) {
+        Some(batch) => Ok(HeadOut::of(batch)),
+        None => Err(Misuse::OutOfRange),
+    }
+}
+
+/// The head of the batch at this index, from 0 on. Closed, OtherKind, OutOfRange. O(1), and no byte is copied.
+#[tactic(auto, using(crate::proofs::Bad::bad_part, crate::proofs::Bad::closed_part))]
+pub fn head_at<B: BoardName + Unnamed>(
+    alloc: Global,
+    handle: &mut Handle,
+    index: usize,
+) -> Result<HeadOut, Misuse>
+    requires { IfSome handle.old.object (λ _. handle.old.table ≡ B.table) }
+    ensures found { IfOk result (HasHead handle.old.object index) }
+    ensures only { IfErr result (NoBatch index handle.old.object) }
+    ensures same { handle.new.object ≡ handle.old.object }
+{
+    let object = take::<B>(alloc, handle)?;
+    let found = head_object(&object, index);
     put(handle, object);
     found
 }
@@ -277,6 +306,37 @@ pub fn aborted_at<B: BoardName + Unnamed>(
 {
     let object = take::<B>(alloc, handle)?;
     let found = aborted_object(&object, index);
+    put(handle, object);
+    found
+}
+
+fn open_object<B: BoardName>(object: &Object<B>, index: usize) -> Result<OpenOut, Misuse>
+    ensures found { IfOk result (HasOpen (Some object.now) index) }
+    ensures only { IfErr result (BadPartOf open_in (λ t. 0) index 0 object.now) }
+{
+    match &object.kind {
+        Kind::Transactions(open) => match open.get(index) {
+            Some(transaction) => Ok(OpenOut::of(transaction)),
+            None => Err(Misuse::OutOfRange),
+        },
+        _ => Err(Misuse::OtherKind),
+    }
+}
+
+/// The open transaction at this index, from 0 on, by rising first offset. Closed, OtherKind, OutOfRange. O(1).
+#[tactic(auto, using(crate::proofs::Bad::bad_part, crate::proofs::Bad::closed_part))]
+pub fn open_at<B: BoardName + Unnamed>(
+    alloc: Global,
+    handle: &mut Handle,
+    index: usize,
+) -> Result<OpenOut, Misuse>
+    requires { IfSome handle.old.object (λ _. handle.old.table ≡ B.table) }
+    ensures found { IfOk result (HasOpen handle.old.object index) }
+    ensures only { IfErr result (NoOpen index handle.old.object) }
+    ensures same { handle.new.object ≡ handle.old.object }
+{
+    let object = take::<B>(alloc, handle)?;
+    let found = open_object(&object, index);
     put(handle, object);
     found
 }

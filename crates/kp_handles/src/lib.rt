@@ -6,6 +6,7 @@
 mod callers;
 mod calling;
 mod clusters;
+mod describing;
 mod handing;
 mod handle;
 mod holding;
@@ -18,26 +19,30 @@ mod object;
 mod outs;
 mod producing;
 mod reading;
+mod saying;
 mod segments;
 mod telling;
 
 pub use callers::{elect, leadership, tell_receipts, watermark};
 pub use calling::Called;
 pub use clusters::{close, open, open_caller, open_node};
+pub use describing::{KnownOut, ProducerOut, known, log_from, open_transactions, producer};
 pub use handing::hand;
 pub use handle::{Handle, Unnamed, is_open};
 pub use holding::{
-    aborted_at, addressee, batch_size, count, fetched_at, record_at, write_batch, write_value,
+    aborted_at, addressee, batch_size, count, fetched_at, head_at, open_at, record_at, write_batch,
+    write_value,
 };
 pub use messages::{decide, send, step};
 pub use misuse::Misuse;
 pub use nodes::{adopt, checkpoint, raise, restart, stop};
 pub use numbers::{misuse_number, refusal_number, write_name};
 pub use outs::{
-    AbortedOut, FetchedOut, LeadershipOut, LimitsIn, MarkerIn, ReceiptOut, RestartOut, RoleOut,
-    ValueOut, ack_out, change_in,
+    AbortedOut, FetchedOut, HeadOut, LeadershipOut, LimitsIn, MarkerIn, OpenOut, ReceiptOut,
+    RestartOut, RoleOut, ValueOut, ack_out, change_in,
 };
 pub use producing::{acked, mark_in, produce, produce_handed};
 pub use reading::{fetch, read, read_committed};
+pub use saying::{SaidOut, said};
 pub use segments::{segment, segments_of};
 pub use telling::{EpochOut, StateOut, TimeOut, end_for, offset_for_time, show};

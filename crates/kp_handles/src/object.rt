@@ -10,6 +10,7 @@ use bytes::BytesMut;
 use kp_batch::{Batch, Handed};
 use kp_board::{Board, BoardName, Callers, FreshPass, Message, Pass};
 use kp_node::{Fetched, Node};
+use kp_txns::OpenTransaction;
 use kp_types::Limits;
 use kp_visible::ReadRecords;
 use std::alloc::Global;
@@ -59,6 +60,7 @@ pub enum Kind<B: BoardName> {
     Batches(Vec<Batch>),
     Fetched(Fetched),
     Records(ReadRecords),
+    Transactions(Vec<OpenTransaction>),
     Segments(Vec<SegmentShare>),
     Handed(InHand),
 }
@@ -141,6 +143,16 @@ impl<B: BoardName> Held<B> for ReadRecords {
 
     fn into_kind(self) -> Kind<B> {
         Kind::Records(self)
+    }
+}
+
+impl<B: BoardName> Held<B> for Vec<OpenTransaction> {
+    ghost use Rattle.kp_handles.specs.Objects.{transactions};
+
+    ghost held = { λ listed. transactions listed.items };
+
+    fn into_kind(self) -> Kind<B> {
+        Kind::Transactions(self)
     }
 }
 

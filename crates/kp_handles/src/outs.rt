@@ -1,14 +1,15 @@
 //! What calls read from their caller's memory, and write there.
 ghost use Rattle.std.specs.Prelude.{◌≡◌};
 ghost use Rattle.kp_visible.specs.Lines.{line_of};
-ghost use Rattle.kp_handles.specs.Holding.{aborted_out, addressee_out, fetched_out, value_out};
+ghost use Rattle.kp_handles.specs.Holding.{aborted_out, addressee_out, fetched_out, head_out, open_out, value_out};
 ghost use Rattle.kp_handles.specs.Outs.{ack_out, change_in, kind_in, limits_in, marker_in, receipt_in, receipt_out, leadership_out, restart_out, role_out};
 
+use kp_batch::Batch;
 use kp_marker::{Kind, Marker};
 use kp_model::{LeaderAndIsr, MessageBody};
 use kp_node::{Ack, Fetched};
 use kp_replica::{Answer, IsrChange, Receipt, Role};
-use kp_txns::AbortedTransaction;
+use kp_txns::{AbortedTransaction, OpenTransaction};
 use kp_types::{Limits, NODE_PLACES};
 use kp_visible::ReadRecord;
 
@@ -325,6 +326,74 @@ impl AbortedOut {
         AbortedOut {
             producer_id: aborted.producer,
             first: aborted.first,
+        }
+    }
+}
+
+/// A transaction that is open.
+#[repr(C)]
+#[derive(Clone, Copy)]
+pub struct OpenOut {
+    /// Whose it is.
+    pub producer_id: u64,
+    /// The offset of its first record.
+    pub first: u64,
+}
+
+impl OpenOut {
+    /// A transaction as it is told. O(1).
+    pub fn of(open: &OpenTransaction) -> OpenOut
+        ensures { result ≡ open_out open.now }
+    {
+        OpenOut {
+            producer_id: open.producer,
+            first: open.first,
+        }
+    }
+}
+
+/// The head of a batch. What a batch hasn't got has all bits set, as Kafka's -1.
+#[repr(C)]
+#[derive(Clone, Copy)]
+pub struct HeadOut {
+    /// The offset of its first record.
+    pub base: u64,
+    /// The timestamp that its records count from, in milliseconds.
+    pub base_timestamp: u64,
+    /// The greatest timestamp of its records, in milliseconds.
+    pub max_timestamp: u64,
+    /// The producer that wrote it, or that its marker is for.
+    pub producer_id: u64,
+    /// Its leader epoch.
+    pub epoch: u32,
+    /// How many records it has, and offsets it takes.
+    pub count: u32,
+    /// The sequence number of its first record; a marker has none.
+    pub base_sequence: u32,
+    /// How many bytes it has.
+    pub size: u32,
+    /// The producer's epoch.
+    pub producer_epoch: u16,
+    /// Bit 4 says transactional, bit 5 control.
+    pub attributes: u16,
+}
+
+impl HeadOut {
+    /// A batch's head as it is told. O(1).
+    pub fn of(batch: &Batch) -> HeadOut
+        ensures { result ≡ head_out batch.now }
+    {
+        HeadOut {
+            base: batch.base_offset(),
+            base_timestamp: batch.base_timestamp(),
+            max_timestamp: batch.max_timestamp(),
+            producer_id: batch.producer_id().unwrap_or(u64::MAX),
+            epoch: batch.leader_epoch().unwrap_or(u32::MAX),
+            count: batch.count(),
+            base_sequence: batch.base_sequence().unwrap_or(u32::MAX),
+            size: batch.size(),
+            producer_epoch: batch.producer_epoch().unwrap_or(u16::MAX),
+            attributes: batch.attributes(),
         }
     }
 }
