@@ -1,15 +1,15 @@
 //! The number of what a call answered, and what is written out of it.
-ghost use Rattle.std.specs.Prelude.{◌≡◌};
+ghost use Rattle.std.specs.Prelude.{◌≡◌, IfOk, OnErr};
 ghost use Rattle.kp_handles.specs.Numbers.{answer_number, done_number};
 ghost use Rattle.kp_handles.specs.Outs.{WritesOut};
 
 use kp_handles::{
-    Called, EpochOut, LeadershipOut, Misuse, RestartOut, RoleOut, StateOut, TimeOut, ack_out,
-    misuse_number, refusal_number,
+    Called, EpochOut, KnownOut, LeadershipOut, Misuse, ProducerOut, RestartOut, RoleOut, StateOut,
+    TimeOut, ack_out, misuse_number, refusal_number,
 };
 use kp_model::{EpochEnd, LeaderAndIsr};
-use kp_node::{Ack, NodeState};
-use kp_replica::{Answer, Role};
+use kp_node::{Ack, NodeState, ProducerInLog};
+use kp_replica::{Answer, Known, Role};
 use kp_segment::OffsetAndTimestamp;
 use kp_types::Offset;
 
@@ -81,6 +81,26 @@ impl Out<Option<OffsetAndTimestamp>> for TimeOut {
     }
 }
 
+impl Out<Known> for KnownOut {
+    ghost use Rattle.kp_handles.specs.Describing.{known_out};
+
+    ghost out = { known_out };
+
+    fn write(&mut self, found: Known) {
+        *self = KnownOut::of(found);
+    }
+}
+
+impl Out<Option<ProducerInLog>> for ProducerOut {
+    ghost use Rattle.kp_handles.specs.Describing.{producer_out};
+
+    ghost out = { producer_out };
+
+    fn write(&mut self, found: Option<ProducerInLog>) {
+        *self = ProducerOut::of(found);
+    }
+}
+
 impl Out<Offset> for u64 {
     ghost out = { λ offset. offset };
 
@@ -131,6 +151,21 @@ pub(crate) fn done(answer: Result<(), Misuse>) -> u32
 {
     match answer {
         Ok(()) => 0,
+        Err(misuse) => misuse_number(&misuse),
+    }
+}
+
+/// The number of what was looked up, which goes to the caller.
+pub(crate) fn seen<T: Copy>(answer: Result<T, Misuse>, to: &mut T) -> u32
+    ensures number { result ≡ done_number answer }
+    ensures written { IfOk answer (λ found. to.new ≡ found) }
+    ensures kept { OnErr answer (to.new ≡ to.old) }
+{
+    match answer {
+        Ok(found) => {
+            *to = found;
+            0
+        }
         Err(misuse) => misuse_number(&misuse),
     }
 }

@@ -1,21 +1,25 @@
 //! What comes of what a handle holds.
 ghost use Rattle.std.specs.Prelude.{◌≡◌, ℕ, length, Result, IfErr, IfOk, OnErr, OnOk};
-ghost use Rattle.kp_handles.specs.Holding.{BadBatch, BadCount, BadFetched, BadLetter, BadValue, HasAborted, HasAddressee, HasCount, HasFetched, HasRecord, HasSize, NoAborted, NoBatch, NoRecord, WritesBatch, WritesValue};
+ghost use Rattle.kp_handles.specs.Holding.{BadBatch, BadCount, BadFetched, BadLetter, BadValue, HasAborted, HasAddressee, HasCount, HasFetched, HasHead, HasOpen, HasRecord, HasSize, NoAborted, NoBatch, NoOpen, NoRecord, WritesBatch, WritesValue};
 ghost use Rattle.kp_handles.specs.Numbers.{done_number};
+ghost use Rattle.kp_handles.specs.Saying.{HasSaid};
 ghost use Rattle.kp_handles.specs.declared.misuse.Misuse.{Misuse};
 ghost use Rattle.kp_handles.specs.declared.outs.AbortedOut.{AbortedOut};
 ghost use Rattle.kp_handles.specs.declared.outs.FetchedOut.{FetchedOut};
+ghost use Rattle.kp_handles.specs.declared.outs.HeadOut.{HeadOut};
+ghost use Rattle.kp_handles.specs.declared.outs.OpenOut.{OpenOut};
 ghost use Rattle.kp_handles.specs.declared.outs.ValueOut.{ValueOut};
+ghost use Rattle.kp_handles.specs.declared.saying.SaidOut.{SaidOut};
 
-use crate::answers::done;
+use crate::answers::{done, seen};
 use kp_handles::{
-    AbortedOut, FetchedOut, Handle, ValueOut, aborted_at, addressee, batch_size, count, fetched_at,
-    misuse_number, record_at, write_batch, write_value,
+    AbortedOut, FetchedOut, Handle, HeadOut, OpenOut, SaidOut, ValueOut, aborted_at, addressee,
+    batch_size, count, fetched_at, head_at, open_at, record_at, said, write_batch, write_value,
 };
 use std::alloc::Global;
 use std::marker::Brand;
 
-/// How many batches, records or segments stand in the handle.
+/// How many batches, records, open transactions or segments stand in the handle.
 #[unsafe(no_mangle)]
 pub extern "C" fn kp_count(alloc: Global, handle: &mut Handle, found: &mut usize) -> u32
     ensures called { (answer : Result ℕ Misuse) × (result ≡ done_number answer)
@@ -23,13 +27,7 @@ pub extern "C" fn kp_count(alloc: Global, handle: &mut Handle, found: &mut usize
         × IfErr answer (BadCount handle.old.object) × OnErr answer (found.new ≡ found.old) }
     ensures same { handle.new.object ≡ handle.old.object }
 {
-    match count::<Brand>(alloc, handle) {
-        Ok(seen) => {
-            *found = seen;
-            0
-        }
-        Err(misuse) => misuse_number(&misuse),
-    }
+    seen(count::<Brand>(alloc, handle), found)
 }
 
 /// How many bytes one of the batches has.
@@ -45,13 +43,23 @@ pub extern "C" fn kp_batch_size(
         × IfErr answer (NoBatch index batches.old.object) × OnErr answer (size.new ≡ size.old) }
     ensures same { batches.new.object ≡ batches.old.object }
 {
-    match batch_size::<Brand>(alloc, batches, index) {
-        Ok(seen) => {
-            *size = seen;
-            0
-        }
-        Err(misuse) => misuse_number(&misuse),
-    }
+    seen(batch_size::<Brand>(alloc, batches, index), size)
+}
+
+/// The head of one of the batches.
+#[unsafe(no_mangle)]
+pub extern "C" fn kp_batch_head(
+    alloc: Global,
+    batches: &mut Handle,
+    index: usize,
+    found: &mut HeadOut,
+) -> u32
+    ensures called { (answer : Result HeadOut Misuse) × (result ≡ done_number answer)
+        × IfOk answer (λ seen. (found.new ≡ seen) × HasHead batches.old.object index seen)
+        × IfErr answer (NoBatch index batches.old.object) × OnErr answer (found.new ≡ found.old) }
+    ensures same { batches.new.object ≡ batches.old.object }
+{
+    seen(head_at::<Brand>(alloc, batches, index), found)
 }
 
 /// Copies one of the batches.
@@ -77,13 +85,7 @@ pub extern "C" fn kp_committed(
         × IfErr answer (NoRecord index records.old.object) × OnErr answer (found.new ≡ found.old) }
     ensures same { records.new.object ≡ records.old.object }
 {
-    match record_at::<Brand>(alloc, records, index) {
-        Ok(seen) => {
-            *found = seen;
-            0
-        }
-        Err(misuse) => misuse_number(&misuse),
-    }
+    seen(record_at::<Brand>(alloc, records, index), found)
 }
 
 /// Copies the value of one of the records.
@@ -104,13 +106,7 @@ pub extern "C" fn kp_fetched(alloc: Global, fetched: &mut Handle, found: &mut Fe
         × IfErr answer (BadFetched fetched.old.object) × OnErr answer (found.new ≡ found.old) }
     ensures same { fetched.new.object ≡ fetched.old.object }
 {
-    match fetched_at::<Brand>(alloc, fetched) {
-        Ok(seen) => {
-            *found = seen;
-            0
-        }
-        Err(misuse) => misuse_number(&misuse),
-    }
+    seen(fetched_at::<Brand>(alloc, fetched), found)
 }
 
 /// One of the aborted transactions that go with what was fetched.
@@ -126,13 +122,35 @@ pub extern "C" fn kp_aborted(
         × IfErr answer (NoAborted index fetched.old.object) × OnErr answer (found.new ≡ found.old) }
     ensures same { fetched.new.object ≡ fetched.old.object }
 {
-    match aborted_at::<Brand>(alloc, fetched, index) {
-        Ok(seen) => {
-            *found = seen;
-            0
-        }
-        Err(misuse) => misuse_number(&misuse),
-    }
+    seen(aborted_at::<Brand>(alloc, fetched, index), found)
+}
+
+/// One of the transactions that are open.
+#[unsafe(no_mangle)]
+pub extern "C" fn kp_open_transaction(
+    alloc: Global,
+    transactions: &mut Handle,
+    index: usize,
+    found: &mut OpenOut,
+) -> u32
+    ensures called { (answer : Result OpenOut Misuse) × (result ≡ done_number answer)
+        × IfOk answer (λ seen. (found.new ≡ seen) × HasOpen transactions.old.object index seen)
+        × IfErr answer (NoOpen index transactions.old.object) × OnErr answer (found.new ≡ found.old) }
+    ensures same { transactions.new.object ≡ transactions.old.object }
+{
+    seen(open_at::<Brand>(alloc, transactions, index), found)
+}
+
+/// What a message says, and who sent it.
+#[unsafe(no_mangle)]
+pub extern "C" fn kp_said(alloc: Global, message: &mut Handle, found: &mut SaidOut) -> u32
+    ensures called { (answer : Result SaidOut Misuse) × (result ≡ done_number answer)
+        × IfOk answer (λ seen. (found.new ≡ seen) × HasSaid message.old.object seen)
+        × IfErr answer (BadLetter message.old.object) × OnErr answer (found.new ≡ found.old) }
+    ensures same { message.new.object ≡ message.old.object }
+    ensures cluster { message.new.table ≡ message.old.table }
+{
+    seen(said::<Brand>(alloc, message), found)
 }
 
 /// The node that a message goes to, or 255 for the controller.
@@ -144,11 +162,5 @@ pub extern "C" fn kp_addressee(alloc: Global, message: &mut Handle, found: &mut 
     ensures same { message.new.object ≡ message.old.object }
     ensures cluster { message.new.table ≡ message.old.table }
 {
-    match addressee::<Brand>(alloc, message) {
-        Ok(seen) => {
-            *found = seen;
-            0
-        }
-        Err(misuse) => misuse_number(&misuse),
-    }
+    seen(addressee::<Brand>(alloc, message), found)
 }

@@ -6,6 +6,7 @@
 mod answers;
 mod callers;
 mod clusters;
+mod describing;
 mod holding;
 mod messages;
 mod nodes;
