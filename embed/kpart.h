@@ -203,6 +203,38 @@ typedef struct {
  * Memory: none. Proved: `NodeCalled`, `EndsFor` (`Node::end_for`). */
 uint32_t kp_end_for(kp_handle *node, uint32_t epoch, kp_epoch_end *found);
 
+typedef struct {
+    kp_leadership_out leadership; /* the controller's record, as the leader knows it */
+    uint64_t reported[7];         /* the log end offset that each node has reported since this one began to lead; UINT64_MAX: none */
+    bool pending;                 /* it has proposed other in-sync replicas, and hasn't learned yet what was decided */
+    bool proposed[7];             /* whether each node is among those; false where none are pending */
+} kp_known_out;
+
+/* What a leader knows of the controller's record, what it has proposed, and what the other nodes have reported. 15, 28. Memory: none.
+ * Proved: `NodeCalled`, `Knows` (`Node::known`). */
+uint32_t kp_known(kp_handle *node, kp_known_out *found);
+
+typedef struct {
+    uint64_t open_from;         /* the offset of the first record of its open transaction; UINT64_MAX where none is open */
+    uint32_t last_sequence;     /* the sequence number of its last record since its epoch began; UINT32_MAX where it has none */
+    uint32_t coordinator_epoch; /* of its last marker; UINT32_MAX where it has none */
+    uint16_t epoch;             /* the producer's epoch in its last batch */
+    bool found;                 /* the log has a batch of it; else the others are 0 */
+} kp_producer_out;
+
+/* What the node's log has of a producer (DescribeProducers); also of a node that is down. Memory: none.
+ * Proved: `NodeCalled`, `TellsProducer` (`Node::producer`). */
+uint32_t kp_producer(kp_handle *node, uint64_t producer_id, kp_producer_out *found);
+
+/* Lists the transactions that are open in the node's log into a closed handle, by rising first offset: kp_count says how many,
+ * kp_open_transaction tells each. Also of a node that is down. 33. Proved: `OpenCalled` (`Node::open_transactions`). */
+uint32_t kp_open_transactions(kp_handle *node, kp_handle *transactions);
+
+/* Reads batches of the node's log from an offset on, also those that aren't committed, into a closed handle, for a host that writes them
+ * down: as many as fit into so many bytes, but at least one where there is one. Also of a node that is down. 16, 33.
+ * Proved: `LogCalled`, `ReadsLog` (`Node::log_from`). */
+uint32_t kp_log_from(kp_handle *node, uint64_t from, uint32_t most_bytes, kp_handle *batches);
+
 /* Stops the node, which keeps its log. 28. Proved: `NodeCalled`, `Stops` (`Node::stop`). */
 uint32_t kp_stop(kp_handle *node);
 
@@ -287,11 +319,27 @@ uint32_t kp_fetch(kp_handle *node, kp_handle *pass, uint64_t from, uint32_t most
 
 /* ---- what was read: no node's lock is needed, and the log may go on meanwhile */
 
-/* How many batches, records or segments stand in a handle; of what was fetched, the batches. Proved: `HasCount`. */
+/* How many batches, records, open transactions or segments stand in a handle; of what was fetched, the batches. Proved: `HasCount`. */
 uint32_t kp_count(kp_handle *handle, size_t *found);
 
 /* How many bytes one of the batches has, from 0 on. KP_OUT_OF_RANGE. Proved: `HasSize`. */
 uint32_t kp_batch_size(kp_handle *batches, size_t index, uint32_t *size);
+
+typedef struct {
+    uint64_t base;           /* the offset of its first record */
+    uint64_t base_timestamp; /* its records' timestamps count from it: milliseconds since 1970 */
+    uint64_t max_timestamp;  /* the greatest timestamp of its records */
+    uint64_t producer_id;    /* whose it is, or whom its marker is for; UINT64_MAX where it has none */
+    uint32_t epoch;          /* the leader epoch; UINT32_MAX where it has none */
+    uint32_t count;          /* how many records it has, and offsets it takes */
+    uint32_t base_sequence;  /* the sequence number of its first record; UINT32_MAX where it has none, as a marker */
+    uint32_t size;           /* how many bytes it has */
+    uint16_t producer_epoch; /* UINT16_MAX where it has none */
+    uint16_t attributes;     /* bit 4: transactional; bit 5: control */
+} kp_batch_head_out;
+
+/* The head of one of the batches, from 0 on; none of its bytes is copied. KP_OUT_OF_RANGE. Memory: none. Proved: `HasHead`. */
+uint32_t kp_batch_head(kp_handle *batches, size_t index, kp_batch_head_out *found);
 
 /* Copies the bytes of one of the batches, once. KP_OUT_OF_RANGE; KP_BAD_LENGTH where `length` is less than they are, and then
  * nothing is written. Memory: none. Proved: `WritesBatch`: the batch's one spelling, and no byte after it. */
@@ -315,6 +363,14 @@ typedef struct {
 
 /* One of the aborted transactions, from 0 on, by rising first offset. KP_OUT_OF_RANGE. Proved: `HasAborted`. */
 uint32_t kp_aborted(kp_handle *fetched, size_t index, kp_aborted_out *found);
+
+typedef struct {
+    uint64_t producer_id;
+    uint64_t first; /* the offset of its first record */
+} kp_open_transaction_out;
+
+/* One of the open transactions, from 0 on, by rising first offset. KP_OUT_OF_RANGE. Proved: `HasOpen`. */
+uint32_t kp_open_transaction(kp_handle *transactions, size_t index, kp_open_transaction_out *found);
 
 typedef struct {
     uint64_t offset;
@@ -363,6 +419,24 @@ enum { KP_CONTROLLER = 255 };
 
 /* The number of the node that a message goes to, or KP_CONTROLLER. Proved: `HasAddressee` (`MessageBody::addressee`). */
 uint32_t kp_addressee(kp_handle *message, uint8_t *node);
+
+enum { KP_ASKS_FROM = 0, KP_BATCHES = 1, KP_DIVERGING = 2, KP_PROPOSES = 3, KP_DECIDES = 4 };
+
+typedef struct {
+    uint64_t offset;    /* KP_ASKS_FROM: the asker's log end offset; KP_DIVERGING: where the epoch ends in the leader's log */
+    uint64_t count;     /* KP_BATCHES: how many */
+    uint64_t watermark; /* KP_BATCHES: the leader's high watermark */
+    uint32_t epoch;     /* KP_ASKS_FROM: the leader epoch of the asker's last batch; KP_DIVERGING: the epoch that the leader has;
+                           KP_DECIDES: the leader epoch; UINT32_MAX where there is none */
+    uint32_t version;   /* KP_PROPOSES: of the controller's record that the sender knows; KP_DECIDES: of the one that stands */
+    uint8_t kind;
+    uint8_t sender;     /* the node that sent it, or KP_CONTROLLER */
+    bool in_sync[7];    /* KP_PROPOSES: the in-sync replicas asked for; KP_DECIDES: those that stand */
+} kp_said_out;
+
+/* What a message says, and who sent it; what its kind hasn't got is 0, or false. No batch is copied. Memory: none.
+ * Proved: `HasSaid` (`MessageBody::said`). */
+uint32_t kp_said(kp_handle *message, kp_said_out *found);
 
 #ifdef __cplusplus
 }

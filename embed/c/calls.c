@@ -433,6 +433,164 @@ static void states_are_in_order(void) {
     closes(&w);
 }
 
+static void wants_head(kp_handle *batches, size_t index, uint64_t base, uint64_t producer, uint32_t sequence, uint16_t attributes) {
+    kp_batch_head_out head = {0};
+    WANT(kp_batch_head(batches, index, &head), KP_DONE);
+    WANT(head.base, base);
+    WANT(head.epoch, 0);
+    WANT(head.producer_id, producer);
+    WANT(head.base_sequence, sequence);
+    WANT(head.attributes, attributes);
+}
+
+/* Producer 12's transaction stands at 0 and 1, its marker at 2, a second transaction of it at 3 and 4, a batch of no producer at 5; nothing
+ * is committed. */
+static void logs_are_described(void) {
+    test = "descriptions";
+    world w;
+    kp_receipt receipt;
+    kp_handle opened = {0}, batches = {0};
+    kp_producer_out producer = {0};
+    kp_open_transaction_out open = {0};
+    kp_batch_head_out head = {0};
+    batch second = transaction;
+    uint32_t sum;
+    size_t count = 0;
+    opens(&w, &roomy);
+    elects(&w);
+    second.bytes[56] = 2; /* its sequence numbers go on */
+    sum = checksum(second.bytes + 21, second.size - 21);
+    for (int i = 0; i < 4; i++)
+        second.bytes[17 + i] = (uint8_t)(sum >> (24 - 8 * i));
+    WANT(kp_producer(&w.nodes[LEADER], 12, &producer), KP_DONE);
+    WANT(producer.found, false);
+    WANT(producer.open_from, 0);
+    WANT(produces(&w, &transaction, &receipt), KP_DONE);
+    WANT(kp_producer(&w.nodes[LEADER], 12, &producer), KP_DONE);
+    WANT(producer.found, true);
+    WANT(producer.epoch, 0);
+    WANT(producer.last_sequence, 1);
+    WANT(producer.coordinator_epoch, UINT32_MAX);
+    WANT(producer.open_from, 0);
+    WANT(kp_mark(&w.nodes[LEADER], &w.pass, &ends_12, &receipt), KP_DONE);
+    WANT(kp_producer(&w.nodes[LEADER], 12, &producer), KP_DONE);
+    WANT(producer.coordinator_epoch, 3);
+    WANT(producer.open_from, UINT64_MAX);
+    WANT(produces(&w, &second, &receipt), KP_DONE);
+    WANT(produces(&w, &one_record, &receipt), KP_DONE);
+    WANT(kp_producer(&w.nodes[LEADER], 12, &producer), KP_DONE);
+    WANT(producer.last_sequence, 3);
+    WANT(producer.open_from, 3);
+    WANT(kp_open_transactions(&w.nodes[LEADER], &opened), KP_DONE);
+    WANT(kp_count(&opened, &count), KP_DONE);
+    WANT(count, 1);
+    WANT(kp_open_transaction(&opened, 0, &open), KP_DONE);
+    WANT(open.producer_id, 12);
+    WANT(open.first, 3);
+    WANT(kp_open_transaction(&opened, 1, &open), KP_OUT_OF_RANGE);
+    WANT(kp_log_from(&w.nodes[LEADER], 1, 1048576, &batches), KP_DONE);
+    WANT(kp_count(&batches, &count), KP_DONE);
+    WANT(count, 4);
+    wants_head(&batches, 0, 0, 12, 0, 16);
+    wants_head(&batches, 1, 2, 12, UINT32_MAX, 48);
+    wants_head(&batches, 2, 3, 12, 2, 16);
+    wants_head(&batches, 3, 5, UINT64_MAX, UINT32_MAX, 0);
+    WANT(kp_batch_head(&batches, 0, &head), KP_DONE);
+    WANT(head.count, 2);
+    WANT(head.size, transaction.size);
+    WANT(head.producer_epoch, 0);
+    WANT(head.base_timestamp, 1000);
+    WANT(head.max_timestamp, 1000);
+    WANT(kp_batch_head(&batches, 3, &head), KP_DONE);
+    WANT(head.producer_epoch, UINT16_MAX);
+    WANT(head.base_timestamp, 1700000000000);
+    WANT(kp_batch_head(&batches, 4, &head), KP_OUT_OF_RANGE);
+    WANT(kp_close(&batches), KP_DONE);
+    WANT(kp_log_from(&w.nodes[LEADER], 2, 1, &batches), KP_DONE);
+    WANT(kp_count(&batches, &count), KP_DONE);
+    WANT(count, 1);
+    WANT(kp_close(&batches), KP_DONE);
+    WANT(kp_log_from(&w.nodes[LEADER], 7, 1, &batches), 16);
+    WANT(kp_stop(&w.nodes[LEADER]), KP_DONE);
+    WANT(kp_log_from(&w.nodes[LEADER], 6, 1, &batches), KP_DONE);
+    WANT(kp_count(&batches, &count), KP_DONE);
+    WANT(count, 0);
+    WANT(kp_close(&batches), KP_DONE);
+    WANT(kp_close(&opened), KP_DONE);
+    closes(&w);
+}
+
+static void wants_said(kp_handle *message, uint8_t kind, uint8_t sender, uint64_t offset, uint32_t epoch) {
+    kp_said_out said = {0};
+    WANT(kp_said(message, &said), KP_DONE);
+    WANT(said.kind, kind);
+    WANT(said.sender, sender);
+    WANT(said.offset, offset);
+    WANT(said.epoch, epoch);
+}
+
+/* A follower asks from 0 and then from 1; after an election its log and the new leader's diverge. */
+static void messages_say_what_they_are(void) {
+    test = "messages";
+    world w;
+    kp_receipt receipt;
+    kp_handle message = {0};
+    kp_known_out known = {0};
+    kp_said_out said = {0};
+    kp_leadership_out leadership = {0};
+    kp_role role;
+    opens(&w, &roomy);
+    elects(&w);
+    WANT(produces(&w, &one_record, &receipt), KP_DONE);
+    WANT(kp_known(&w.nodes[0], &known), 15);
+    WANT(kp_known(&w.nodes[LEADER], &known), KP_DONE);
+    WANT(known.leadership.leader, LEADER);
+    WANT(known.leadership.elected, true);
+    WANT(known.leadership.in_sync[3], true);
+    WANT(known.reported[0], UINT64_MAX);
+    WANT(known.pending, false);
+    WANT(known.proposed[0], false);
+    WANT(kp_ask(&w.nodes[0], &message), KP_DONE);
+    wants_said(&message, KP_ASKS_FROM, 0, 0, UINT32_MAX);
+    WANT(kp_step(&w.nodes[LEADER], &message), KP_DONE);
+    wants_said(&message, KP_BATCHES, LEADER, 0, 0);
+    WANT(kp_said(&message, &said), KP_DONE);
+    WANT(said.count, 1);
+    WANT(said.watermark, 0);
+    WANT(kp_step(&w.nodes[0], &message), KP_DONE);
+    WANT(kp_ask(&w.nodes[0], &message), KP_DONE);
+    wants_said(&message, KP_ASKS_FROM, 0, 1, 0);
+    WANT(kp_step(&w.nodes[LEADER], &message), KP_DONE);
+    WANT(kp_known(&w.nodes[LEADER], &known), KP_DONE);
+    WANT(known.reported[0], 1);
+    WANT(known.reported[1], UINT64_MAX);
+    WANT(kp_close(&message), KP_DONE);
+    WANT(kp_alter(&w.nodes[LEADER], false, 3, &message), KP_DONE);
+    wants_said(&message, KP_PROPOSES, LEADER, 0, 0);
+    WANT(kp_said(&message, &said), KP_DONE);
+    WANT(said.version, 1);
+    WANT(said.in_sync[3], false);
+    WANT(said.in_sync[0], true);
+    WANT(kp_known(&w.nodes[LEADER], &known), KP_DONE);
+    WANT(known.pending, true);
+    WANT(known.proposed[0], true);
+    WANT(known.proposed[3], false);
+    WANT(kp_decide(&w.pass, &message), KP_DONE);
+    wants_said(&message, KP_DECIDES, KP_CONTROLLER, 0, 0);
+    WANT(kp_said(&message, &said), KP_DONE);
+    WANT(said.version, 2);
+    WANT(said.in_sync[3], false);
+    WANT(kp_close(&message), KP_DONE);
+    WANT(kp_elect(&w.pass, 1, &leadership), KP_DONE);
+    WANT(kp_adopt(&w.nodes[1], &role), KP_DONE);
+    WANT(kp_adopt(&w.nodes[0], &role), KP_DONE);
+    WANT(kp_ask(&w.nodes[0], &message), KP_DONE);
+    WANT(kp_step(&w.nodes[1], &message), KP_DONE);
+    wants_said(&message, KP_DIVERGING, 1, 0, UINT32_MAX);
+    WANT(kp_close(&message), KP_DONE);
+    closes(&w);
+}
+
 static void restarts_are_in_order(void) {
     test = "restarts";
     world w;
@@ -537,6 +695,31 @@ static void wants_pair_misuses(world *w, kp_handle *node) {
     WANT(kp_offset_for_time(node, &w->cluster, 0, true, &time), KP_OTHER_KIND);
 }
 
+static void wants_description_misuses(world *w, kp_handle *node) {
+    kp_handle closed = {0}, other = {0};
+    kp_known_out known;
+    kp_producer_out producer;
+    kp_open_transaction_out open;
+    kp_batch_head_out head;
+    kp_said_out said;
+    WANT(kp_known(&closed, &known), KP_CLOSED);
+    WANT(kp_known(&w->pass, &known), KP_OTHER_KIND);
+    WANT(kp_producer(&closed, 0, &producer), KP_CLOSED);
+    WANT(kp_producer(&w->pass, 0, &producer), KP_OTHER_KIND);
+    WANT(kp_open_transactions(&closed, &other), KP_CLOSED);
+    WANT(kp_open_transactions(&w->pass, &closed), KP_OTHER_KIND);
+    WANT(kp_open_transactions(node, &w->pass), KP_IN_USE);
+    WANT(kp_log_from(&closed, 0, 1, &other), KP_CLOSED);
+    WANT(kp_log_from(&w->pass, 0, 1, &closed), KP_OTHER_KIND);
+    WANT(kp_log_from(node, 0, 1, &w->pass), KP_IN_USE);
+    WANT(kp_open_transaction(&closed, 0, &open), KP_CLOSED);
+    WANT(kp_open_transaction(node, 0, &open), KP_OTHER_KIND);
+    WANT(kp_batch_head(&closed, 0, &head), KP_CLOSED);
+    WANT(kp_batch_head(node, 0, &head), KP_OTHER_KIND);
+    WANT(kp_said(&closed, &said), KP_CLOSED);
+    WANT(kp_said(node, &said), KP_OTHER_KIND);
+}
+
 static void wants_receipts_misuses(world *w, kp_handle *node) {
     kp_handle closed = {0};
     WANT(kp_tell_receipts(&closed, &w->pass), KP_CLOSED);
@@ -572,6 +755,8 @@ static void wants_no_room(world *w, kp_handle *node, kp_handle *handed) {
     WANT(kp_read(node, &w->pass, 0, &closed), KP_NO_ROOM);
     WANT(kp_read_committed(node, &w->pass, 0, &closed), KP_NO_ROOM);
     WANT(kp_fetch(node, &w->pass, 0, 1, true, &closed), KP_NO_ROOM);
+    WANT(kp_open_transactions(node, &closed), KP_NO_ROOM);
+    WANT(kp_log_from(node, 0, 1, &closed), KP_NO_ROOM);
     WANT(kp_segments(node, &closed), KP_NO_ROOM);
     WANT(kp_ask(node, &closed), KP_NO_ROOM);
     WANT(kp_hand(&closed, one_record.bytes, most), KP_NO_ROOM);
@@ -612,6 +797,7 @@ static void misuses_have_their_numbers(void) {
         refuses = round == 1;
         wants_opening_misuses(&w);
         wants_pair_misuses(&w, &w.nodes[LEADER]);
+        wants_description_misuses(&w, &w.nodes[LEADER]);
         wants_receipts_misuses(&w, &w.nodes[LEADER]);
         wants_node_misuses(&w, &w.nodes[LEADER], &segments);
         WANT(blocks, held);
@@ -712,6 +898,8 @@ int main(int count, char **words) {
     reads_are_in_order();
     fetches_are_in_order();
     states_are_in_order();
+    logs_are_described();
+    messages_say_what_they_are();
     restarts_are_in_order();
     proposals_are_what_was_asked_for();
     misuses_have_their_numbers();

@@ -182,6 +182,29 @@ static void answers_a_consumer(kp_handle *node, client *c, size_t size) {
     holds("the first record", time.found && time.offset == 0);
 }
 
+/* What an operator asks of the leader: what the others have reported, which transactions are open; and the head of its last batch. */
+static void answers_an_operator(kp_handle *node) {
+    kp_handle opened = {0}, batches = {0};
+    kp_known_out known;
+    kp_producer_out producer;
+    kp_batch_head_out head;
+    size_t count;
+    wants("known", kp_known(node, &known), KP_DONE);
+    holds("it leads, and has proposed nothing", known.leadership.elected && known.leadership.leader == 0 && !known.pending);
+    holds("the other's log ends where its own does", known.reported[1] == CLIENTS * BATCHES && known.reported[NODES] == UINT64_MAX);
+    wants("open", kp_open_transactions(node, &opened), KP_DONE);
+    wants("count", kp_count(&opened, &count), KP_DONE);
+    holds("none", count == 0);
+    wants("close", kp_close(&opened), KP_DONE);
+    wants("producer", kp_producer(node, 1, &producer), KP_DONE);
+    holds("its last batch", producer.found && producer.last_sequence == BATCHES - 1 && producer.open_from == UINT64_MAX);
+    wants("log", kp_log_from(node, CLIENTS * BATCHES - 1, 1, &batches), KP_DONE);
+    wants("head", kp_batch_head(&batches, 0, &head), KP_DONE);
+    holds("the last batch", head.base == CLIENTS * BATCHES - 1 && head.count == 1 && head.producer_id <= CLIENTS && head.attributes == 0);
+    wants("beyond", kp_batch_head(&batches, 1, &head), KP_OUT_OF_RANGE);
+    wants("close", kp_close(&batches), KP_DONE);
+}
+
 /* The log is one segment, whose file has so many batches. */
 static void has_file(kp_handle *node, size_t wanted) {
     uint8_t name[KP_NAME_BYTES];
@@ -266,6 +289,7 @@ int main(void) {
     reads(&nodes[0].node, one, size);
     reads_committed(&nodes[0].node, one);
     answers_a_consumer(&nodes[0].node, one, size);
+    answers_an_operator(&nodes[0].node);
 
     kp_handle proposal = {0};
     wants("propose", kp_alter(&nodes[0].node, false, 2, &proposal), KP_DONE);

@@ -30,6 +30,8 @@ mod node_consumed;
 #[cfg(test)]
 mod node_consumer_tests;
 #[cfg(test)]
+mod node_described;
+#[cfg(test)]
 mod node_meeting_tests;
 #[cfg(test)]
 mod node_seated;

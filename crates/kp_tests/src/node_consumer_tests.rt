@@ -114,3 +114,53 @@ fn an_operator_asks(rt: HostRuntime) {
          idle kept 1 life 1 end 2 mark 0 stable 0 checkpoint 0\nF15 NotLeader\n",
     );
 }
+
+// Producer 5's transaction is open at 0 until the marker at 2; a second one begins at 3, before three records of producer 6. Nothing is
+// committed, and node 1 has asked from 0.
+static DESCRIBED: [Turn; 9] = [
+    Turn::Elect(0),
+    Turn::Adopt(0),
+    Turn::Adopt(1),
+    Turn::Append(0, "t5.0.0"),
+    Turn::Append(0, "p30.4"),
+    Turn::Mark(0),
+    Turn::Append(0, "t5.0.1"),
+    Turn::Append(0, "d6.0.0.3"),
+    Turn::Ask(1),
+];
+
+static DESCRIPTIONS: [Turn; 19] = [
+    Turn::Known(1),
+    Turn::Known(0),
+    Turn::Deliver(0),
+    Turn::Alter(0, IsrChange::Leave(1)),
+    Turn::Known(0),
+    Turn::Producer(0, 5),
+    Turn::Producer(0, 6),
+    Turn::Producer(0, 7),
+    Turn::Producer(1, 5),
+    Turn::Open(0),
+    Turn::Open(1),
+    Turn::LogFrom(0, 2, MIB),
+    Turn::LogFrom(0, 0, 1),
+    Turn::LogFrom(0, 6, MIB),
+    Turn::LogFrom(0, 7, MIB),
+    Turn::LogFrom(0, 8, MIB),
+    Turn::Stop(0),
+    Turn::Known(0),
+    Turn::Open(0),
+];
+
+// By Kafka's rules (KIP-98, KIP-664): a marker ends its producer's transaction, and leaves its sequence numbers.
+#[test]
+fn a_log_is_described(rt: HostRuntime) {
+    is(
+        &rt,
+        seated(rt.alloc(), 2, &DESCRIBED, &DESCRIPTIONS),
+        "F15 NotLeader\nisr 0 1 version 1\nsent 1 batches 5 mark 0\nsent 2 proposes isr 0 version 1\n\
+         isr 0 1 version 1, proposed isr 0 version 1, 1 reported 0\nepoch 0 last 1 coordinator 7 open 3\n\
+         epoch 0 last 2 coordinator none open none\nno producer\nno producer\nopen 1, 5 from 3\nopen 0\n\
+         batches 3, 2 time 20, 3 time 10, 4 time 10\nbatches 1, 0 time 10\nbatches 1, 4 time 10\nbatches 0\n\
+         F16 OffsetOutOfRange\nstopped\nF28 Down\nopen 1, 5 from 3\n",
+    );
+}

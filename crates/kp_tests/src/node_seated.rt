@@ -4,6 +4,7 @@ ghost use Rattle.std.specs.Prelude.{◌≡◌};
 
 use crate::logs::LIMITS;
 use crate::node_consumed::{tell_end, tell_fetched, tell_found, tell_state};
+use crate::node_described::{tell_known, tell_log, tell_open, tell_producer};
 use crate::replica_played::{push_isr, push_record, push_role, push_sent};
 use crate::shown::push_bytes;
 use crate::world_tests::{MARKER, bytes_of};
@@ -48,6 +49,14 @@ pub(crate) enum Turn {
     EndFor(NodeId, Epoch),
     /// What the node tells of itself.
     Show(NodeId),
+    /// What it knows as a leader.
+    Known(NodeId),
+    /// What its log has of this producer.
+    Producer(NodeId, u64),
+    /// The transactions that are open in its log.
+    Open(NodeId),
+    /// Its log from this offset on, so many bytes of it and at least a batch.
+    LogFrom(NodeId, Offset, u32),
     Ask(NodeId),
     /// The message of this number gets to where it goes. It stays, and may come again.
     Deliver(usize),
@@ -195,6 +204,10 @@ fn tell_call<B: BoardName>(
         Turn::Restart(_) => tell_restart(text, node),
         Turn::Show(_) => tell_state(text, &node.show()),
         Turn::EndFor(_, epoch) => tell_end(text, node.end_for(*epoch)?),
+        Turn::Known(_) => tell_known(text, &node.known()?),
+        Turn::Producer(_, producer) => tell_producer(text, node.producer(*producer)),
+        Turn::Open(_) => tell_open(text, &node.open_transactions()?),
+        Turn::LogFrom(_, from, most) => tell_log(text, &node.log_from(*from, *most)?),
         _ => Err(Refusal::BadCount),
     }
 }
@@ -404,7 +417,11 @@ impl<B: BoardName> Seats<B> {
             | Turn::Stop(node)
             | Turn::Restart(node)
             | Turn::Show(node)
-            | Turn::EndFor(node, _) => self.call(text, *node, turn),
+            | Turn::EndFor(node, _)
+            | Turn::Known(node)
+            | Turn::Producer(node, _)
+            | Turn::Open(node)
+            | Turn::LogFrom(node, ..) => self.call(text, *node, turn),
             Turn::Fetch(node, ..) | Turn::OffsetForTime(node, ..) => {
                 self.consume(text, pass, *node, turn)
             }

@@ -2,6 +2,7 @@
 
 use crate::error::Error;
 use crate::ffi::RawBatches;
+use crate::values::BatchHead;
 
 /// Batches that were read, in the order of the log. They share the log's memory until they are dropped, and need no lock.
 #[derive(Debug)]
@@ -25,6 +26,19 @@ impl Batches {
     /// Whether all were given.
     pub fn is_empty(&self) -> bool {
         self.len() == 0
+    }
+
+    /// The head of the next one; none where all were given. None of its bytes is copied, and the batch is left for the next call. O(1).
+    pub fn head(&mut self) -> Result<Option<BatchHead>, Error> {
+        if self.is_empty() {
+            return Ok(None);
+        }
+        self.raw.head(self.next).map(|head| Some(head.into()))
+    }
+
+    /// Goes on to the batch after the next one. O(1).
+    pub fn skip_one(&mut self) {
+        self.next = self.count.min(self.next + 1);
     }
 
     /// Puts the next one's bytes in place of what the buffer holds, and says whether there was one. They are those that were handed

@@ -113,6 +113,60 @@ pub(crate) struct StateOut {
 
 #[repr(C)]
 #[derive(Clone, Copy, Default)]
+pub(crate) struct KnownOut {
+    pub leadership: LeadershipOut,
+    pub reported: [u64; 7],
+    pub pending: bool,
+    pub proposed: [bool; 7],
+}
+
+#[repr(C)]
+#[derive(Clone, Copy, Default)]
+pub(crate) struct ProducerOut {
+    pub open_from: u64,
+    pub last_sequence: u32,
+    pub coordinator_epoch: u32,
+    pub epoch: u16,
+    pub found: bool,
+}
+
+#[repr(C)]
+#[derive(Clone, Copy, Default)]
+pub(crate) struct OpenOut {
+    pub producer_id: u64,
+    pub first: u64,
+}
+
+#[repr(C)]
+#[derive(Clone, Copy, Default)]
+pub(crate) struct HeadOut {
+    pub base: u64,
+    pub base_timestamp: u64,
+    pub max_timestamp: u64,
+    pub producer_id: u64,
+    pub epoch: u32,
+    pub count: u32,
+    pub base_sequence: u32,
+    pub size: u32,
+    pub producer_epoch: u16,
+    pub attributes: u16,
+}
+
+#[repr(C)]
+#[derive(Clone, Copy, Default)]
+pub(crate) struct SaidOut {
+    pub offset: u64,
+    pub count: u64,
+    pub watermark: u64,
+    pub epoch: u32,
+    pub version: u32,
+    pub kind: u8,
+    pub sender: u8,
+    pub in_sync: [bool; 7],
+}
+
+#[repr(C)]
+#[derive(Clone, Copy, Default)]
 pub(crate) struct EpochOut {
     pub end: u64,
     pub epoch: u32,
@@ -152,6 +206,10 @@ unsafe extern "C" {
     fn kp_checkpoint(node: &mut Handle, offset: &mut u64) -> u32;
     fn kp_show(node: &mut Handle, found: &mut StateOut) -> u32;
     fn kp_end_for(node: &mut Handle, epoch: u32, found: &mut EpochOut) -> u32;
+    fn kp_known(node: &mut Handle, found: &mut KnownOut) -> u32;
+    fn kp_producer(node: &mut Handle, producer_id: u64, found: &mut ProducerOut) -> u32;
+    fn kp_open_transactions(node: &mut Handle, transactions: &mut Handle) -> u32;
+    fn kp_log_from(node: &mut Handle, from: u64, most_bytes: u32, batches: &mut Handle) -> u32;
     fn kp_stop(node: &mut Handle) -> u32;
     fn kp_restart(node: &mut Handle, restarted: &mut RestartOut) -> u32;
     fn kp_ask(node: &mut Handle, message: &mut Handle) -> u32;
@@ -173,12 +231,15 @@ unsafe extern "C" {
     fn kp_count(handle: &mut Handle, found: &mut usize) -> u32;
     fn kp_batch_size(batches: &mut Handle, index: usize, size: &mut u32) -> u32;
     fn kp_batch(batches: &mut Handle, index: usize, to: *mut u8, count: usize) -> u32;
+    fn kp_batch_head(batches: &mut Handle, index: usize, found: &mut HeadOut) -> u32;
+    fn kp_open_transaction(transactions: &mut Handle, index: usize, found: &mut OpenOut) -> u32;
     fn kp_fetched(fetched: &mut Handle, found: &mut FetchedOut) -> u32;
     fn kp_aborted(fetched: &mut Handle, index: usize, found: &mut AbortedOut) -> u32;
     fn kp_committed(records: &mut Handle, index: usize, found: &mut ValueOut) -> u32;
     fn kp_value(records: &mut Handle, index: usize, to: *mut u8, count: usize) -> u32;
     fn kp_segment(segments: &mut Handle, index: usize, name: *mut u8, count: usize, batches: &mut Handle) -> u32;
     fn kp_addressee(message: &mut Handle, node: &mut u8) -> u32;
+    fn kp_said(message: &mut Handle, found: &mut SaidOut) -> u32;
     fn kp_text(number: u32, to: *mut u8, count: usize) -> usize;
 }
 
@@ -263,6 +324,12 @@ pub(crate) struct RawBatches {
 /// Records, as a read-committed consumer gets them.
 #[derive(Debug)]
 pub(crate) struct RawRecords {
+    handle: Handle,
+}
+
+/// Open transactions.
+#[derive(Debug)]
+pub(crate) struct RawTransactions {
     handle: Handle,
 }
 
@@ -388,6 +455,34 @@ impl RawNode {
         Ok(found)
     }
 
+    pub(crate) fn known(&mut self) -> Result<KnownOut, Error> {
+        let mut found = KnownOut::default();
+        // SAFETY: the handle is the library's.
+        answered(unsafe { kp_known(&mut self.handle, &mut found) })?;
+        Ok(found)
+    }
+
+    pub(crate) fn producer(&mut self, producer_id: u64) -> Result<ProducerOut, Error> {
+        let mut found = ProducerOut::default();
+        // SAFETY: the handle is the library's.
+        answered(unsafe { kp_producer(&mut self.handle, producer_id, &mut found) })?;
+        Ok(found)
+    }
+
+    pub(crate) fn open_transactions(&mut self) -> Result<RawTransactions, Error> {
+        let mut handle = Handle::closed();
+        // SAFETY: one handle is the library's, the other is closed.
+        answered(unsafe { kp_open_transactions(&mut self.handle, &mut handle) })?;
+        Ok(RawTransactions { handle })
+    }
+
+    pub(crate) fn log_from(&mut self, from: u64, most_bytes: u32) -> Result<RawBatches, Error> {
+        let mut handle = Handle::closed();
+        // SAFETY: one handle is the library's, the other is closed.
+        answered(unsafe { kp_log_from(&mut self.handle, from, most_bytes, &mut handle) })?;
+        Ok(RawBatches { handle })
+    }
+
     pub(crate) fn stop(&mut self) -> Result<(), Error> {
         // SAFETY: the handle is the library's.
         answered(unsafe { kp_stop(&mut self.handle) })
@@ -498,7 +593,7 @@ impl RawHanded {
     }
 }
 
-// How many batches, records or segments stand in the handle.
+// How many batches, records, open transactions or segments stand in the handle.
 fn count(handle: &mut Handle) -> Result<usize, Error> {
     let mut found = 0;
     // SAFETY: the handle is the library's.
@@ -512,6 +607,27 @@ impl RawMessage {
         let mut found = 0;
         // SAFETY: the handle is the library's.
         answered(unsafe { kp_addressee(&mut self.handle, &mut found) })?;
+        Ok(found)
+    }
+
+    pub(crate) fn said(&mut self) -> Result<SaidOut, Error> {
+        let mut found = SaidOut::default();
+        // SAFETY: the handle is the library's.
+        answered(unsafe { kp_said(&mut self.handle, &mut found) })?;
+        Ok(found)
+    }
+}
+
+impl RawTransactions {
+    pub(crate) fn count(&mut self) -> Result<usize, Error> {
+        count(&mut self.handle)
+    }
+
+    /// One of them.
+    pub(crate) fn transaction(&mut self, index: usize) -> Result<OpenOut, Error> {
+        let mut found = OpenOut::default();
+        // SAFETY: the handle is the library's.
+        answered(unsafe { kp_open_transaction(&mut self.handle, index, &mut found) })?;
         Ok(found)
     }
 }
@@ -560,6 +676,13 @@ impl RawBatches {
         // SAFETY: the handle is the library's.
         answered(unsafe { kp_batch_size(&mut self.handle, index, &mut size) })?;
         Ok(size as usize)
+    }
+
+    pub(crate) fn head(&mut self, index: usize) -> Result<HeadOut, Error> {
+        let mut found = HeadOut::default();
+        // SAFETY: the handle is the library's.
+        answered(unsafe { kp_batch_head(&mut self.handle, index, &mut found) })?;
+        Ok(found)
     }
 
     /// What was fetched beside the batches.

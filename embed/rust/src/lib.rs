@@ -97,9 +97,12 @@ pub use error::{Error, Refusal};
 pub use fetched::{AbortedTransaction, Fetched, Isolation};
 pub use ffi::Limits;
 pub use links::{Link, Place};
-pub use message::{Addressee, Message};
+pub use message::{Addressee, Message, Said};
 pub use node::Node;
 pub use records::{CommittedRecord, Records};
 pub use segments::{Segment, Segments};
-pub use values::{Ack, Change, EpochEnd, Leadership, Marker, NodeState, Receipt, Restarted, Role, Status, TimeOffset};
+pub use values::{
+    Ack, BatchHead, Change, EpochEnd, Known, Leadership, Marker, NodeState, OpenTransaction, ProducerState, Receipt, Restarted, Role,
+    Status, TimeOffset,
+};
 pub use workers::{Event, Workers};

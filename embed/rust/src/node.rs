@@ -9,7 +9,9 @@ use crate::ffi::{MarkerIn, ReceiptOut};
 use crate::message::Message;
 use crate::records::Records;
 use crate::segments::Segments;
-use crate::values::{Ack, Change, EpochEnd, Marker, NodeState, Receipt, Restarted, Role, TimeOffset};
+use crate::values::{
+    Ack, Change, EpochEnd, Known, Marker, NodeState, OpenTransaction, ProducerState, Receipt, Restarted, Role, TimeOffset,
+};
 
 /// A node, as long as its lock is held: drop it to let others in. Each call is an event of the run, or none, as a read; a node that is
 /// down refuses all but [`Node::restart`] by F28.
@@ -170,6 +172,56 @@ impl<'a> Node<'a> {
     pub fn fetch(&mut self, pass: &mut Pass, from: u64, most_bytes: u32, isolation: Isolation) -> Result<Fetched, Error> {
         let raw = self.raw.fetch(&mut pass.raw, from, most_bytes, isolation == Isolation::ReadCommitted)?;
         Fetched::new(raw)
+    }
+
+    /// What the node knows as a leader: the controller's record, the in-sync replicas that it has proposed, and what the others have
+    /// reported. F15 where it doesn't lead. No memory; O(1).
+    pub fn known(&mut self) -> Result<Known, Error> {
+        self.raw.known().map(Known::from)
+    }
+
+    /// What the node's log has of a producer, also of a node that is down; none where it has no batch of it: what Kafka's
+    /// DescribeProducers answers. No memory; O(log n) in the producers, O(1) as a rule.
+    pub fn producer(&mut self, producer_id: u64) -> Result<Option<ProducerState>, Error> {
+        self.raw.producer(producer_id).map(ProducerState::of)
+    }
+
+    /// The transactions that are open in the node's log, by rising first offset; also of a node that is down. F33. O(n) in those that no
+    /// marker below the high watermark has ended.
+    ///
+    /// ```
+    /// use kpart::{Cluster, Limits, OpenTransaction};
+    ///
+    /// # fn main() -> Result<(), kpart::Error> {
+    /// let cluster = Cluster::open(1, Limits::default())?;
+    /// let mut pass = cluster.pass()?;
+    /// pass.elect(0)?;
+    /// let mut leader = cluster.node(0)?;
+    /// leader.adopt()?;
+    /// // A batch of producer 13's transaction, which no marker ends.
+    /// leader.produce(&mut pass, include_bytes!(concat!(env!("CARGO_MANIFEST_DIR"), "/tests/aborted.batch")))?;
+    /// assert_eq!(leader.open_transactions()?, [OpenTransaction { producer_id: 13, first: 0 }]);
+    /// let producer = leader.producer(13)?.expect("the log has a batch of it");
+    /// assert_eq!((producer.epoch, producer.last_sequence, producer.open_from), (0, Some(0), Some(0)));
+    /// assert_eq!(leader.producer(14)?, None);
+    ///
+    /// let mut batches = leader.log_from(0, 1_048_576)?; // it isn't committed yet
+    /// let head = batches.head()?.expect("the log has one");
+    /// assert_eq!((head.base, head.producer, head.transactional, head.control), (0, Some((13, 0)), true, false));
+    /// assert_eq!(leader.known()?.proposed, None);
+    /// # Ok(()) }
+    /// ```
+    pub fn open_transactions(&mut self) -> Result<Vec<OpenTransaction>, Error> {
+        let mut raw = self.raw.open_transactions()?;
+        (0..raw.count()?).map(|index| raw.transaction(index).map(OpenTransaction::from)).collect()
+    }
+
+    /// Batches of the node's log, also those that aren't committed: from the one that holds an offset on, as many as fit into so many bytes,
+    /// but at least one where there is one; also of a node that is down. For a host that writes them down. F16 above the node's log end,
+    /// F33. O(log n) in the log, and O(1) for each batch, as they are shared, not copied.
+    pub fn log_from(&mut self, from: u64, most_bytes: u32) -> Result<Batches, Error> {
+        let raw = self.raw.log_from(from, most_bytes)?;
+        Batches::new(raw)
     }
 
     /// The node's log as the segments that a broker would keep as files, also of a node that is down, and also what isn't committed.

@@ -1,6 +1,8 @@
 //! Plain values that calls take and give.
 
-use crate::ffi::{EpochOut, LeadershipOut, MarkerIn, ReceiptOut, RestartOut, RoleOut, StateOut, TimeOut};
+use crate::ffi::{
+    EpochOut, HeadOut, KnownOut, LeadershipOut, MarkerIn, OpenOut, ProducerOut, ReceiptOut, RestartOut, RoleOut, StateOut, TimeOut,
+};
 
 /// What a node is under the controller's record that it took up.
 #[derive(Clone, Copy, Debug, PartialEq, Eq)]
@@ -49,6 +51,65 @@ pub struct NodeState {
     pub stable: u64,
     /// The high watermark that it last noted, from which a restart begins.
     pub checkpoint: u64,
+}
+
+/// What a leader knows of the others.
+#[derive(Clone, Copy, Debug, PartialEq, Eq)]
+pub struct Known {
+    /// The controller's record, as the leader knows it.
+    pub leadership: Leadership,
+    /// Whether the node of each number is among the in-sync replicas that the leader has proposed; none where it has proposed none since it
+    /// last learned of a decision. Both sets count for its high watermark.
+    pub proposed: Option<[bool; 7]>,
+    /// The log end offset that the node of each number has reported since this one began to lead; none where it has reported nothing.
+    pub reported: [Option<u64>; 7],
+}
+
+/// A producer, as a node's log has it (Kafka's DescribeProducers).
+#[derive(Clone, Copy, Debug, PartialEq, Eq)]
+pub struct ProducerState {
+    /// The producer's epoch in its last batch.
+    pub epoch: u16,
+    /// The sequence number of its last record since that epoch began; none where it has written none.
+    pub last_sequence: Option<u32>,
+    /// The coordinator epoch of its last marker; none where it has none.
+    pub coordinator_epoch: Option<u32>,
+    /// The offset of the first record of its open transaction; none where none is open.
+    pub open_from: Option<u64>,
+}
+
+/// A transaction that no marker has ended yet.
+#[derive(Clone, Copy, Debug, PartialEq, Eq)]
+pub struct OpenTransaction {
+    /// Whose it is.
+    pub producer_id: u64,
+    /// The offset of its first record.
+    pub first: u64,
+}
+
+/// The head of a batch that was read.
+#[derive(Clone, Copy, Debug, PartialEq, Eq)]
+pub struct BatchHead {
+    /// The offset of its first record.
+    pub base: u64,
+    /// The leader epoch.
+    pub epoch: Option<u32>,
+    /// How many records it has, and offsets it takes.
+    pub count: u32,
+    /// How many bytes it has.
+    pub size: u32,
+    /// Its records' timestamps count from this one: milliseconds since 1970.
+    pub base_timestamp: u64,
+    /// The greatest timestamp of its records: milliseconds since 1970.
+    pub max_timestamp: u64,
+    /// The producer that wrote it, or that its marker is for, and the producer's epoch; none where it is of no producer.
+    pub producer: Option<(u64, u16)>,
+    /// The sequence number of its first record; none where it is of no producer, or a marker.
+    pub base_sequence: Option<u32>,
+    /// Whether it is part of a transaction: data, or the marker that ends it.
+    pub transactional: bool,
+    /// Whether it is a control batch: a marker, and no data.
+    pub control: bool,
 }
 
 /// Where a leader epoch ends in a leader's log.
@@ -167,6 +228,60 @@ impl From<StateOut> for NodeState {
             _ => Status::Down,
         };
         NodeState { life, kept_epoch: adopted.then_some(kept_epoch), status, end, watermark, stable, checkpoint }
+    }
+}
+
+// The library sets all bits of what there is none of.
+fn known_number(number: u64) -> Option<u64> {
+    (number != u64::MAX).then_some(number)
+}
+
+fn known_word(word: u32) -> Option<u32> {
+    (word != u32::MAX).then_some(word)
+}
+
+impl From<KnownOut> for Known {
+    fn from(known: KnownOut) -> Known {
+        let KnownOut { leadership, reported, pending, proposed } = known;
+        Known { leadership: leadership.into(), proposed: pending.then_some(proposed), reported: reported.map(known_number) }
+    }
+}
+
+impl ProducerState {
+    pub(crate) fn of(producer: ProducerOut) -> Option<ProducerState> {
+        let ProducerOut { open_from, last_sequence, coordinator_epoch, epoch, found } = producer;
+        found.then(|| ProducerState {
+            epoch,
+            last_sequence: known_word(last_sequence),
+            coordinator_epoch: known_word(coordinator_epoch),
+            open_from: known_number(open_from),
+        })
+    }
+}
+
+impl From<OpenOut> for OpenTransaction {
+    fn from(open: OpenOut) -> OpenTransaction {
+        let OpenOut { producer_id, first } = open;
+        OpenTransaction { producer_id, first }
+    }
+}
+
+impl From<HeadOut> for BatchHead {
+    fn from(head: HeadOut) -> BatchHead {
+        let HeadOut { base, base_timestamp, max_timestamp, producer_id, epoch, count, base_sequence, size, producer_epoch, attributes } =
+            head;
+        BatchHead {
+            base,
+            epoch: known_word(epoch),
+            count,
+            size,
+            base_timestamp,
+            max_timestamp,
+            producer: known_number(producer_id).map(|id| (id, producer_epoch)),
+            base_sequence: known_word(base_sequence),
+            transactional: attributes & 16 != 0,
+            control: attributes & 32 != 0,
+        }
     }
 }
 

@@ -5,7 +5,7 @@ use crate::error::{Error, Refusal};
 use crate::links::{Fate, Link, Links, Place};
 use crate::message::{Addressee, Message};
 use crate::node::Node;
-use crate::values::{Change, Role};
+use crate::values::{Change, NodeState, Role};
 use std::collections::BTreeMap;
 use std::sync::Arc;
 use std::sync::mpsc::{Receiver, RecvTimeoutError, Sender, channel};
@@ -14,6 +14,9 @@ use std::time::{Duration, Instant};
 
 // After so many turns without an answer a follower asks again.
 const PATIENCE: u32 = 50;
+// After so many turns at which nothing had changed the next one comes later, and at last so many times as late.
+const QUIET: u32 = 16;
+const SLOWEST: u32 = 8;
 
 #[derive(Debug)]
 enum Parcel {
@@ -185,7 +188,8 @@ impl Teller {
 /// A worker for each node and one for the controller: each a thread, with a channel of std for what comes to it.
 ///
 /// At its turn, which comes again and again, a node takes up the controller's record; then it asks its leader, unless an answer is
-/// under way, or, where it leads, raises its high watermark; and it notes its high watermark as the checkpoint. A node that was stopped
+/// under way, or, where it leads, raises its high watermark; and it notes its high watermark as the checkpoint. While nothing changes at
+/// the node its turns come more rarely, at last eight times as late; [`Workers::turn`] ends that at once. A node that was stopped
 /// stays down until somebody restarts it; one that went down as memory was refused in a take is started again at its next turn.
 /// Dropping the workers stops them. [`Workers::start_with`] tells the host what becomes of the nodes; by [`Workers::link`] a test loses
 /// messages, or holds them back.
@@ -213,7 +217,7 @@ pub struct Workers {
 }
 
 impl Workers {
-    /// Starts them: a node's turn comes `every` after its last one ended. [`Error::NoRoom`]; [`Error::NoThread`].
+    /// Starts them: a node's turn comes `every` after its last one ended, or later where nothing changes. [`Error::NoRoom`]; [`Error::NoThread`].
     pub fn start(cluster: &Cluster, every: Duration) -> Result<Workers, Error> {
         Workers::begin(cluster, every, 0, None)
     }
@@ -396,11 +400,13 @@ struct Worker {
     asked: Option<Instant>,
     has_fallen: bool,
     teller: Option<Teller>,
+    last: Option<NodeState>,
+    quiet: u32,
 }
 
 impl Worker {
     fn new(cluster: Cluster, number: u8, posts: Posts, every: Duration, teller: Option<Teller>) -> Worker {
-        Worker { cluster, number, posts, every, next_turn: Instant::now(), asked: None, has_fallen: false, teller }
+        Worker { cluster, number, posts, every, next_turn: Instant::now(), asked: None, has_fallen: false, teller, last: None, quiet: 0 }
     }
 
     fn serve(&mut self, mut inbox: Inbox) {
@@ -409,7 +415,11 @@ impl Worker {
             let _done = match inbox.next(Some(self.next_turn)) {
                 Some(Parcel::Message(message, _)) => self.take(message),
                 Some(Parcel::Propose(change)) => self.propose(change),
-                Some(Parcel::Turn) | None => self.turn(),
+                Some(Parcel::Turn) => {
+                    self.quiet = 0;
+                    self.turn()
+                }
+                None => self.turn(),
                 Some(Parcel::Stop) => return,
             };
             if self.next_turn <= Instant::now() {
@@ -425,7 +435,7 @@ impl Worker {
     // and a worker that asked again at once would keep others from it.
     fn turn(&mut self) -> Result<(), Error> {
         let done = self.take_turn();
-        self.next_turn = Instant::now() + self.every;
+        self.next_turn = Instant::now() + self.every * (1 + self.quiet / QUIET).min(SLOWEST);
         done
     }
 
@@ -444,6 +454,9 @@ impl Worker {
         }
         let leads = node.raise().is_ok();
         let _noted = node.checkpoint();
+        let state = node.show().ok();
+        self.quiet = if state == self.last { self.quiet.saturating_add(1) } else { 0 };
+        self.last = state;
         if let Some(teller) = &mut self.teller {
             teller.look(&node, adopted == Err(Refusal::Down.into()));
         }

@@ -1,8 +1,8 @@
 //! Each call once, and what the types refuse.
 
 use kpart::{
-    AbortedTransaction, Ack, Addressee, Batch, Change, Cluster, CommittedRecord, EpochEnd, Error, Fetched, Isolation, Leadership, Limits,
-    Marker, Message, NodeState, Pass, Refusal, Role, Segment, Status, TimeOffset,
+    AbortedTransaction, Ack, Addressee, Batch, BatchHead, Change, Cluster, CommittedRecord, EpochEnd, Error, Fetched, Isolation,
+    Leadership, Limits, Marker, Message, NodeState, OpenTransaction, Pass, ProducerState, Refusal, Role, Said, Segment, Status, TimeOffset,
 };
 
 const ONE_RECORD: &[u8] = include_bytes!("one_record.batch");
@@ -445,5 +445,89 @@ fn a_pass_and_batches_outlive_their_cluster() -> Done {
     let mut bytes = Vec::new();
     assert_eq!((batches.len(), batches.next_into(&mut bytes)?), (1, true));
     assert_eq!((bytes.len(), batches.next_into(&mut bytes)?), (ONE_RECORD.len(), false));
+    Ok(())
+}
+
+#[test]
+fn a_log_is_described() -> Done {
+    let (cluster, mut pass) = led(2)?;
+    let mut node = cluster.node(0)?;
+    assert_eq!((node.producer(12)?, node.open_transactions()?), (None, vec![]));
+    node.produce(&mut pass, TRANSACTION)?;
+    let opened = ProducerState { epoch: 0, last_sequence: Some(1), coordinator_epoch: None, open_from: Some(0) };
+    assert_eq!(node.producer(12)?, Some(opened));
+    assert_eq!(node.open_transactions()?, [OpenTransaction { producer_id: 12, first: 0 }]);
+    node.mark(&mut pass, &Marker { producer_id: 12, producer_epoch: 0, coordinator_epoch: 3, timestamp: 2_000, commits: true })?;
+    node.produce(&mut pass, ONE_RECORD)?;
+    node.produce(&mut pass, ABORTED)?;
+    assert_eq!(node.producer(12)?, Some(ProducerState { coordinator_epoch: Some(3), open_from: None, ..opened }));
+    assert_eq!(node.open_transactions()?, [OpenTransaction { producer_id: 13, first: 4 }]);
+    node.stop()?; // it tells all of that also while it is down
+    assert_eq!(node.open_transactions()?.len(), 1);
+    let mut log = node.log_from(1, u32::MAX)?;
+    let data = BatchHead {
+        base: 0,
+        epoch: Some(0),
+        count: 2,
+        size: TRANSACTION.len() as u32,
+        base_timestamp: 1_000,
+        max_timestamp: 1_000,
+        producer: Some((12, 0)),
+        base_sequence: Some(0),
+        transactional: true,
+        control: false,
+    };
+    assert_eq!((log.head()?, log.len()), (Some(data), 4));
+    assert_eq!((log.next().map(|it| it.map(|it| it.len())), log.len()), (Some(Ok(TRANSACTION.len())), 3));
+    let marker = log.head()?.expect("three are left");
+    assert_eq!((marker.base, marker.count, marker.producer, marker.base_sequence), (2, 1, Some((12, 0)), None));
+    assert!(marker.transactional && marker.control && marker.base_timestamp == 2_000);
+    log.skip_one();
+    let plain = log.head()?.expect("two are left");
+    assert_eq!((plain.base, plain.producer, plain.base_sequence, plain.transactional, plain.control), (3, None, None, false, false));
+    (0..3).for_each(|_| log.skip_one());
+    assert_eq!((log.head()?, log.len()), (None, 0));
+    assert_eq!(node.log_from(1, 1)?.len(), 1);
+    assert_eq!(node.log_from(5, 1)?.len(), 0);
+    assert_eq!(node.log_from(6, 1).err(), Some(Refusal::OffsetOutOfRange.into()));
+    Ok(())
+}
+
+// What a leader knows, and what goes to and fro until it is known.
+#[test]
+fn messages_say_what_they_are() -> Done {
+    let (cluster, mut pass) = led(2)?;
+    cluster.node(0)?.produce(&mut pass, ONE_RECORD)?;
+    let unknown = cluster.node(0)?.known()?;
+    assert_eq!((unknown.leadership.leader, unknown.proposed, unknown.reported), (Some((0, 0)), None, [None; 7]));
+    assert_eq!(cluster.node(1)?.known().err(), Some(Refusal::NotLeader.into()));
+    let mut request = cluster.node(1)?.ask()?;
+    assert_eq!((request.sender()?, request.said()?), (Addressee::Node(1), Said::AsksFrom { offset: 0, last_epoch: None }));
+    let mut answer = cluster.node(0)?.step(request)?.expect("a leader answers");
+    assert_eq!((answer.sender()?, answer.said()?), (Addressee::Node(0), Said::Batches { count: 1, watermark: 0 }));
+    assert_eq!(cluster.node(0)?.known()?.reported[1], Some(0));
+    cluster.node(1)?.step(answer)?;
+    let mut proposal = cluster.node(0)?.alter(Change::Leave(1))?;
+    let alone = [true, false, false, false, false, false, false];
+    assert_eq!((proposal.sender()?, proposal.said()?), (Addressee::Node(0), Said::Proposes { in_sync: alone, version: 1 }));
+    assert_eq!(cluster.node(0)?.known()?.proposed, Some(alone));
+    let mut decision = pass.decide(proposal)?;
+    assert_eq!(
+        (decision.sender()?, decision.said()?),
+        (Addressee::Controller, Said::Decides { version: 2, epoch: Some(0), in_sync: alone })
+    );
+    cluster.node(0)?.step(decision)?;
+    let known = cluster.node(0)?.known()?;
+    assert_eq!((known.leadership.version, known.leadership.in_sync, known.proposed), (2, alone, None));
+
+    pass.elect(0)?;
+    cluster.node(0)?.adopt()?;
+    cluster.node(0)?.produce(&mut pass, ONE_RECORD)?;
+    let late = cluster.node(1)?.ask()?; // in the epoch before
+    assert_eq!(cluster.node(0)?.step(late).err(), Some(Refusal::FencedLeaderEpoch.into()));
+    cluster.node(1)?.adopt()?;
+    let request = cluster.node(1)?.ask()?;
+    let mut answer = cluster.node(0)?.step(request)?.expect("a leader answers");
+    assert_eq!(answer.said()?, Said::Batches { count: 1, watermark: 0 });
     Ok(())
 }

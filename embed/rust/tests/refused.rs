@@ -4,8 +4,8 @@
 //! each so many of the first ones.
 
 use kpart::{
-    AbortedTransaction, Ack, Addressee, Change, Cluster, CommittedRecord, EpochEnd, Error, Event, Isolation, Limits, Marker, Message, Pass,
-    Receipt, Refusal, Role, Workers,
+    AbortedTransaction, Ack, Addressee, Change, Cluster, CommittedRecord, EpochEnd, Error, Event, Isolation, Limits, Marker, Message,
+    OpenTransaction, Pass, Receipt, Refusal, Role, Said, Workers,
 };
 use std::alloc::{Layout, alloc, dealloc, realloc};
 use std::sync::Mutex;
@@ -16,6 +16,8 @@ use std::time::Duration;
 const ONE_RECORD: &[u8] = include_bytes!("one_record.batch");
 // Of producer 13's transaction: one record.
 const ABORTED: &[u8] = include_bytes!("aborted.batch");
+// Of producer 12's transaction: two records.
+const TRANSACTION: &[u8] = include_bytes!("transaction.batch");
 const HEAD: usize = 32; // before each block stands its size
 const FIRST: u64 = 1_000;
 
@@ -173,7 +175,22 @@ fn serve() -> Result<Vec<Vec<u8>>, Error> {
     assert_eq!(all_committed(&cluster, &mut pass)?.len(), 20);
     assert_eq!(all_kept(&cluster)?, all);
     fetches(&cluster, &mut pass)?;
+    describes(&cluster, &mut pass)?;
     Ok(all)
+}
+
+// A transaction more, which stays open, and what an operator asks.
+fn describes(cluster: &Cluster, pass: &mut Pass) -> Result<(), Error> {
+    again(|| cluster.node(0)?.produce(pass, TRANSACTION))?;
+    let opened = again(|| cluster.node(0)?.open_transactions())?;
+    assert_eq!(opened, [OpenTransaction { producer_id: 12, first: 23 }]);
+    assert_eq!(cluster.node(0)?.producer(12)?.map(|it| (it.last_sequence, it.open_from)), Some((Some(1), Some(23))));
+    let mut log = again(|| cluster.node(0)?.log_from(22, u32::MAX))?;
+    assert_eq!(log.head()?.map(|it| (it.base, it.control)), Some((22, true)));
+    assert_eq!((log.len(), cluster.node(0)?.known()?.proposed), (2, None));
+    let mut request = again(|| cluster.node(1)?.ask())?;
+    assert_eq!((request.sender()?, request.said()?), (Addressee::Node(1), Said::AsksFrom { offset: 21, last_epoch: Some(0) }));
+    Ok(())
 }
 
 // A transaction more, which is aborted, and what a consumer's fetch tells then.
