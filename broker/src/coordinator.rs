@@ -138,6 +138,17 @@ impl Transactions {
         })
     }
 
+    /// Whether a batch of the producer's transaction may go to the partition: it was added to the transaction, which is open (KIP-890). As
+    /// in Kafka a producer is told to try again while its last one is ending.
+    pub fn check_added(&self, id: Option<&str>, producer: Producer, place: usize) -> Result<(), ErrorCode> {
+        let id = id.ok_or(ErrorCode::TransactionalIdAuthorizationFailed)?;
+        self.with(id, producer, |it| match it.state {
+            State::Open if it.partitions.contains(&place) => Ok(()),
+            State::Ending { .. } => Err(ErrorCode::NotEnoughReplicas),
+            State::Open | State::Empty | State::Ended { .. } => Err(ErrorCode::InvalidTxnState),
+        })
+    }
+
     /// Keeps a group's offsets until the transaction ends.
     pub fn keep_offsets(&self, id: &str, producer: Producer, offsets: Vec<PendingOffset>) -> Result<(), ErrorCode> {
         self.with(id, producer, |it| match it.state {

@@ -7,7 +7,7 @@ use crate::partition::Waited;
 use crate::reply::{Close, Passes, Reply};
 use crate::{lock, requests};
 use kpart::{Batch, Pass, Receipt};
-use kwire::batch::mended;
+use kwire::batch::{BatchHead, mended};
 use kwire::produce::{ProduceRequest, ProduceResponse, ProducedPartition, ProducedTopic};
 use kwire::{ErrorCode, Message, Reader, api};
 use std::sync::Mutex;
@@ -73,7 +73,8 @@ pub fn append(
                 Some(code) => Err(code),
                 None => {
                     let bytes = it.records.whole().unwrap_or_default();
-                    append_one(hub, node, producer, batch, request.acks, (topic.name, it.index), bytes).map_err(i16::from)
+                    let wanted = Wanted { node, acks: request.acks, id: request.transactional_id, at: (topic.name, it.index) };
+                    append_one(hub, producer, batch, &wanted, bytes).map_err(i16::from)
                 }
             };
             parts.push(Part { index: it.index, came });
@@ -84,20 +85,24 @@ pub fn append(
     Ok(Produced { header, acks: request.acks, until: header.came + wait, topics })
 }
 
-/// Hands one batch to the node, which says whether it takes it.
-fn append_one(
-    hub: &Hub,
+/// What a Produce says beside the batch.
+struct Wanted<'a> {
     node: u8,
-    producer: &Producer,
-    batch: &mut Option<Batch>,
     acks: i16,
-    (topic, index): (&str, i32),
-    bytes: &[u8],
-) -> Result<Taken, ErrorCode> {
+    /// The transactional id.
+    id: Option<&'a str>,
+    /// Topic and partition.
+    at: (&'a str, i32),
+}
+
+/// Hands one batch to the node, which says whether it takes it.
+fn append_one(hub: &Hub, producer: &Producer, batch: &mut Option<Batch>, wanted: &Wanted<'_>, bytes: &[u8]) -> Result<Taken, ErrorCode> {
+    let (node, acks) = (wanted.node, wanted.acks);
     if !(-1..=1).contains(&acks) {
         return Err(ErrorCode::InvalidRequiredAcks);
     }
-    let place = hub.find(topic, index)?;
+    let place = hub.find(wanted.at.0, wanted.at.1)?;
+    check_added(hub, wanted.id, place, bytes)?;
     let (Some(partition), Some(slot)) = (hub.partitions.get(place), producer.passes.get(place)) else {
         return Err(ErrorCode::UnknownTopicOrPartition);
     };
@@ -127,6 +132,17 @@ fn handed<'b>(batch: &'b mut Option<Batch>, bytes: &[u8]) -> Result<&'b mut Batc
             Ok(it)
         }
         empty => Ok(empty.insert(Batch::new(bytes).map_err(code)?)),
+    }
+}
+
+/// What belongs to a transaction goes only to partitions that were added to it, so that something ends it there. Of bytes that are no batch
+/// the library says what is wrong.
+fn check_added(hub: &Hub, id: Option<&str>, place: usize, bytes: &[u8]) -> Result<(), ErrorCode> {
+    match BatchHead::read(bytes) {
+        Ok(head) if head.is_transactional() && !head.is_control() => {
+            hub.transactions.check_added(id, (head.producer_id, head.producer_epoch), place)
+        }
+        _ => Ok(()),
     }
 }
 

@@ -54,8 +54,8 @@ fn what_is_aborted_is_named_and_left_out() -> Outcome {
     let broker = broker()?;
     let mut client = Client::of_leader(&broker, 0)?;
     let (one, other) = (begun(&mut client, "one")?, begun(&mut client, "other")?);
-    assert_eq!(client.produce(0, &part(&["a0", "a1"], one, 0), -1)?, (0, 0));
-    assert_eq!(client.produce(0, &part(&["b0"], other, 0), -1)?, (0, 2));
+    assert_eq!(client.produce_in("one", 0, &part(&["a0", "a1"], one, 0))?, (0, 0));
+    assert_eq!(client.produce_in("other", 0, &part(&["b0"], other, 0))?, (0, 2));
     assert_eq!(client.produce(0, &batch(&["plain"], NOBODY, 1), -1)?, (0, 3));
     let got = client.fetch(0, 0, 1)?;
     assert_eq!((got.watermark, got.stable, got.bytes.len()), (4, 0, 0)); // both are open
@@ -82,7 +82,7 @@ fn the_end_may_be_asked_for_again() -> Outcome {
     let broker = broker()?;
     let mut client = Client::of_leader(&broker, 0)?;
     let one = begun(&mut client, "one")?;
-    client.produce(0, &part(&["a"], one, 0), -1)?;
+    client.produce_in("one", 0, &part(&["a"], one, 0))?;
     assert_eq!(end(&mut client, "one", one, true)?, 0);
     assert_eq!(end(&mut client, "one", one, true)?, 0);
     assert_eq!(end(&mut client, "one", one, false)?, i16::from(ErrorCode::InvalidTxnState));
@@ -102,14 +102,14 @@ fn a_new_producer_fences_the_old_one() -> Outcome {
     let broker = broker()?;
     let mut client = Client::of_leader(&broker, 0)?;
     let old = begun(&mut client, "one")?;
-    client.produce(0, &part(&["lost"], old, 0), -1)?;
+    client.produce_in("one", 0, &part(&["lost"], old, 0))?;
     let new = begun(&mut client, "one")?;
     assert!(new.0 == old.0 && new.1 > old.1);
     let fenced = i16::from(ErrorCode::InvalidProducerEpoch);
     assert_eq!(end(&mut client, "one", old, true)?, fenced);
     assert_eq!(add(&mut client, "one", old, &[0])?, [fenced]);
-    assert_eq!(client.produce(0, &part(&["late"], old, 1), -1)?.0, fenced);
-    client.produce(0, &part(&["kept"], new, 0), -1)?;
+    assert_eq!(client.produce_in("one", 0, &part(&["late"], old, 1))?.0, fenced);
+    client.produce_in("one", 0, &part(&["kept"], new, 0))?;
     assert_eq!(end(&mut client, "one", new, true)?, 0);
     let end = client.list(0, -1, 1)?.1;
     assert_eq!(texts(&client.read_to(0, end, 1)?), ["kept"]);
@@ -127,10 +127,32 @@ fn one_that_takes_too_long_is_aborted() -> Outcome {
     let mut client = Client::of_leader(&broker, 0)?;
     let slow = init(&mut client, Some("slow"), 100)?.map_err(|it| format!("code {it}"))?;
     add(&mut client, "slow", slow, &[0])?;
-    client.produce(0, &part(&["slow"], slow, 0), -1)?;
+    client.produce_in("slow", 0, &part(&["slow"], slow, 0))?;
     until("it is aborted", || client.list(0, -1, 1).is_ok_and(|it| it.1 == 2))?;
     assert_eq!(end(&mut client, "slow", slow, true)?, i16::from(ErrorCode::InvalidProducerEpoch));
     assert_eq!(client.read_to(0, 2, 1)?, []);
+    Ok(())
+}
+
+/// A transaction that nobody ends would hold back all readers of what is committed (KIP-890).
+#[test]
+fn a_batch_of_no_open_transaction_is_refused() -> Outcome {
+    let broker = broker_of(3, 2)?;
+    let (mut client, mut coordinator) = (Client::of_leader(&broker, 1)?, Client::of_node(&broker, 0)?);
+    let one = init(&mut coordinator, Some("one"), 60_000)?.map_err(|it| format!("code {it}"))?;
+    let [not_named, not_added, unknown] =
+        [ErrorCode::TransactionalIdAuthorizationFailed, ErrorCode::InvalidTxnState, ErrorCode::InvalidProducerIdMapping].map(i16::from);
+    assert_eq!(client.produce_in("one", 1, &part(&["early"], one, 0))?.0, not_added);
+    assert_eq!(add(&mut coordinator, "one", one, &[0])?, [0]);
+    assert_eq!(client.produce_in("one", 1, &part(&["elsewhere"], one, 0))?.0, not_added);
+    assert_eq!(add(&mut coordinator, "one", one, &[1])?, [0]);
+    assert_eq!(client.produce(1, &part(&["nameless"], one, 0), -1)?.0, not_named);
+    assert_eq!(client.produce_in("other", 1, &part(&["misnamed"], one, 0))?.0, unknown);
+    assert_eq!(client.produce_in("one", 1, &part(&["taken"], one, 0))?, (0, 0));
+    assert_eq!(end(&mut coordinator, "one", one, true)?, 0);
+    assert_eq!(client.produce_in("one", 1, &part(&["late"], one, 1))?.0, not_added);
+    assert_eq!(texts(&client.read_to(1, 2, 1)?), ["taken"]);
+    assert_eq!(client.list(1, -1, 1)?.1, 2); // nothing is open
     Ok(())
 }
 
@@ -142,7 +164,7 @@ fn an_end_survives_a_failover() -> Outcome {
     assert_eq!(add(&mut coordinator, "one", one, &[0, 1, 2])?, [0, 0, 0]);
     for index in 0..3 {
         let mut client = Client::of_leader(&broker, index)?;
-        assert_eq!(client.produce(index, &part(&["a"], one, 0), -1)?.0, 0);
+        assert_eq!(client.produce_in("one", index, &part(&["a"], one, 0))?.0, 0);
     }
     broker.stop(2)?;
     broker.elect_of(TOPIC, 0, 1)?;

@@ -110,6 +110,7 @@ codes! {
     InvalidTransactionTimeout: 50, "INVALID_TRANSACTION_TIMEOUT", false, "The transaction's time is more than the broker takes.";
     ConcurrentTransactions: 51, "CONCURRENT_TRANSACTIONS", true, "The transaction before this one is still ending.";
     TransactionCoordinatorFenced: 52, "TRANSACTION_COORDINATOR_FENCED", false, "A marker is of an older coordinator.";
+    TransactionalIdAuthorizationFailed: 53, "TRANSACTIONAL_ID_AUTHORIZATION_FAILED", false, "The transactional id isn't named, or not allowed.";
     OperationNotAttempted: 55, "OPERATION_NOT_ATTEMPTED", false, "Not tried, as another part of the request failed.";
     KafkaStorageError: 56, "KAFKA_STORAGE_ERROR", true, "The broker can't keep or read the log.";
     UnknownProducerId: 59, "UNKNOWN_PRODUCER_ID", false, "The log knows nothing of the producer.";

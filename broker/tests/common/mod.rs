@@ -110,6 +110,12 @@ impl Client {
         Ok(produced(&answer)?)
     }
 
+    /// The same of a batch of the transaction of this id.
+    pub fn produce_in(&mut self, id: &str, index: i32, batch: &[u8]) -> Fallible<(i16, i64)> {
+        let answer = self.ask(&ProduceRequest { transactional_id: Some(id), ..produce_request(index, batch, -1) }, 9)?;
+        Ok(produced(&answer)?)
+    }
+
     pub fn fetch(&mut self, index: i32, from: i64, isolation_level: i8) -> Fallible<Got> {
         self.fetch_of(index, &Ask { from, isolation_level, ..Ask::default() })
     }
