@@ -188,7 +188,8 @@ impl Teller {
 /// A worker for each node and one for the controller: each a thread, with a channel of std for what comes to it.
 ///
 /// At its turn, which comes again and again, a node takes up the controller's record; then it asks its leader, unless an answer is
-/// under way, or, where it leads, raises its high watermark; and it notes its high watermark as the checkpoint. While nothing changes at
+/// under way, or, where it leads, raises its high watermark; and it notes its high watermark as the checkpoint. A follower that took
+/// batches asks again at once. While nothing changes at
 /// the node its turns come more rarely, at last eight times as late; [`Workers::turn`] ends that at once. A node that was stopped
 /// stays down until somebody restarts it; one that went down as memory was refused in a take is started again at its next turn.
 /// Dropping the workers stops them. [`Workers::start_with`] tells the host what becomes of the nodes; by [`Workers::link`] a test loses
@@ -400,13 +401,38 @@ struct Worker {
     asked: Option<Instant>,
     has_fallen: bool,
     teller: Option<Teller>,
+    stir: Stir,
+}
+
+// What a node was at the last look, and at how many turns since nothing had changed.
+#[derive(Default)]
+struct Stir {
     last: Option<NodeState>,
     quiet: u32,
 }
 
+impl Stir {
+    // How far the node's log has grown since the last look; none where nothing at all has changed.
+    fn look(&mut self, node: &mut Node<'_>) -> Option<u64> {
+        let state = node.show().ok();
+        let ends = [self.last, state].map(|it| it.map_or(0, |it| it.end));
+        let changed = state != self.last;
+        self.last = state;
+        if changed {
+            self.quiet = 0;
+        }
+        changed.then_some(ends[1].saturating_sub(ends[0]))
+    }
+
+    // The time until the next turn.
+    fn wait(&self, every: Duration) -> Duration {
+        every * (1 + self.quiet / QUIET).min(SLOWEST)
+    }
+}
+
 impl Worker {
     fn new(cluster: Cluster, number: u8, posts: Posts, every: Duration, teller: Option<Teller>) -> Worker {
-        Worker { cluster, number, posts, every, next_turn: Instant::now(), asked: None, has_fallen: false, teller, last: None, quiet: 0 }
+        Worker { cluster, number, posts, every, next_turn: Instant::now(), asked: None, has_fallen: false, teller, stir: Stir::default() }
     }
 
     fn serve(&mut self, mut inbox: Inbox) {
@@ -416,7 +442,7 @@ impl Worker {
                 Some(Parcel::Message(message, _)) => self.take(message),
                 Some(Parcel::Propose(change)) => self.propose(change),
                 Some(Parcel::Turn) => {
-                    self.quiet = 0;
+                    self.stir.quiet = 0;
                     self.turn()
                 }
                 None => self.turn(),
@@ -435,7 +461,7 @@ impl Worker {
     // and a worker that asked again at once would keep others from it.
     fn turn(&mut self) -> Result<(), Error> {
         let done = self.take_turn();
-        self.next_turn = Instant::now() + self.every * (1 + self.quiet / QUIET).min(SLOWEST);
+        self.next_turn = Instant::now() + self.stir.wait(self.every);
         done
     }
 
@@ -454,9 +480,9 @@ impl Worker {
         }
         let leads = node.raise().is_ok();
         let _noted = node.checkpoint();
-        let state = node.show().ok();
-        self.quiet = if state == self.last { self.quiet.saturating_add(1) } else { 0 };
-        self.last = state;
+        if self.stir.look(&mut node).is_none() {
+            self.stir.quiet = self.stir.quiet.saturating_add(1);
+        }
         if let Some(teller) = &mut self.teller {
             teller.look(&node, adopted == Err(Refusal::Down.into()));
         }
@@ -488,11 +514,20 @@ impl Worker {
                 self.asked = None;
             }
         }
+        let grown = self.stir.look(&mut node).unwrap_or(0);
         if let Some(teller) = &mut self.teller {
             teller.look(&node, is_down);
         }
+        let answer = match stepped? {
+            // So that its leader knows at once what it has taken.
+            None if grown > 0 => {
+                self.asked = Some(Instant::now());
+                Some(node.ask()?)
+            }
+            answer => answer,
+        };
         drop(node);
-        if let Some(answer) = stepped? {
+        if let Some(answer) = answer {
             self.posts.carry(Place::Node(self.number), answer);
         }
         Ok(())
