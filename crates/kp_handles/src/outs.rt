@@ -91,23 +91,23 @@ pub struct LeadershipOut {
 
 impl LeadershipOut {
     /// A record as it is told. O(1).
-    pub fn of(record: &LeaderAndIsr) -> LeadershipOut
-        ensures { result ≡ leadership_out record.now }
+    pub fn of(known: &LeaderAndIsr) -> LeadershipOut
+        ensures { result ≡ leadership_out known.now }
     {
-        match record.leader {
+        match known.leader {
             Some(leader) => LeadershipOut {
-                version: record.version,
+                version: known.version,
                 epoch: leader.epoch,
                 leader: leader.node,
                 elected: true,
-                in_sync: record.isr.members,
+                in_sync: known.isr.members,
             },
             None => LeadershipOut {
-                version: record.version,
+                version: known.version,
                 epoch: 0,
                 leader: 0,
                 elected: false,
-                in_sync: record.isr.members,
+                in_sync: known.isr.members,
             },
         }
     }
@@ -342,12 +342,12 @@ pub struct OpenOut {
 
 impl OpenOut {
     /// A transaction as it is told. O(1).
-    pub fn of(open: &OpenTransaction) -> OpenOut
-        ensures { result ≡ open_out open.now }
+    pub fn of(transaction: &OpenTransaction) -> OpenOut
+        ensures { result ≡ open_out transaction.now }
     {
         OpenOut {
-            producer_id: open.producer,
-            first: open.first,
+            producer_id: transaction.producer,
+            first: transaction.first,
         }
     }
 }

@@ -66,10 +66,10 @@ fn end_offset(end: Option<EpochEnd>) -> u64
     }
 }
 
-fn epoch_of(record: &LeaderAndIsr) -> u32
-    ensures { result ≡ record_epoch record.now }
+fn epoch_of(decided: &LeaderAndIsr) -> u32
+    ensures { result ≡ record_epoch decided.now }
 {
-    match record.leader {
+    match decided.leader {
         Some(leader) => leader.epoch,
         None => u32::MAX,
     }
@@ -127,10 +127,10 @@ impl SaidOut {
                 told.kind = 3;
                 told.version = version;
             }
-            Said::Decides(record) => {
+            Said::Decides(decided) => {
                 told.kind = 4;
-                told.epoch = epoch_of(&record);
-                told.version = record.version;
+                told.epoch = epoch_of(&decided);
+                told.version = decided.version;
             }
         }
         told

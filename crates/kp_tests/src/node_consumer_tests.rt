@@ -129,11 +129,14 @@ static DESCRIBED: [Turn; 9] = [
     Turn::Ask(1),
 ];
 
-static DESCRIPTIONS: [Turn; 19] = [
+static DESCRIPTIONS: [Turn; 22] = [
     Turn::Known(1),
     Turn::Known(0),
     Turn::Deliver(0),
     Turn::Alter(0, IsrChange::Leave(1)),
+    Turn::Known(0),
+    Turn::Deliver(2),
+    Turn::Deliver(3),
     Turn::Known(0),
     Turn::Producer(0, 5),
     Turn::Producer(0, 6),
@@ -158,7 +161,8 @@ fn a_log_is_described(rt: HostRuntime) {
         &rt,
         seated(rt.alloc(), 2, &DESCRIBED, &DESCRIPTIONS),
         "F15 NotLeader\nisr 0 1 version 1\nsent 1 batches 5 mark 0\nsent 2 proposes isr 0 version 1\n\
-         isr 0 1 version 1, proposed isr 0 version 1, 1 reported 0\nepoch 0 last 1 coordinator 7 open 3\n\
+         isr 0 1 version 1, proposed isr 0 version 1, 1 reported 0\nsent 3 record leader 0 epoch 0 version 2\ntaken\n\
+         isr 0 version 2, 1 reported 0\nepoch 0 last 1 coordinator 7 open 3\n\
          epoch 0 last 2 coordinator none open none\nno producer\nno producer\nopen 1, 5 from 3\nopen 0\n\
          batches 3, 2 time 20, 3 time 10, 4 time 10\nbatches 1, 0 time 10\nbatches 1, 4 time 10\nbatches 0\n\
          F16 OffsetOutOfRange\nstopped\nF28 Down\nopen 1, 5 from 3\n",

@@ -1,4 +1,4 @@
-//! Two callers: who meet, and of whom one is told the receipts of the other; and what a leader knows.
+//! Two callers: who meet, and of whom one is told the receipts of the other.
 
 ghost use Rattle.std.specs.Prelude.{◌≡◌, OnOk};
 ghost use Rattle.kp_model.specs.Beginning.{Begins};
@@ -10,7 +10,6 @@ use crate::world_tests::bytes_of;
 use kp_board::{Board, BoardName, Callers, Opened, Pass};
 use kp_node::{Ack, Node};
 use kp_race::nodes_of;
-use kp_replica::IsrChange;
 use kp_types::Refusal;
 use std::alloc::Global;
 use std::marker::Brand;
@@ -163,40 +162,4 @@ fn receipts_go_to_another_caller(rt: HostRuntime) {
     let alloc = rt.alloc();
     let found = told_of_another::<Brand, HostRuntime>(&rt, alloc, board_of(&rt, alloc, 2));
     assert_eq!(rt; found, Ok((true, true)));
-}
-
-// What a leader knows: the record's version, and whether node 1 is in its set, and in the one that it has proposed.
-fn known_bits<B: BoardName>(node: &Node<B>) -> Result<(u32, bool, Option<bool>), Refusal> {
-    let known = node.known()?;
-    let pending = known.pending.map(|set| set.contains(1));
-    Ok((known.record.version, known.record.isr.contains(1), pending))
-}
-
-// The same of node 0, before it proposes that node 1 leaves, then, and once it has learned that it left.
-fn known_around_a_change<B: BoardName, R: Wait>(
-    rt: &R,
-    alloc: Global,
-    opened: Opened,
-) -> Result<[(u32, bool, Option<bool>); 3], Refusal>
-    requires { opened ≡ B.table }
-{
-    let (board, nodes, mut callers) = nodes_of::<B>(alloc, opened, &LIMITS)?;
-    let leader = nodes.first().ok_or(Refusal::BadCount)?;
-    let mut pass = board.pass(&mut callers);
-    board.elect(&mut pass, 0)?;
-    let mut leader = leader.lock(rt);
-    leader.adopt()?;
-    let before = known_bits(&leader)?;
-    let proposal = leader.alter(IsrChange::Leave(1))?;
-    let proposed = known_bits(&leader)?;
-    let _learned = leader.step(board.decide(&mut pass, proposal)?)?;
-    Ok([before, proposed, known_bits(&leader)?])
-}
-
-#[test]
-fn a_leader_knows_what_it_proposed(rt: HostRuntime) {
-    let alloc = rt.alloc();
-    let found = known_around_a_change::<Brand, HostRuntime>(&rt, alloc, board_of(&rt, alloc, 2));
-    let want = [(1, true, None), (1, true, Some(false)), (2, false, None)];
-    assert_eq!(rt; found, Ok(want));
 }
