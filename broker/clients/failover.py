@@ -1,9 +1,9 @@
 """confluent_kafka: an idempotent producer under load while leaders stop, or are moved; then all is read back.
 
-    failover.py stop|elect|cut|plain SECONDS
+    failover.py stop|elect|cut|plain SECONDS [MOVES]
 
 Each record that was acknowledged has to be there once, at the offset that was told, and all in order. `plain` is a producer that isn't
-idempotent, of which nothing may be lost, but some may come twice.
+idempotent, of which nothing may be lost, but some may come twice. Leaders have to move so many times; 2 where no number is given.
 """
 import collections
 import sys
@@ -14,6 +14,7 @@ from confluent_kafka import Consumer, Producer, TopicPartition
 from host import LONG, QUICK, Host, check
 
 HOW, SECONDS = sys.argv[1], float(sys.argv[2])
+LEAST = int(sys.argv[3]) if len(sys.argv) > 3 else 2
 HOST = Host()
 ACKNOWLEDGED, FAILED, TIMES, SENT = {}, collections.Counter(), [], {}
 ENDS, MOVES = threading.Event(), []
@@ -100,7 +101,7 @@ TIMES.sort()
 print(f"{HOW}: {len(ACKNOWLEDGED)} acknowledged, {len(MOVES)} moves, failed {dict(FAILED)}; "
       f"ms until acknowledged: half {1e3 * TIMES[len(TIMES) // 2]:.1f}, of 100 the 99th {1e3 * TIMES[len(TIMES) * 99 // 100]:.1f}, "
       f"longest {1e3 * TIMES[-1]:.0f}")
-check("leaders moved", len(MOVES) > 1)
+check("leaders moved", len(MOVES) >= LEAST, len(MOVES))
 check("all were acknowledged", not LEFT and not FAILED and len(ACKNOWLEDGED) == len(SENT), (LEFT, dict(FAILED)))
 check("none is lost", all(number in COUNT for number in ACKNOWLEDGED))
 if HOW != "plain":
