@@ -188,12 +188,11 @@ impl Teller {
 /// A worker for each node and one for the controller: each a thread, with a channel of std for what comes to it.
 ///
 /// At its turn, which comes again and again, a node takes up the controller's record; then it asks its leader, unless an answer is
-/// under way, or, where it leads, raises its high watermark; and it notes its high watermark as the checkpoint. A follower that took
-/// batches asks again at once. While nothing changes at
-/// the node its turns come more rarely, at last eight times as late; [`Workers::turn`] ends that at once. A node that was stopped
-/// stays down until somebody restarts it; one that went down as memory was refused in a take is started again at its next turn.
-/// Dropping the workers stops them. [`Workers::start_with`] tells the host what becomes of the nodes; by [`Workers::link`] a test loses
-/// messages, or holds them back.
+/// under way, or, where it leads, raises its high watermark; and it notes its high watermark as the checkpoint. A follower that
+/// took batches asks again at once. While nothing changes at the node its turns come more rarely, at last eight times as late;
+/// [`Workers::turn`] ends that at once. A node that was stopped stays down until somebody restarts it; one that went down as memory
+/// was refused in a take is started again at its next turn. Dropping the workers stops them. [`Workers::start_with`] tells the host
+/// what becomes of the nodes; by [`Workers::link`] a test loses messages, or holds them back.
 ///
 /// ```
 /// use kpart::{Change, Cluster, Limits, Workers};
@@ -521,8 +520,9 @@ impl Worker {
         let answer = match stepped? {
             // So that its leader knows at once what it has taken.
             None if grown > 0 => {
+                let request = node.ask()?;
                 self.asked = Some(Instant::now());
-                Some(node.ask()?)
+                Some(request)
             }
             answer => answer,
         };
