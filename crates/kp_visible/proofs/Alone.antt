@@ -5,15 +5,12 @@ use Rattle.std.proofs.Math.Bool.{and-false}
 use Rattle.std.proofs.lemmas.Bool.{and_parts, cases_Bool, eqb-true, lt-leb, ltb-true}
 use Rattle.kp_model.specs.Log.{Batch, IsLog}
 use Rattle.kp_model.specs.Transactions.{Aborted, aborted_by, aborted_in}
+use Rattle.kp_visible.specs.Client.{spans}
 use Rattle.kp_visible.proofs.Tests.{none_any}
 use Rattle.kp_visible.proofs.Lists.{Splits, all_filter_map, all_splits}
 use Rattle.kp_visible.proofs.Places.{Apart, log_apart}
 use Rattle.kp_visible.proofs.Entries.{entry_is, entry_marks}
 use Rattle.kp_visible.proofs.Holding.{BeginsAbove, begins_above, held, own_above}
-
--- the producer's, began at or below the offset, and ends above it
-abbrev pub spans : ℕ → ℕ → Aborted → Bool
-spans producer offset a = (eqb a.producer producer && leb a.first offset) && ltb offset a.marker
 
 -- behind one that ends above the offset, the producer's begin above it
 abbrev AreAlone : ℕ → ℕ → List Aborted → Type 0

@@ -12,7 +12,7 @@ use Rattle.kp_model.specs.Log.{Batch, IsLog, below, next_offset}
 use Rattle.kp_model.specs.Producers.{content_of, is_of}
 use Rattle.kp_model.specs.Transactions.{Aborted, aborted_by, aborted_in, is_abort, is_marker_of, open_of, stable}
 use Rattle.kp_model.specs.Visible.{is_visible, records_in}
-use Rattle.kp_visible.specs.Client.{aborts_between, drops, end_after, keeps_at, kept, named, overlapping, overlaps}
+use Rattle.kp_visible.specs.Client.{aborts_between, drops, end_after, is_clear, is_clear_at, keeps_at, kept, named, overlapping, overlaps, spans}
 use Rattle.kp_visible.specs.Filter.{hides, shows, shows_at}
 use Rattle.kp_visible.specs.Laws.{IsStablePiece}
 use Rattle.kp_visible.proofs.Tests.{all_at, any_agree, any_filtered, any_mapped, contained_any, none_any}
@@ -24,7 +24,7 @@ use Rattle.kp_visible.proofs.Entries.{IsEntry, abort_marks, entry_is}
 use Rattle.kp_visible.proofs.Stopping.{aborted_stable, hides_held}
 use Rattle.kp_visible.proofs.Showing.{shows_visible}
 use Rattle.kp_visible.proofs.Growing.{apart_front}
-use Rattle.kp_visible.proofs.Alone.{any_spans, spans}
+use Rattle.kp_visible.proofs.Alone.{any_spans}
 use Rattle.kp_types.proofs.Elements.{all_append, all_behind, all_both, all_front, all_itself, all_weaker, filter_agree_on}
 
 -- ---- no marker ended it before its own
@@ -265,6 +265,14 @@ keeps_shows log front batches rest start end b lawful parts st = by_content (con
 
 -- ---- the piece
 
+piece_stands : (log : List Batch) (c : Batch) (bs front rest : List Batch) (high_watermark : ℕ) → IsLog log → log ≡ front ++ ((c ∷ bs) ++ rest)
+    → AllByRecursion (λ b. next_offset b ≤ stable log high_watermark) (c ∷ bs)
+    → AllByRecursion (λ b. Stands log (c ∷ bs) c.base (end_after (next_offset c) bs) b × (Contains log b × (next_offset b ≤ stable log high_watermark))) (c ∷ bs)
+piece_stands log c bs front rest high_watermark lawful parts within =
+    let batches = c ∷ bs in
+    let those = all_front (Contains log) batches rest (all_behind (Contains log) front (batches ++ rest) (subst (AllByRecursion (Contains log)) parts (all_itself log))) in
+    all_both (Stands log batches c.base (end_after (next_offset c) bs)) _ batches (stands log front rest c bs (log_apart log lawful) parts) (all_both (Contains log) _ batches those within)
+
 kept_parts : (log batches front rest : List Batch) (high_watermark : ℕ) → IsLog log → log ≡ front ++ (batches ++ rest)
     → AllByRecursion (λ b. next_offset b ≤ stable log high_watermark) batches
     → kept (map named (overlapping batches (aborted_in log))) batches ≡ filter (is_visible log) batches
@@ -273,11 +281,10 @@ kept_parts log (c ∷ bs) front rest high_watermark lawful parts within =
     let start = c.base in
     let end = end_after (next_offset c) bs in
     let batches = c ∷ bs in
-    let those = all_front (Contains log) batches rest (all_behind (Contains log) front (batches ++ rest) (subst (AllByRecursion (Contains log)) parts (all_itself log))) in
-    let each = all_both (Stands log batches start end) _ batches (stands log front rest c bs (log_apart log lawful) parts) (all_both (Contains log) _ batches those within) in
     filter_agree_on (λ b. Stands log batches start end b × (Contains log b × (next_offset b ≤ stable log high_watermark)))
     (λ b. keeps_at (map named (filter (overlaps start end) (aborted_in log))) batches b.base (content_of b)) (is_visible log)
-    (λ b h. keeps_shows log front batches rest start end b lawful parts h.0 ∙ shows_visible log high_watermark b lawful h.1.0 h.1.1) batches each
+    (λ b h. keeps_shows log front batches rest start end b lawful parts h.0 ∙ shows_visible log high_watermark b lawful h.1.0 h.1.1) batches
+    (piece_stands log c bs front rest high_watermark lawful parts within)
 
 pub clients_keep : (log batches : List Batch) (high_watermark : ℕ) → IsLog log → IsStablePiece batches log high_watermark
     → kept (map named (overlapping batches (aborted_in log))) batches ≡ filter (is_visible log) batches
@@ -287,6 +294,74 @@ clients_keep log batches high_watermark lawful piece =
 pub clients_keep_records : (log batches : List Batch) (high_watermark : ℕ) → IsLog log → IsStablePiece batches log high_watermark
     → records_in (kept (map named (overlapping batches (aborted_in log))) batches) ≡ records_in (filter (is_visible log) batches)
 clients_keep_records log batches high_watermark lawful piece = ap records_in (clients_keep log batches high_watermark lawful piece)
+
+-- ---- by the transactions themselves
+
+-- one that spans a batch of the piece overlaps the piece
+spans_overlaps : (start end producer : ℕ) (b : Batch) (a : Aborted) → start ≤ b.base → b.base < end
+    → (overlaps start end a && spans producer b.base a) ≡ spans producer b.base a
+spans_overlaps start end producer b a from upto =
+    by_cases (eqb a.producer producer) (leb a.first b.base) (ltb b.base a.marker) (ltb a.first end) (leb start a.marker)
+    (λ began. let le = leb-true a.first b.base began in lt-ltb a.first end (omega (arith, le, upto)))
+    (λ above. let lt = ltb-true b.base a.marker above in le-leb start a.marker (omega (arith, from, lt)))
+  where
+    by_cases : (own began above below_end late : Bool) → (began ≡ true → below_end ≡ true) → (above ≡ true → late ≡ true)
+        → ((below_end && late) && ((own && began) && above)) ≡ ((own && began) && above)
+    by_cases false began above below_end late one two = and-false (below_end && late)
+    by_cases true false above below_end late one two = and-false (below_end && late)
+    by_cases true true false below_end late one two = and-false (below_end && late)
+    by_cases true true true below_end late one two =
+        let e = one refl in
+        let t = two refl in
+        rw (e, t) refl
+
+clear_shows : (log batches : List Batch) (start end : ℕ) (b : Batch) → IsLog log → Stands log batches start end b
+    → is_clear (filter (overlaps start end) (aborted_in log)) b ≡ shows (aborted_in log) b
+clear_shows log batches start end b lawful st = by_content (content_of b)
+  where
+    spanned : (producer : ℕ) → list_any (spans producer b.base) (filter (overlaps start end) (aborted_in log)) ≡ hides (aborted_in log) producer b.base
+    spanned producer =
+        any_filtered (spans producer b.base) (overlaps start end) (aborted_in log)
+        ∙ any_agree (λ a. overlaps start end a && spans producer b.base a) (spans producer b.base) (aborted_in log)
+        (each (aborted_in log))
+        ∙ any_spans log producer b.base lawful ∙ sym (hides_held (aborted_in log) producer b.base (aborted_stable log lawful))
+      where
+        each : (l : List Aborted) → AllByRecursion (λ a. (overlaps start end a && spans producer b.base a) ≡ spans producer b.base a) l
+        each [] = tt
+        each (a ∷ l) = (spans_overlaps start end producer b a st.from st.upto, each l)
+
+    by_content : (content : Content) → is_clear_at (filter (overlaps start end) (aborted_in log)) b.base content ≡ shows_at (aborted_in log) b.base content
+    by_content (Plain records) = refl
+    by_content (Produced producer epoch sequence transactional records) = ap (λ (hidden : Bool). not (transactional && hidden)) (spanned producer)
+    by_content (Marker producer epoch coordinator commit) = refl
+
+clear_parts : (log batches front rest : List Batch) (high_watermark : ℕ) → IsLog log → log ≡ front ++ (batches ++ rest)
+    → AllByRecursion (λ b. next_offset b ≤ stable log high_watermark) batches
+    → filter (is_clear (overlapping batches (aborted_in log))) batches ≡ filter (is_visible log) batches
+clear_parts log [] front rest high_watermark lawful parts within = refl
+clear_parts log (c ∷ bs) front rest high_watermark lawful parts within =
+    let start = c.base in
+    let end = end_after (next_offset c) bs in
+    let batches = c ∷ bs in
+    filter_agree_on (λ b. Stands log batches start end b × (Contains log b × (next_offset b ≤ stable log high_watermark)))
+    (is_clear (filter (overlaps start end) (aborted_in log))) (is_visible log)
+    (λ b h. clear_shows log batches start end b lawful h.0 ∙ shows_visible log high_watermark b lawful h.1.0 h.1.1) batches
+    (piece_stands log c bs front rest high_watermark lawful parts within)
+
+pub clear_of_log : (log batches : List Batch) (high_watermark : ℕ) → IsLog log → IsStablePiece batches log high_watermark
+    → filter (is_clear (overlapping batches (aborted_in log))) batches ≡ filter (is_visible log) batches
+clear_of_log log batches high_watermark lawful piece =
+    clear_parts log batches piece.front piece.rest high_watermark lawful (piece.is ∙ append_assoc piece.front batches piece.rest) piece.below
+
+clear_same : (one other : List Aborted) (offset : ℕ) (content : Content) → IsPermutation one other → is_clear_at other offset content ≡ is_clear_at one offset content
+clear_same one other offset (Plain records) moved = refl
+clear_same one other offset (Produced producer epoch sequence transactional records) moved =
+    ap (λ (spanned : Bool). not (transactional && spanned)) (sym (list_any-IsPermutation (spans producer offset) one other moved))
+clear_same one other offset (Marker producer epoch coordinator commit) moved = refl
+
+-- in whatever order they are named
+pub clear_moved : (one other : List Aborted) (batches : List Batch) → IsPermutation one other → filter (is_clear other) batches ≡ filter (is_clear one) batches
+clear_moved one other batches moved = filter_agree (is_clear other) (is_clear one) (λ b. clear_same one other b.base (content_of b) moved) batches
 
 -- ---- other orders of what is named
 

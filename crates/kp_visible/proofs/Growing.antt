@@ -1,6 +1,6 @@
 -- What a read-committed consumer was shown before: nothing that is aborted later, and nothing that is taken back.
 use Rattle.std.proofs.Common.{◌≡◌, ℕ, ◌<◌, ◌≤◌, Bool, true, false, cond, leb, ◌⊎◌, List, [], ◌∷◌, ◌++◌, Option, Some, None, refl, sym, ap, ◌∙◌, subst, arith, append_assoc, inl, inr}
-use Rattle.std.specs.Prelude.{zero, suc, Contains, drop, length, map, min, not, unwrap_or}
+use Rattle.std.specs.Prelude.{Contains, drop, length, map, min, not, unwrap_or}
 use Rattle.std.proofs.lemmas.List.{append-nil, drop-map, map-append}
 use Rattle.kp_visible.specs.Looked.{AreKnown, are_data, are_visible, chosen}
 use Rattle.kp_visible.proofs.Stretches.{chosen_filter}

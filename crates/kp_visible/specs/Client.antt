@@ -50,6 +50,21 @@ keeps_at entries batches offset (Marker producer epoch coordinator commit) = fal
 abbrev pub kept : List (ℕ × ℕ) → List Batch → List Batch
 kept entries batches = filter (λ b. keeps_at entries batches b.base (content_of b)) batches
 
+-- ---- the same by the transactions themselves, with their markers
+
+-- it is the producer's, began at or below the offset, and ends above it
+abbrev pub spans : ℕ → ℕ → Aborted → Bool
+spans producer offset a = ((a.producer == producer) && nat_le a.first offset) && nat_lt offset a.marker
+
+abbrev pub is_clear_at : List Aborted → ℕ → Content → Bool
+is_clear_at aborted offset (Plain records) = true
+is_clear_at aborted offset (Produced producer epoch sequence transactional records) = not (transactional && list_any (spans producer offset) aborted)
+is_clear_at aborted offset (Marker producer epoch coordinator commit) = false
+
+-- data that isn't transactional, or that none of these spans
+abbrev pub is_clear : List Aborted → Batch → Bool
+is_clear aborted b = is_clear_at aborted b.base (content_of b)
+
 -- ---- a client as it is programmed: Kafka's own consumer, which keeps the entries in a queue by first offset
 
 -- the producers that it has noted, once it has seen a batch of this content: an abort marker takes its producer out

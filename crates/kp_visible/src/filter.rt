@@ -1,9 +1,10 @@
 //! Which aborted transactions decide for batches.
 
 ghost use Rattle.std.specs.Prelude.{◌≡◌, ◌≤◌, map};
-ghost use Rattle.std.specs.List.{All, AllByRecursion};
+ghost use Rattle.std.specs.List.{All, AllByRecursion, list_any};
 ghost use Rattle.std.specs.List.Sorted.{IsNonDecreasingBy};
 ghost use Rattle.kp_model.specs.Log.{logged};
+ghost use Rattle.kp_visible.specs.Client.{is_clear, spans};
 ghost use Rattle.kp_visible.specs.Filter.{covers, decides, hides, shows};
 ghost use Rattle.kp_visible.specs.Searched.{IsFirstFrom, stops};
 
@@ -72,6 +73,39 @@ pub(crate) fn is_shown(batch: &Batch, aborted: &[AbortedTransaction]) -> bool
         }
         _ => !batch.is_control(),
     }
+}
+
+/// Whether a read-committed consumer sees the batch's records, by the aborted transactions that go with a fetch's answer, in whatever order:
+/// data that isn't transactional, or that none of these spans: it is the producer's, began at or below the batch, and its marker stands
+/// above it. O(n) in them for transactional data, else O(1). (KIP-98.)
+pub fn is_clear(batch: &Batch, aborted: &[AbortedTransaction]) -> bool
+    ensures { result ≡ is_clear aborted.now (logged batch.now) }
+{
+    match batch.producer_id() {
+        Some(producer) if batch.is_transactional_data() => {
+            !is_spanned(aborted, producer, batch.base_offset())
+        }
+        _ => !batch.is_control(),
+    }
+}
+
+// Whether one of the producer's spans the offset.
+fn is_spanned(aborted: &[AbortedTransaction], producer: u64, offset: Offset) -> bool
+    ensures { result ≡ list_any (spans producer offset) aborted.now }
+{
+    for ended in aborted {
+        if spans(ended, producer, offset) {
+            return true;
+        }
+    }
+    false
+}
+
+// Whether it is the producer's, began at the offset or below it, and ends above it.
+fn spans(ended: &AbortedTransaction, producer: u64, offset: Offset) -> bool
+    ensures { result ≡ spans producer offset ended.now }
+{
+    covers(ended, producer, offset) && offset < ended.marker
 }
 
 // Whether the first transaction that decides hides this producer's transactional batch at the offset.

@@ -26,6 +26,7 @@ ghost use Rattle.kp_visible.specs.Laws.{AbortedRecordsAreHidden, AbortedRecordsW
 use crate::by_producer::ByProducer;
 use crate::filter::deciding;
 pub use committed::CommittedRecords;
+pub use filter::is_clear;
 use kp_batch::Batch;
 use kp_txns::AbortedTransaction;
 pub use lines::{ReadRecord, ReadRecords, push_committed, push_lines};

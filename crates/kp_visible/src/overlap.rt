@@ -6,7 +6,7 @@ ghost use Rattle.std.specs.List.Sorted.{IsNonDecreasingBy, IsPermutation};
 ghost use Rattle.kp_model.specs.Log.{Batch as LogBatch, IsLog, logged, next_offset};
 ghost use Rattle.kp_model.specs.Transactions.{Aborted, aborted_in};
 ghost use Rattle.kp_model.specs.Visible.{is_visible};
-ghost use Rattle.kp_visible.specs.Client.{gone_over, kept, named, overlapping, overlaps};
+ghost use Rattle.kp_visible.specs.Client.{gone_over, is_clear, kept, named, overlapping, overlaps};
 ghost use Rattle.kp_visible.specs.Laws.{IsStablePiece};
 
 use crate::filter::first_stopping;
@@ -19,7 +19,8 @@ use std::alloc::{AllocError, Global};
 /// the last batch, and its abort marker stands at or above the base offset of the first (KIP-98; Kafka protocol guide,
 /// Fetch, 'aborted_transactions'). A client that is answered with the batches, and with the producer and first offset of
 /// each of these transactions, is left with the batches that are visible in the log, where they are a piece of it below
-/// its last stable offset, whether it looks at the whole answer or goes over it.
+/// its last stable offset, whether it looks at the whole answer or goes over it; and these are the batches that none of the
+/// transactions spans ([`is_clear`](crate::is_clear)).
 /// Each batch lies below offset 2^62. It fails only where memory runs out (F33), and not where nothing overlaps: then it
 /// takes none. O(log n + m + k log k) in the n aborted transactions, in the m of them from the first on that ends at or
 /// above the first batch, up to the first at whose marker nothing that began below the end was open any more, and in the
@@ -43,6 +44,11 @@ pub fn overlapping(
         → IsLog log → aborted.now ≡ aborted_in log
         → IsStablePiece (map logged batches.now) log high_watermark
         → gone_over (map named entries.items) [] (map logged batches.now)
+        ≡ filter (is_visible log) (map logged batches.now)) }
+    ensures clear { IfOk result (λ entries. (log : List LogBatch) → (high_watermark : ℕ)
+        → IsLog log → aborted.now ≡ aborted_in log
+        → IsStablePiece (map logged batches.now) log high_watermark
+        → filter (is_clear entries.items) (map logged batches.now)
         ≡ filter (is_visible log) (map logged batches.now)) }
     ensures needed { OnErr result ((log : List LogBatch) → IsLog log → aborted.now ≡ aborted_in log
         → ¬ (overlapping (map logged batches.now) aborted.now ≡ [])) }

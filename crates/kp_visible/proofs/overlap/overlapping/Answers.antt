@@ -1,11 +1,12 @@
 use Rattle.std.proofs.Common.{List, rules, sym, ap, subst, ◌∙◌}
 use Rattle.std.specs.Prelude.{map}
+use Rattle.std.specs.List.{filter}
 use Rattle.std.specs.List.Sorted.{IsPermutation}
 use Rattle.std.proofs.lemmas.List.Sorted.{IsNonDecreasingBy-from_sort_by_key}
 use Rattle.kp_model.specs.Log.{logged}
 use Rattle.kp_model.specs.Transactions.{Aborted}
-use Rattle.kp_visible.specs.Client.{kept, named, overlapping}
-use Rattle.kp_visible.proofs.Clients.{clients_keep, kept_moved}
+use Rattle.kp_visible.specs.Client.{is_clear, kept, named, overlapping}
+use Rattle.kp_visible.proofs.Clients.{clear_moved, clear_of_log, clients_keep, kept_moved}
 use Rattle.kp_visible.proofs.Going.{clients_go_over}
 use Rattle.kp_visible.proofs.overlap.overlapping.Goals as goal
 
@@ -29,3 +30,9 @@ returns-in_ok-entries-in-Some-clause-programmed c = λ log high_watermark lawful
     let batches = map logged c.args.batches.now in
     clients_go_over log batches high_watermark c.sort_unstable_by_key.new.self.items lawful piece
     (subst (λ (l : List Aborted). IsPermutation (overlapping batches l) c.sort_unstable_by_key.new.self.items) is (returns-in_ok-entries-in-Some-clause-those c log lawful is))
+
+pub returns-in_ok-entries-in-Some-clause-clear : goal.returns-in_ok-entries-in-Some-clause-clear
+returns-in_ok-entries-in-Some-clause-clear c = λ log high_watermark lawful is piece.
+    let batches = map logged c.args.batches.now in
+    clear_moved (overlapping batches c.args.aborted.now) c.sort_unstable_by_key.new.self.items batches (returns-in_ok-entries-in-Some-clause-those c log lawful is)
+    ∙ ap (λ (l : List Aborted). filter (is_clear (overlapping batches l)) batches) is ∙ clear_of_log log batches high_watermark lawful piece
