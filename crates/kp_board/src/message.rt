@@ -1,9 +1,12 @@
 //! What goes from one node to another, and between a node and the controller.
-ghost use Rattle.std.specs.Prelude.{◌≡◌};
+ghost use Rattle.std.specs.Prelude.{◌≡◌, IfErr, IfOk};
+ghost use Rattle.kp_types.specs.declared.refusal.Refusal.TheVariants.{Memory};
 ghost use Rattle.kp_model.specs.Letter.{letter, letter_of};
 
+use crate::board::Board;
 use crate::passes::{BoardName, MessagePass};
 use kp_model::MessageBody;
+use kp_types::Refusal;
 
 /// A message between nodes, or between a node and the controller: its body beside its pass. A clause sees that the message which the
 /// pass shows, one that was sent in the board's run, has this body's letter: who sent it to whom, what it asks for, and what it
@@ -31,5 +34,17 @@ impl<B: BoardName> Message<B> {
     {
         let Message { body, pass } = self;
         (body, pass)
+    }
+
+    /// The message once more, as a carrier may bring it twice: it says the same, and its pass shows the same message. F33 is the only
+    /// refusal, as of `MessageBody::share`. O(1). (Own rule.)
+    pub fn repeat(&mut self, board: &Board<B>) -> Result<Message<B>, Refusal>
+        ensures same { (self.new.body ≡ self.old.body) × (self.new.pass ≡ self.old.pass) }
+        ensures again { IfOk result (λ m. (m.pass ≡ self.old.pass) × (letter m.body ≡ letter self.old.body)) }
+        ensures only { IfErr result (λ refusal. refusal ≡ Memory) }
+    {
+        let body = self.body.share()?;
+        let pass = board.repeat(&mut self.pass);
+        Ok(Message { body, pass })
     }
 }

@@ -12,7 +12,7 @@ use Rattle.kp_model.specs.Visible.{is_visible}
 use Rattle.kp_model.specs.World.{Node}
 use Rattle.kp_log.specs.Logged.{reaching}
 use Rattle.kp_board.specs.Views.{CallerView}
-use Rattle.kp_visible.specs.Client.{gone_over, kept, named, overlapping}
+use Rattle.kp_visible.specs.Client.{gone_over, is_clear, kept, named, overlapping}
 use Rattle.kp_node.specs.Acks.{IsPieceOf, SawHeld}
 use Rattle.kp_node.specs.Fetched.{FetchedView}
 use Rattle.kp_node.specs.Seated.{SeatedNode}
@@ -25,12 +25,14 @@ shown_up_to ReadUncommitted x = x.watermark
 shown_up_to ReadCommitted x = stable x.log x.watermark
 
 -- The log's aborted transactions that overlap these batches are named, by rising first offset; and a client that looks at these names and
--- these batches alone is left with just the batches that are visible, by what it drops and as it is programmed (KIP-98).
+-- these batches alone is left with just the batches that are visible, by what it drops and as it is programmed, and by what these
+-- transactions span (KIP-98).
 pub record NamesAborted (log batches : List Batch) (aborted : List Aborted) : Type 0 where
   pub rising : IsNonDecreasingBy (λ a. a.first) aborted
   pub those : IsPermutation (overlapping batches (aborted_in log)) aborted
   pub client : kept (map named aborted) batches ≡ filter (is_visible log) batches
   pub programmed : gone_over (map named aborted) [] batches ≡ filter (is_visible log) batches
+  pub clear : filter (is_clear aborted) batches ≡ filter (is_visible log) batches
 
 -- read uncommitted, none is named
 abbrev pub Names : Isolation → (log batches : List Batch) → List Aborted → Type 0

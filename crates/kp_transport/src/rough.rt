@@ -1,7 +1,6 @@
 //! A carrier that loses, repeats and reorders messages.
-ghost use Rattle.std.specs.Prelude.{◌≡◌, IfErr, IfOk};
+ghost use Rattle.std.specs.Prelude.{◌≡◌, IfErr};
 ghost use Rattle.kp_types.specs.declared.refusal.Refusal.TheVariants as refusals;
-ghost use Rattle.kp_model.specs.Letter.{letter};
 
 use crate::parcel::{Carry, Parcel};
 use kp_board::{Board, BoardName, Message};
@@ -88,16 +87,6 @@ pub struct Rough<B: BoardName, C, R> {
     plan: Mutex<Plan<B>>,
 }
 
-// The message once more: it has the same letter, and its pass shows the same message. F33 is the only refusal.
-fn repeated<B: BoardName>(board: &Board<B>, message: &mut Message<B>) -> Result<Message<B>, Refusal>
-    ensures same { IfOk result (λ m. (m.pass ≡ message.old.pass) × (letter m.body ≡ letter message.old.body)) }
-    ensures only { IfErr result (λ refusal. refusal ≡ refusals.Memory) }
-{
-    let body = message.body.share()?;
-    let pass = board.repeat(&mut message.pass);
-    Ok(Message { body, pass })
-}
-
 impl<B: BoardName, C: Carry<Parcel<B>>, R> Rough<B, C, R> {
     /// A rough carrier over this one. Its board splits the pass of a message that is repeated.
     pub fn new(
@@ -123,7 +112,7 @@ impl<B: BoardName, C: Carry<Parcel<B>>, R> Rough<B, C, R> {
     fn send_twice(&self, place: NodeId, mut message: Message<B>) -> Result<(), Refusal>
         ensures { IfErr result (λ refusal. refusal ≡ refusals.Memory) }
     {
-        let second = repeated(&self.board, &mut message);
+        let second = message.repeat(&self.board);
         self.inner.send(place, Parcel::Message(message))?;
         match second {
             Ok(second) => self.inner.send(place, Parcel::Message(second)),
