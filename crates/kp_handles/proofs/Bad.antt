@@ -16,7 +16,7 @@ use Rattle.kp_handles.specs.CallerCalls.{BadCallers, ReceiptsTold}
 use Rattle.kp_handles.specs.Called.{BadCaller, BadNode, BadPair, BadRoom, PairCalled}
 use Rattle.kp_handles.specs.Handing.{BadHand, BadHanded, BadShare, HandedCalled, IsFree}
 use Rattle.kp_handles.specs.Holding.{BadCount, BadFetched, BadLetter, BadPart, BadPartOf, segments_in}
-use Rattle.kp_handles.specs.Messages.{BadDecide, BadStep}
+use Rattle.kp_handles.specs.Messages.{BadDecide, BadRepeat, BadStep}
 use Rattle.kp_handles.specs.Objects.{ObjectView, caller, cluster, handed, is_open, message, node, segments}
 use Rattle.kp_handles.specs.Opening.{BadCallerOpening, BadNodeOpening}
 use Rattle.kp_node.specs.CallerCalls.{Produces}
@@ -43,6 +43,9 @@ module _ (why : Misuse) (n m : Option ObjectView) where
   pub decide_closed : why ≡ Closed → (n ≡ None) ⊎ (m ≡ None) → BadDecide n m why
   decide_closed e none = subst (BadDecide n m) (sym e) none
 
+  pub repeat_closed : (out : Option ObjectView) → why ≡ Closed → (n ≡ None) ⊎ (m ≡ None) → BadRepeat n m out why
+  repeat_closed out e none = subst (BadRepeat n m out) (sym e) none
+
   pub callers_closed : why ≡ Closed → (n ≡ None) ⊎ (m ≡ None) → BadCallers n m why
   callers_closed e none = subst (BadCallers n m) (sym e) none
 
@@ -60,6 +63,11 @@ module _ (why : Misuse) (n m out : Option ObjectView) (o l : ObjectView) (en : n
 
   pub pair_room : m ≡ Some l → out ≡ None → BadPair (BadRoom None) (Some o) (Some l) why → BadPair (BadRoom out) n m why
   pair_room em eo bad = pair_bad (BadRoom out) em (subst (λ (r : Option ObjectView). BadPair (BadRoom r) (Some o) (Some l) why) (sym eo) bad)
+
+  pub repeat_room : m ≡ Some l → out ≡ None → BadRepeat (Some o) (Some l) None why → BadRepeat n m out why
+  repeat_room em eo bad =
+      subst (λ (a : Option ObjectView). BadRepeat a m out why) (sym en)
+      (subst (λ (b : Option ObjectView). BadRepeat (Some o) b out why) (sym em) (subst (λ (r : Option ObjectView). BadRepeat (Some o) (Some l) r why) (sym eo) bad))
 
   pub node_bad : (Own : Misuse → Type 0) → BadNode Own (Some o) why → BadNode Own n why
   node_bad Own bad = subst (λ (a : Option ObjectView). BadNode Own a why) (sym en) bad

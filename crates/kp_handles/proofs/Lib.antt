@@ -5,6 +5,7 @@ pub mod Names
 pub mod Naming
 pub mod Parts
 pub mod Posts
+pub mod RecordParts
 pub mod Values
 pub mod Waiting
 pub mod Words

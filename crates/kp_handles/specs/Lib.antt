@@ -1,7 +1,7 @@
 pub mod Called
 pub mod Calling
-pub mod Describing
 pub mod CallerCalls
+pub mod Describing
 pub mod Handing
 pub mod Holding
 pub mod Messages
@@ -11,6 +11,7 @@ pub mod Opening
 pub mod Outs
 pub mod PairCalls
 pub mod Reading
+pub mod Records
 pub mod Rows
 pub mod Saying
 pub mod Segments

@@ -1,6 +1,9 @@
 -- What each call of handles does that sends a message or takes one (own rule).
 use Rattle.std.specs.Prelude.{◌≡◌, ◌⊎◌, ℕ, true, Option, Some, None, Result, Ok, Err}
+use Rattle.std.specs.Global.{Box}
 use Rattle.kp_types.specs.declared.refusal.Refusal.{Refusal}
+use Rattle.kp_types.specs.declared.refusal.Refusal.TheVariants.{Memory}
+use Rattle.kp_model.specs.Letter.{letter}
 use Rattle.kp_model.specs.World.{Message as ModelMessage}
 use Rattle.kp_model.specs.declared.message.MessageBody.{MessageBody}
 use Rattle.kp_board.specs.Calls.{DecidesOn}
@@ -12,7 +15,7 @@ use Rattle.kp_replica.specs.declared.altering.IsrChange.{IsrChange}
 use Rattle.kp_handles.specs.Called.{NodeGives}
 use Rattle.kp_handles.specs.Objects.{ObjectView, caller, is_open, message, node}
 use Rattle.kp_handles.specs.declared.misuse.Misuse.{Misuse}
-use Rattle.kp_handles.specs.declared.misuse.Misuse.TheVariants.{Closed, OtherKind}
+use Rattle.kp_handles.specs.declared.misuse.Misuse.TheVariants.{Closed, InUse, NoRoom, OtherKind}
 
 abbrev pub holds : Posted → ObjectView
 holds m = message m.body m.pass
@@ -96,3 +99,26 @@ DecideCalled old new letter after (Ok done) =
     × (old ≡ Some (caller n c)) × (new ≡ Some (caller n d)) × (letter ≡ Some (message body pass))
     × Decided (record { body = body; pass = pass }) c d left done × (after ≡ left)
 DecideCalled old new letter after (Err why) = (new ≡ old) × (after ≡ letter) × BadDecide old letter why
+
+-- a caller's pass, which gives the board alone, and a message
+abbrev pub AreCallerAndMessage : (old said : Option ObjectView) → Type 0
+AreCallerAndMessage old said =
+    (n : ℕ) × (c : CallerView) × (body : MessageBody) × (pass : ModelMessage) × (old ≡ Some (caller n c)) × (said ≡ Some (message body pass))
+
+abbrev pub BadRepeat : (old said out : Option ObjectView) → Misuse → Type 0
+BadRepeat old said out InUse = is_open out ≡ true
+BadRepeat old said out NoRoom = AreCallerAndMessage old said × (out ≡ None)
+BadRepeat old said out why = BadDecide old said why
+
+-- The message stands once more, in a handle that was closed: it says the same, and its pass shows the same. Or that was refused, for memory.
+abbrev pub RepeatCalled : (old said out wrote : Option ObjectView) → Result (Result (Unit {0}) Refusal) Misuse → Type 0
+RepeatCalled old said out wrote (Ok (Ok done)) =
+    (n : ℕ) × (c : CallerView) × (body : MessageBody) × (pass : ModelMessage) × (again : MessageBody) × (old ≡ Some (caller n c))
+    × (said ≡ Some (message body pass)) × (out ≡ None) × (letter again ≡ letter body) × (wrote ≡ Some (message again pass))
+RepeatCalled old said out wrote (Ok (Err refusal)) = AreCallerAndMessage old said × (wrote ≡ out) × (refusal ≡ Memory)
+RepeatCalled old said out wrote (Err why) = (wrote ≡ out) × BadRepeat old said out why
+
+-- what was made of a message with this body and this pass
+abbrev pub IsRepeated : MessageBody → ModelMessage → Result (Box ObjectView) Refusal → Type 0
+IsRepeated body pass (Ok made) = (again : MessageBody) × (letter again ≡ letter body) × (made.value ≡ message again pass)
+IsRepeated body pass (Err refusal) = refusal ≡ Memory

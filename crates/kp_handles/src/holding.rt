@@ -43,8 +43,8 @@ pub fn count<B: BoardName + Unnamed>(alloc: Global, handle: &mut Handle) -> Resu
     found
 }
 
-// The batches that it holds.
-fn batches_of<B: BoardName>(object: &Object<B>) -> Result<&[Batch], Misuse>
+/// The batches that it holds.
+pub(crate) fn batches_of<B: BoardName>(object: &Object<B>) -> Result<&[Batch], Misuse>
     ensures found { IfOk result (λ batches. batches_in object.now ≡ Some batches.now) }
     ensures only { IfErr result (λ why. (why ≡ OtherKind) × (batches_in object.now ≡ None)) }
 {

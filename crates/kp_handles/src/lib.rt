@@ -19,6 +19,7 @@ mod object;
 mod outs;
 mod producing;
 mod reading;
+mod records;
 mod saying;
 mod segments;
 mod telling;
@@ -33,7 +34,7 @@ pub use holding::{
     aborted_at, addressee, batch_size, count, fetched_at, head_at, open_at, record_at, write_batch,
     write_value,
 };
-pub use messages::{decide, send, step};
+pub use messages::{decide, repeat, send, step};
 pub use misuse::Misuse;
 pub use nodes::{adopt, checkpoint, raise, restart, stop};
 pub use numbers::{misuse_number, refusal_number, write_name};
@@ -43,6 +44,7 @@ pub use outs::{
 };
 pub use producing::{acked, mark_in, produce, produce_handed};
 pub use reading::{fetch, read, read_committed};
+pub use records::{PartOut, RecordAt, RecordOut, part_at, record_in, write_part};
 pub use saying::{SaidOut, said};
 pub use segments::{segment, segments_of};
 pub use telling::{EpochOut, StateOut, TimeOut, end_for, offset_for_time, show};

@@ -1,16 +1,18 @@
 //! Calls that send a message, or take one.
 
-ghost use Rattle.std.specs.Prelude.{◌≡◌, IfSome, IfOk, IfErr, OnOk, OnErr};
+ghost use Rattle.std.specs.Prelude.{◌≡◌, IfSome, IfOk, IfErr, OnOk, OnErr, None, Some};
 ghost use Rattle.kp_model.specs.World.{Message as ModelMessage};
 ghost use Rattle.kp_model.specs.declared.message.MessageBody.{MessageBody};
 ghost use Rattle.kp_handles.specs.Objects.{message};
 ghost use Rattle.kp_board.specs.Posts.{post_of, posted, posts_of};
-ghost use Rattle.kp_handles.specs.Messages.{DecideCalled, DecideMet, SendCalled, Sends, StepCalled, Decided, StepMet, Took, answer_of, handle_left, refusal_of};
+ghost use Rattle.kp_handles.specs.Called.{done_of, made_of};
+ghost use Rattle.kp_handles.specs.declared.misuse.Misuse.TheVariants.{NoRoom};
+ghost use Rattle.kp_handles.specs.Messages.{DecideCalled, DecideMet, IsRepeated, RepeatCalled, SendCalled, Sends, StepCalled, Decided, StepMet, Took, answer_of, handle_left, refusal_of};
 
 use crate::calling::{Called, give_by_node};
-use crate::handle::{Handle, Unnamed, put, take_two};
+use crate::handle::{Handle, Unnamed, is_open, put, take_two};
 use crate::misuse::Misuse;
-use crate::object::{Kind, Object};
+use crate::object::{Kind, Object, filled, room};
 use kp_board::{Board, BoardName, Message, Pass};
 use kp_node::Node;
 use kp_replica::IsrChange;
@@ -223,4 +225,74 @@ pub fn decide<B: BoardName + Unnamed>(
         None => {}
     }
     done
+}
+
+// The message once more, in room of its own.
+fn repeated<B: BoardName>(
+    alloc: Global,
+    board: &Board<B>,
+    sent: &mut Message<B>,
+) -> Called<Box<Object<B>>>
+    ensures same { (sent.new.body ≡ sent.old.body) × (sent.new.pass ≡ sent.old.pass) }
+    ensures made { IfOk result (IsRepeated sent.old.body sent.old.pass) }
+    ensures only { IfErr result (λ why. why ≡ NoRoom) }
+{
+    let made = room::<B>(alloc)?;
+    match sent.repeat(board) {
+        Ok(again) => {
+            let kind = Kind::Message(again);
+            Ok(Ok(filled(made, Object { kind })))
+        }
+        Err(refusal) => Ok(Err(refusal)),
+    }
+}
+
+fn repeat_objects<B: BoardName>(
+    alloc: Global,
+    one: &Object<B>,
+    letter: &mut Object<B>,
+) -> Called<Box<Object<B>>>
+    ensures same { letter.new ≡ letter.old }
+    ensures met { RepeatCalled (Some one.now) (Some letter.old) None (made_of result) (done_of result) }
+{
+    match &one.kind {
+        Kind::Caller(caller) => match &mut letter.kind {
+            Kind::Message(sent) => repeated(alloc, &caller.board, sent),
+            _ => Err(Misuse::OtherKind),
+        },
+        _ => Err(Misuse::OtherKind),
+    }
+}
+
+/// Puts the message once more into a closed handle, as a carrier may bring it twice, by `Message::repeat`, over the board of a caller's
+/// pass. F33; InUse, Closed, OtherKind, NoRoom.
+#[tactic(auto, using(crate::proofs::Bad::repeat_closed, crate::proofs::Bad::repeat_room))]
+pub fn repeat<B: BoardName + Unnamed>(
+    alloc: Global,
+    caller: &mut Handle,
+    letter: &mut Handle,
+    out: &mut Handle,
+) -> Called<()>
+    requires caller { IfSome caller.old.object (λ _. caller.old.table ≡ B.table) }
+    requires letter { IfSome letter.old.object (λ _. letter.old.table ≡ B.table) }
+    ensures called { RepeatCalled caller.old.object letter.old.object out.old.object out.new.object result }
+    ensures same { (caller.new.object ≡ caller.old.object) × (letter.new.object ≡ letter.old.object) }
+    ensures cluster { (caller.new.table ≡ caller.old.table) × (letter.new.table ≡ letter.old.table) }
+    ensures named { IfOk result (λ done. OnOk done (out.new.table ≡ B.table)) }
+{
+    if is_open(out) {
+        return Err(Misuse::InUse);
+    }
+    let (first, mut second) = take_two::<B>(alloc, caller, letter)?;
+    let answer = repeat_objects(alloc, &first, &mut second);
+    put(caller, first);
+    put(letter, second);
+    match answer {
+        Ok(Ok(made)) => {
+            put(out, made);
+            Ok(Ok(()))
+        }
+        Ok(Err(refusal)) => Ok(Err(refusal)),
+        Err(misuse) => Err(misuse),
+    }
 }
