@@ -12,6 +12,7 @@ mod messages;
 mod nodes;
 mod producing;
 mod reading;
+mod records;
 mod segments;
 mod telling;
 mod texts;

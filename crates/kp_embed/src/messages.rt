@@ -3,13 +3,13 @@ ghost use Rattle.std.specs.Prelude.{◌≡◌, Result, IfSome};
 ghost use Rattle.kp_types.specs.declared.refusal.Refusal.{Refusal};
 ghost use Rattle.kp_handles.specs.Called.{AreOfOne};
 ghost use Rattle.kp_node.specs.MessageCalls.{Alters, Asks};
-ghost use Rattle.kp_handles.specs.Messages.{DecideCalled, SendCalled, StepCalled};
+ghost use Rattle.kp_handles.specs.Messages.{DecideCalled, RepeatCalled, SendCalled, StepCalled};
 ghost use Rattle.kp_handles.specs.Numbers.{answer_number};
 ghost use Rattle.kp_handles.specs.Outs.{change_in};
 ghost use Rattle.kp_handles.specs.declared.misuse.Misuse.{Misuse};
 
 use crate::answers::number;
-use kp_handles::{Handle, change_in, decide, send, step};
+use kp_handles::{Handle, change_in, decide, repeat, send, step};
 use std::alloc::Global;
 use std::marker::Brand;
 
@@ -65,4 +65,23 @@ pub extern "C" fn kp_decide(alloc: Global, pass: &mut Handle, message: &mut Hand
     ensures named { IfSome message.new.object (λ _. message.new.table ≡ message.old.table) }
 {
     number(decide::<Brand>(alloc, pass, message))
+}
+
+/// Puts a message once more into a closed handle.
+#[tactic(auto, using(crate::proofs::OneCluster::first_is, crate::proofs::OneCluster::second_is))]
+#[unsafe(no_mangle)]
+pub extern "C" fn kp_repeat(
+    alloc: Global,
+    pass: &mut Handle,
+    message: &mut Handle,
+    again: &mut Handle,
+) -> u32
+    requires { AreOfOne pass.old.object pass.old.table message.old.object message.old.table }
+    ensures called { (answer : Result (Result (Unit {0}) Refusal) Misuse) × (result ≡ answer_number answer)
+        × RepeatCalled pass.old.object message.old.object again.old.object again.new.object answer }
+    ensures same { (pass.new.object ≡ pass.old.object) × (message.new.object ≡ message.old.object) }
+    ensures cluster { (pass.new.table ≡ pass.old.table) × (message.new.table ≡ message.old.table) }
+    ensures named { result ≡ 0 → again.new.table ≡ message.old.table }
+{
+    number(repeat::<Brand>(alloc, pass, message, again))
 }
