@@ -345,6 +345,45 @@ uint32_t kp_batch_head(kp_handle *batches, size_t index, kp_batch_head_out *foun
  * nothing is written. Memory: none. Proved: `WritesBatch`: the batch's one spelling, and no byte after it. */
 uint32_t kp_batch(kp_handle *batches, size_t index, uint8_t *to, size_t length);
 
+/* Where a record stands among batches; all zero it is the first record of the first batch. Others come from `next` of a kp_record_out: made-up
+ * numbers do no harm, but find what reads as a record there, if anything does. */
+typedef struct {
+    size_t batch;    /* which batch, from 0 on */
+    uint32_t number; /* how many records stand in front of it in that batch */
+    uint32_t byte;   /* how many bytes these take */
+} kp_record_place;
+
+typedef struct {
+    kp_record_place next;    /* where the next record stands, in this batch or the one behind it */
+    uint64_t offset;
+    uint64_t timestamp;      /* milliseconds since 1970 */
+    uint64_t producer_id;    /* whose it is; UINT64_MAX where it has none */
+    uint16_t producer_epoch; /* UINT16_MAX where it has none */
+    bool shown;              /* whether a consumer is shown it: it is data, and of no aborted transaction that came with the batches */
+} kp_record_out;
+
+/* The record at a place among the batches of a read, a fetch or a log: from the first place on, and on at `next`, each once, until
+ * KP_OUT_OF_RANGE says that none stands there. Of what was fetched read committed, those that are `shown` are the records that a
+ * read-committed consumer gets, but for those of the first batch below the offset that was asked for. No byte is copied. Memory: none.
+ * Proved: `HasRecordAt`; of a fetch `clear` of `NamesAborted`. */
+uint32_t kp_record(kp_handle *batches, const kp_record_place *place, kp_record_out *found);
+
+/* A record's parts: its key, its value, and then of each header its key, and its value, as many as there are. */
+enum { KP_KEY = 0, KP_VALUE = 1, KP_HEADERS = 2 };
+
+typedef struct {
+    size_t size; /* how many bytes it has */
+    bool null;   /* it is null, which has no byte */
+} kp_record_part_out;
+
+/* A part of the record at a place, but for its bytes. KP_OUT_OF_RANGE where no record stands there, or where it hasn't got so many parts.
+ * Memory: none. Proved: `HasPartAt`. */
+uint32_t kp_record_part(kp_handle *batches, const kp_record_place *place, size_t part, kp_record_part_out *found);
+
+/* Copies a part's bytes, once. KP_OUT_OF_RANGE as above; KP_BAD_LENGTH where `length` is less than it has, and then nothing is written.
+ * Memory: none. Proved: `WritesPartAt`, and no byte after it. */
+uint32_t kp_record_bytes(kp_handle *batches, const kp_record_place *place, size_t part, uint8_t *to, size_t length);
+
 typedef struct {
     uint64_t watermark; /* the node's high watermark */
     uint64_t stable;    /* the last stable offset at that watermark */
@@ -414,6 +453,10 @@ uint32_t kp_step(kp_handle *node, kp_handle *message);
 /* The controller decides on a proposal, which is used up: its handle holds the answer then, for the node that proposed, or is
  * closed after a refusal. 24, 29. Proved: `DecideCalled`, `Decided` (`Board::decide`). */
 uint32_t kp_decide(kp_handle *pass, kp_handle *message);
+
+/* Puts a message once more into a closed handle, as a carrier may bring it twice: it says the same, and either may come first. The pass is
+ * any of the cluster's, and stays as it is. 33. Memory: that of a handle. Proved: `RepeatCalled` (`Message::repeat`). */
+uint32_t kp_repeat(kp_handle *pass, kp_handle *message, kp_handle *again);
 
 enum { KP_CONTROLLER = 255 };
 

@@ -1,80 +1,14 @@
-/* A test of the C face: each field of each struct by a value that no other field has, each misuse by its number, and every block of
- * memory given back once all handles are closed, and each refusal of the header by its name. `tools/embed gate` builds and runs it:
+/* A test of the C face: each field of each struct by a value that no other field has, every block of memory given back once all handles are
+ * closed, and each refusal of the header by its name. `tools/embed gate` builds and runs it:
  *
  *   cc -std=c11 -Wl,--wrap=malloc,--wrap=realloc,--wrap=free -Iembed embed/c/calls.c LIBRARY HEAP -o calls && ./calls embed/rust/tests
  *
- * The folder has the batches: one_record.batch, and transaction.batch, which is producer 12's, of epoch 0: the values 'paid' and null.
- * The numbers that are wanted are worked out by docs/RULES.md. Only the library takes memory, so the blocks are its own.
+ * The folder has the batches: one_record.batch; transaction.batch, which is producer 12's, of epoch 0: the values 'paid' and null; and
+ * keyed.batch, which python3-kafka built of three records. The numbers that are wanted are worked out by docs/RULES.md.
  */
-#include "kpart.h"
+#include "world.h"
 
-#include <stdio.h>
-#include <stdlib.h>
-#include <string.h>
-
-/* ---- memory: how many blocks the library has, and whether it gets any more */
-
-static long blocks;
-static bool refuses;
-
-void *__real_malloc(size_t size);
-void *__real_realloc(void *block, size_t size);
-void __real_free(void *block);
-void *__wrap_malloc(size_t size);
-void *__wrap_realloc(void *block, size_t size);
-void __wrap_free(void *block);
-
-void *__wrap_malloc(size_t size) {
-    void *found = refuses ? NULL : __real_malloc(size);
-    blocks += found != NULL;
-    return found;
-}
-
-void *__wrap_realloc(void *block, size_t size) {
-    void *found = refuses ? NULL : __real_realloc(block, size);
-    blocks += block == NULL && found != NULL;
-    return found;
-}
-
-void __wrap_free(void *block) {
-    blocks -= block != NULL;
-    __real_free(block);
-}
-
-/* ---- what is wanted */
-
-static const char *test;
-static int wrong;
-
-static void wanted_at(int line, const char *what, unsigned long found, unsigned long wanted) {
-    if (found != wanted) {
-        printf("%s, line %d: %s is %lu, wanted %lu\n", test, line, what, found, wanted);
-        wrong++;
-    }
-}
-
-#define WANT(found, wanted) wanted_at(__LINE__, #found, (unsigned long)(found), (unsigned long)(wanted))
-
-/* ---- batches */
-
-typedef struct {
-    uint8_t bytes[128];
-    size_t size;
-} batch;
-
-static batch one_record, transaction, broken;
-
-static void load(batch *to, const char *folder, const char *name) {
-    char path[1024];
-    snprintf(path, sizeof path, "%s/%s", folder, name);
-    FILE *file = fopen(path, "rb");
-    if (!file) {
-        printf("%s isn't there\n", path);
-        exit(2);
-    }
-    to->size = fread(to->bytes, 1, sizeof to->bytes, file);
-    fclose(file);
-}
+static batch transaction, keyed, broken;
 
 /* CRC-32C */
 static uint32_t checksum(const uint8_t *bytes, size_t length) {
@@ -87,71 +21,21 @@ static uint32_t checksum(const uint8_t *bytes, size_t length) {
     return ~sum;
 }
 
+/* The checksum of a batch that was changed. */
+static void sums(batch *changed) {
+    uint32_t sum = checksum(changed->bytes + 21, changed->size - 21);
+    for (int i = 0; i < 4; i++)
+        changed->bytes[17 + i] = (uint8_t)(sum >> (24 - 8 * i));
+}
+
 /* The one record says that it is a byte longer than it is; the checksum is right. */
 static void breaks_record(void) {
     broken = one_record;
     broken.bytes[61] += 2; /* a zigzag number */
-    uint32_t sum = checksum(broken.bytes + 21, broken.size - 21);
-    for (int i = 0; i < 4; i++)
-        broken.bytes[17 + i] = (uint8_t)(sum >> (24 - 8 * i));
-}
-
-/* ---- four nodes, of which node 2 leads: no bool has these numbers */
-
-enum { NODES = 4, LEADER = 2 };
-
-typedef struct {
-    kp_handle cluster, nodes[NODES], pass;
-} world;
-
-static void opens(world *w, const kp_limits *limits) {
-    *w = (world){0};
-    WANT(kp_open(&w->cluster, NODES, limits), KP_DONE);
-    for (int i = 0; i < NODES; i++)
-        WANT(kp_open_node(&w->cluster, &w->nodes[i]), KP_DONE);
-    WANT(kp_open_pass(&w->cluster, &w->pass), KP_DONE);
-}
-
-static void closes(world *w) {
-    WANT(kp_close(&w->cluster), KP_DONE);
-    for (int i = 0; i < NODES; i++)
-        WANT(kp_close(&w->nodes[i]), KP_DONE);
-    WANT(kp_close(&w->pass), KP_DONE);
-    WANT(blocks, 0);
-}
-
-static void elects(world *w) {
-    kp_leadership_out leadership;
-    kp_role role;
-    WANT(kp_elect(&w->pass, LEADER, &leadership), KP_DONE);
-    for (int i = 0; i < NODES; i++)
-        WANT(kp_adopt(&w->nodes[i], &role), KP_DONE);
-}
-
-static uint32_t produces(world *w, const batch *bytes, kp_receipt *receipt) {
-    return kp_produce(&w->nodes[LEADER], &w->pass, bytes->bytes, bytes->size, receipt);
-}
-
-/* Each follower fetches, and tells that it has what it fetched; then the high watermark rises to the log's end. */
-static void commits(world *w, uint64_t end) {
-    uint64_t offset = 0;
-    for (int round = 0; round < 2; round++)
-        for (int i = 0; i < NODES; i++) {
-            kp_handle message = {0};
-            if (i == LEADER)
-                continue;
-            WANT(kp_ask(&w->nodes[i], &message), KP_DONE);
-            WANT(kp_step(&w->nodes[LEADER], &message), KP_DONE);
-            WANT(kp_step(&w->nodes[i], &message), KP_DONE);
-            WANT(kp_close(&message), KP_CLOSED);
-        }
-    WANT(kp_raise(&w->nodes[LEADER], &offset), KP_DONE);
-    WANT(offset, end);
+    sums(&broken);
 }
 
 /* ---- fields */
-
-static const kp_limits roomy = {.segment_bytes = 1 << 20, .index_interval = 4096, .max_batch = 1 << 16};
 
 static void limits_are_in_order(void) {
     test = "limits";
@@ -213,14 +97,6 @@ static void records_and_roles_are_in_order(void) {
 
 /* Producer 12's transaction is committed. */
 static const kp_marker ends_12 = {.producer_id = 12, .timestamp = 1000, .coordinator_epoch = 3, .producer_epoch = 0, .commits = true};
-
-static void wants_receipt(const kp_receipt *found, uint64_t base, uint64_t last, uint64_t place, uint32_t epoch, bool duplicate) {
-    WANT(found->base, base);
-    WANT(found->last, last);
-    WANT(found->place, place);
-    WANT(found->epoch, epoch);
-    WANT(found->duplicate, duplicate);
-}
 
 static void receipts_are_in_order(void) {
     test = "receipts";
@@ -454,14 +330,11 @@ static void logs_are_described(void) {
     kp_open_transaction_out open = {0};
     kp_batch_head_out head = {0};
     batch second = transaction;
-    uint32_t sum;
     size_t count = 0;
     opens(&w, &roomy);
     elects(&w);
     second.bytes[56] = 2; /* its sequence numbers go on */
-    sum = checksum(second.bytes + 21, second.size - 21);
-    for (int i = 0; i < 4; i++)
-        second.bytes[17 + i] = (uint8_t)(sum >> (24 - 8 * i));
+    sums(&second);
     WANT(kp_producer(&w.nodes[LEADER], 12, &producer), KP_DONE);
     WANT(producer.found, false);
     WANT(producer.open_from, 0);
@@ -591,6 +464,112 @@ static void messages_say_what_they_are(void) {
     closes(&w);
 }
 
+/* A message comes twice: the second asks for the same, and tells the leader nothing new. */
+static void messages_come_twice(void) {
+    test = "repeats";
+    world w;
+    kp_receipt receipt;
+    kp_handle message = {0}, again = {0};
+    kp_known_out known = {0};
+    kp_said_out said = {0};
+    uint8_t addressee = 0;
+    opens(&w, &roomy);
+    elects(&w);
+    WANT(produces(&w, &one_record, &receipt), KP_DONE);
+    WANT(kp_ask(&w.nodes[1], &message), KP_DONE);
+    WANT(kp_repeat(&w.pass, &message, &again), KP_DONE);
+    WANT(kp_addressee(&again, &addressee), KP_DONE);
+    WANT(addressee, LEADER);
+    wants_said(&again, KP_ASKS_FROM, 1, 0, UINT32_MAX);
+    WANT(kp_step(&w.nodes[LEADER], &message), KP_DONE);
+    WANT(kp_step(&w.nodes[1], &message), KP_DONE);
+    WANT(kp_ask(&w.nodes[1], &message), KP_DONE);
+    WANT(kp_step(&w.nodes[LEADER], &message), KP_DONE);
+    WANT(kp_step(&w.nodes[LEADER], &again), KP_DONE); /* the older one comes last */
+    WANT(kp_known(&w.nodes[LEADER], &known), KP_DONE);
+    WANT(known.reported[1], 1);
+    WANT(kp_said(&again, &said), KP_DONE);
+    WANT(said.kind, KP_BATCHES);
+    WANT(said.count, 1);
+    WANT(kp_step(&w.nodes[1], &again), 29);
+    WANT(kp_close(&message), KP_DONE);
+    closes(&w);
+}
+
+static void wants_part(kp_handle *batches, const kp_record_place *place, size_t part, const char *bytes, size_t size) {
+    kp_record_part_out found = {0};
+    uint8_t to[16] = {0};
+    WANT(kp_record_part(batches, place, part, &found), KP_DONE);
+    WANT(found.null, bytes == NULL);
+    WANT(found.size, size);
+    WANT(kp_record_bytes(batches, place, part, to, sizeof to), KP_DONE);
+    WANT(memcmp(to, bytes ? bytes : "", size), 0);
+    WANT(to[size], 0);
+    if (size > 0)
+        WANT(kp_record_bytes(batches, place, part, to, size - 1), KP_BAD_LENGTH);
+}
+
+static void wants_record(const kp_record_out *found, uint64_t offset, uint64_t timestamp, uint64_t producer, bool shown) {
+    WANT(found->offset, offset);
+    WANT(found->timestamp, timestamp);
+    WANT(found->producer_id, producer);
+    WANT(found->shown, shown);
+}
+
+/* Producer 12's three records stand at 0 to 2, its transaction at 3 and 4, which the marker at 5 aborts, and a record of no producer at 6. */
+static void records_have_parts(void) {
+    test = "records";
+    world w;
+    kp_receipt receipt;
+    kp_handle fetched = {0};
+    kp_record_place place = {0};
+    kp_record_out found[8] = {0};
+    kp_marker aborts_12 = ends_12;
+    batch second = transaction;
+    aborts_12.commits = false;
+    second.bytes[56] = 3; /* its sequence numbers go on */
+    sums(&second);
+    opens(&w, &roomy);
+    elects(&w);
+    WANT(produces(&w, &keyed, &receipt), KP_DONE);
+    WANT(produces(&w, &second, &receipt), KP_DONE);
+    WANT(kp_mark(&w.nodes[LEADER], &w.pass, &aborts_12, &receipt), KP_DONE);
+    WANT(produces(&w, &one_record, &receipt), KP_DONE);
+    commits(&w, 7);
+    WANT(kp_fetch(&w.nodes[LEADER], &w.pass, 0, 1048576, true, &fetched), KP_DONE);
+    for (int i = 0; i < 7; i++) {
+        WANT(kp_record(&fetched, &place, &found[i]), KP_DONE);
+        place = found[i].next;
+    }
+    WANT(kp_record(&fetched, &place, &found[7]), KP_OUT_OF_RANGE);
+    WANT(kp_record_part(&fetched, &place, KP_KEY, &(kp_record_part_out){0}), KP_OUT_OF_RANGE);
+    wants_record(&found[0], 0, 1000, 12, true);
+    wants_record(&found[1], 1, 1005, 12, true);
+    wants_record(&found[2], 2, 990, 12, true);
+    wants_record(&found[3], 3, 1000, 12, false);
+    wants_record(&found[4], 4, 1000, 12, false);
+    wants_record(&found[5], 5, aborts_12.timestamp, 12, false);
+    wants_record(&found[6], 6, 1700000000000, UINT64_MAX, true);
+    WANT(found[0].producer_epoch, 0);
+    WANT(found[6].producer_epoch, UINT16_MAX);
+    place = (kp_record_place){0};
+    wants_part(&fetched, &place, KP_KEY, "k", 1);
+    wants_part(&fetched, &place, KP_VALUE, "v", 1);
+    wants_part(&fetched, &place, KP_HEADERS, "trace", 5);
+    wants_part(&fetched, &place, KP_HEADERS + 1, "\x01\x02", 2);
+    wants_part(&fetched, &place, KP_HEADERS + 2, "none", 4);
+    wants_part(&fetched, &place, KP_HEADERS + 3, NULL, 0);
+    WANT(kp_record_part(&fetched, &place, KP_HEADERS + 4, &(kp_record_part_out){0}), KP_OUT_OF_RANGE);
+    wants_part(&fetched, &found[0].next, KP_KEY, NULL, 0);
+    wants_part(&fetched, &found[0].next, KP_VALUE, NULL, 0);
+    wants_part(&fetched, &found[1].next, KP_KEY, "", 0);
+    wants_part(&fetched, &found[1].next, KP_VALUE, "pay 7", 5);
+    wants_part(&fetched, &found[1].next, KP_HEADERS, "\xc3\xa9", 2);
+    wants_part(&fetched, &found[1].next, KP_HEADERS + 1, "", 0);
+    WANT(kp_close(&fetched), KP_DONE);
+    closes(&w);
+}
+
 static void restarts_are_in_order(void) {
     test = "restarts";
     world w;
@@ -640,175 +619,6 @@ static void proposals_are_what_was_asked_for(void) {
     commits(&w, 0);
     proposes(&w, true, 3);
     proposes(&w, false, 1);
-    closes(&w);
-}
-
-/* ---- misuses. Each is answered by its number, whether there is memory or not, and changes nothing. */
-
-static void wants_opening_misuses(world *w) {
-    kp_handle closed = {0};
-    WANT(kp_open(&closed, 8, &roomy), KP_OUT_OF_RANGE);
-    WANT(kp_open(&w->pass, 2, &roomy), KP_IN_USE);
-    WANT(kp_open_node(&w->cluster, &closed), KP_OUT_OF_RANGE); /* all are open */
-    WANT(kp_open_node(&w->pass, &closed), KP_OTHER_KIND);
-    WANT(kp_open_node(&w->cluster, &w->pass), KP_IN_USE);
-    WANT(kp_open_pass(&w->nodes[0], &closed), KP_OTHER_KIND);
-    WANT(kp_open_pass(&w->cluster, &w->pass), KP_IN_USE);
-    WANT(kp_close(&closed), KP_CLOSED);
-    kp_handle other = {0};
-    WANT(kp_open_node(&closed, &other), KP_CLOSED);
-    WANT(kp_open_pass(&closed, &other), KP_CLOSED);
-}
-
-static void wants_pair_misuses(world *w, kp_handle *node) {
-    kp_handle closed = {0}, other = {0};
-    kp_receipt receipt;
-    WANT(kp_produce(&closed, &w->pass, one_record.bytes, one_record.size, &receipt), KP_CLOSED);
-    WANT(kp_produce(node, &closed, one_record.bytes, one_record.size, &receipt), KP_CLOSED);
-    WANT(kp_produce(&w->cluster, &w->pass, one_record.bytes, one_record.size, &receipt), KP_OTHER_KIND);
-    WANT(kp_produce_handed(node, &w->pass, &closed, &receipt), KP_CLOSED);
-    WANT(kp_produce_handed(node, &w->pass, &w->cluster, &receipt), KP_OTHER_KIND);
-    WANT(kp_read(&closed, &w->pass, 0, &other), KP_CLOSED);
-    WANT(kp_read(&w->cluster, &w->pass, 0, &closed), KP_OTHER_KIND);
-    WANT(kp_read(node, &w->pass, 0, &w->cluster), KP_IN_USE);
-    WANT(kp_read_committed(node, &closed, 0, &other), KP_CLOSED);
-    WANT(kp_read_committed(&w->cluster, &w->pass, 0, &closed), KP_OTHER_KIND);
-    WANT(kp_read_committed(node, &w->cluster, 0, &closed), KP_OTHER_KIND);
-    WANT(kp_read_committed(node, &w->pass, 0, &w->cluster), KP_IN_USE);
-    WANT(kp_fetch(node, &closed, 0, 1, true, &other), KP_CLOSED);
-    WANT(kp_fetch(node, &w->cluster, 0, 1, true, &closed), KP_OTHER_KIND);
-    WANT(kp_fetch(node, &w->pass, 0, 1, true, &w->cluster), KP_IN_USE);
-    kp_fetched_out found;
-    kp_aborted_out aborted;
-    WANT(kp_fetched(&closed, &found), KP_CLOSED);
-    WANT(kp_fetched(node, &found), KP_OTHER_KIND);
-    WANT(kp_aborted(&closed, 0, &aborted), KP_CLOSED);
-    WANT(kp_aborted(node, 0, &aborted), KP_OTHER_KIND);
-    kp_node_state state;
-    kp_epoch_end end;
-    kp_time_offset time;
-    WANT(kp_show(&closed, &state), KP_CLOSED);
-    WANT(kp_show(&w->pass, &state), KP_OTHER_KIND);
-    WANT(kp_end_for(&closed, 0, &end), KP_CLOSED);
-    WANT(kp_end_for(&w->pass, 0, &end), KP_OTHER_KIND);
-    WANT(kp_offset_for_time(node, &closed, 0, true, &time), KP_CLOSED);
-    WANT(kp_offset_for_time(node, &w->cluster, 0, true, &time), KP_OTHER_KIND);
-}
-
-static void wants_description_misuses(world *w, kp_handle *node) {
-    kp_handle closed = {0}, other = {0};
-    kp_known_out known;
-    kp_producer_out producer;
-    kp_open_transaction_out open;
-    kp_batch_head_out head;
-    kp_said_out said;
-    WANT(kp_known(&closed, &known), KP_CLOSED);
-    WANT(kp_known(&w->pass, &known), KP_OTHER_KIND);
-    WANT(kp_producer(&closed, 0, &producer), KP_CLOSED);
-    WANT(kp_producer(&w->pass, 0, &producer), KP_OTHER_KIND);
-    WANT(kp_open_transactions(&closed, &other), KP_CLOSED);
-    WANT(kp_open_transactions(&w->pass, &closed), KP_OTHER_KIND);
-    WANT(kp_open_transactions(node, &w->pass), KP_IN_USE);
-    WANT(kp_log_from(&closed, 0, 1, &other), KP_CLOSED);
-    WANT(kp_log_from(&w->pass, 0, 1, &closed), KP_OTHER_KIND);
-    WANT(kp_log_from(node, 0, 1, &w->pass), KP_IN_USE);
-    WANT(kp_open_transaction(&closed, 0, &open), KP_CLOSED);
-    WANT(kp_open_transaction(node, 0, &open), KP_OTHER_KIND);
-    WANT(kp_batch_head(&closed, 0, &head), KP_CLOSED);
-    WANT(kp_batch_head(node, 0, &head), KP_OTHER_KIND);
-    WANT(kp_said(&closed, &said), KP_CLOSED);
-    WANT(kp_said(node, &said), KP_OTHER_KIND);
-}
-
-static void wants_receipts_misuses(world *w, kp_handle *node) {
-    kp_handle closed = {0};
-    WANT(kp_tell_receipts(&closed, &w->pass), KP_CLOSED);
-    WANT(kp_tell_receipts(&w->pass, &closed), KP_CLOSED);
-    WANT(kp_tell_receipts(node, &w->pass), KP_OTHER_KIND);
-    WANT(kp_tell_receipts(&w->pass, node), KP_OTHER_KIND);
-    WANT(kp_close(&closed), KP_CLOSED);
-}
-
-static void wants_node_misuses(world *w, kp_handle *node, kp_handle *segments) {
-    kp_handle closed = {0}, other = {0};
-    uint8_t name[KP_NAME_BYTES];
-    WANT(kp_ask(&closed, &other), KP_CLOSED);
-    WANT(kp_ask(&w->pass, &closed), KP_OTHER_KIND);
-    WANT(kp_alter(node, true, 0, &w->pass), KP_IN_USE);
-    WANT(kp_segments(&closed, &other), KP_CLOSED);
-    WANT(kp_segments(&w->pass, &closed), KP_OTHER_KIND);
-    WANT(kp_segments(node, &w->pass), KP_IN_USE);
-    WANT(kp_segment(&closed, 0, name, sizeof name, &other), KP_CLOSED);
-    WANT(kp_segment(&w->pass, 0, name, sizeof name, &closed), KP_OTHER_KIND);
-    WANT(kp_segment(segments, 0, name, sizeof name, &w->pass), KP_IN_USE);
-    WANT(kp_segment(segments, 1, name, sizeof name, &closed), KP_OUT_OF_RANGE);
-    WANT(kp_hand(&w->pass, one_record.bytes, one_record.size), KP_IN_USE);
-}
-
-/* With no memory each call that has nothing else against it says so. A length is tested before a byte of it is read. */
-static void wants_no_room(world *w, kp_handle *node, kp_handle *handed) {
-    const size_t most = 2147483659;
-    kp_handle closed = {0};
-    kp_receipt receipt = {.base = 1, .last = 2, .place = 3, .epoch = 4, .duplicate = true};
-    WANT(kp_open(&closed, 7, &roomy), KP_NO_ROOM);
-    WANT(kp_open_pass(&w->cluster, &closed), KP_NO_ROOM);
-    WANT(kp_read(node, &w->pass, 0, &closed), KP_NO_ROOM);
-    WANT(kp_read_committed(node, &w->pass, 0, &closed), KP_NO_ROOM);
-    WANT(kp_fetch(node, &w->pass, 0, 1, true, &closed), KP_NO_ROOM);
-    WANT(kp_open_transactions(node, &closed), KP_NO_ROOM);
-    WANT(kp_log_from(node, 0, 1, &closed), KP_NO_ROOM);
-    WANT(kp_segments(node, &closed), KP_NO_ROOM);
-    WANT(kp_ask(node, &closed), KP_NO_ROOM);
-    WANT(kp_hand(&closed, one_record.bytes, most), KP_NO_ROOM);
-    WANT(kp_hand(&closed, one_record.bytes, most + 1), KP_BAD_LENGTH);
-    WANT(kp_hand(handed, one_record.bytes, most), KP_NO_ROOM);
-    WANT(kp_hand(handed, one_record.bytes, most + 1), KP_BAD_LENGTH);
-    WANT(kp_produce(node, &w->pass, one_record.bytes, most, &receipt), KP_NO_ROOM);
-    WANT(kp_produce(node, &w->pass, one_record.bytes, most + 1, &receipt), KP_BAD_LENGTH);
-    WANT(kp_close(&closed), KP_CLOSED);
-    wants_receipt(&receipt, 1, 2, 3, 4, true);
-}
-
-/* Also the refusals of a read: of a node that is down, and above its log's end. */
-static void wants_read_refusals(world *w) {
-    kp_handle closed = {0};
-    WANT(kp_read(&w->nodes[LEADER], &w->pass, 2, &closed), 16);
-    WANT(kp_read_committed(&w->nodes[LEADER], &w->pass, 2, &closed), 16);
-    WANT(kp_fetch(&w->nodes[LEADER], &w->pass, 2, 1, true, &closed), 16);
-    WANT(kp_read(&w->nodes[0], &w->pass, 0, &closed), 28);
-    WANT(kp_read_committed(&w->nodes[0], &w->pass, 0, &closed), 28);
-    WANT(kp_fetch(&w->nodes[0], &w->pass, 0, 1, true, &closed), 28);
-    WANT(kp_close(&closed), KP_CLOSED);
-}
-
-static void misuses_have_their_numbers(void) {
-    test = "misuses";
-    world w;
-    kp_receipt receipt;
-    kp_handle handed = {0}, segments = {0};
-    opens(&w, &roomy);
-    elects(&w);
-    WANT(produces(&w, &one_record, &receipt), KP_DONE);
-    WANT(kp_stop(&w.nodes[0]), KP_DONE);
-    WANT(kp_hand(&handed, one_record.bytes, one_record.size), KP_DONE);
-    WANT(kp_segments(&w.nodes[LEADER], &segments), KP_DONE);
-    const long held = blocks;
-    for (int round = 0; round < 2; round++) {
-        refuses = round == 1;
-        wants_opening_misuses(&w);
-        wants_pair_misuses(&w, &w.nodes[LEADER]);
-        wants_description_misuses(&w, &w.nodes[LEADER]);
-        wants_receipts_misuses(&w, &w.nodes[LEADER]);
-        wants_node_misuses(&w, &w.nodes[LEADER], &segments);
-        WANT(blocks, held);
-    }
-    wants_no_room(&w, &w.nodes[1], &handed);
-    WANT(blocks, held);
-    refuses = false;
-    wants_read_refusals(&w);
-    WANT(blocks, held);
-    WANT(kp_close(&handed), KP_DONE);
-    WANT(kp_close(&segments), KP_DONE);
     closes(&w);
 }
 
@@ -889,6 +699,7 @@ int main(int count, char **words) {
     const char *folder = count > 1 ? words[1] : ".";
     load(&one_record, folder, "one_record.batch");
     load(&transaction, folder, "transaction.batch");
+    load(&keyed, folder, "keyed.batch");
     breaks_record();
     blocks = 0;
     limits_are_in_order();
@@ -900,9 +711,10 @@ int main(int count, char **words) {
     states_are_in_order();
     logs_are_described();
     messages_say_what_they_are();
+    messages_come_twice();
+    records_have_parts();
     restarts_are_in_order();
     proposals_are_what_was_asked_for();
-    misuses_have_their_numbers();
     refusals_have_the_librarys_names();
     printf("%d wrong\n", wrong);
     return wrong ? 1 : 0;

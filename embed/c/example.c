@@ -182,6 +182,29 @@ static void answers_a_consumer(kp_handle *node, client *c, size_t size) {
     holds("the first record", time.found && time.offset == 0);
 }
 
+/* The records of a fetch with all that they have: each is found by its place, and its bytes are copied once. */
+static void walks(kp_handle *node, client *c) {
+    kp_handle fetched = {0};
+    kp_record_place place = {0};
+    kp_record_out record;
+    kp_record_part_out part;
+    uint8_t value;
+    size_t count = 0;
+    wants("fetch", kp_fetch(node, &c->pass, 0, 1048576, true, &fetched), KP_DONE);
+    while (kp_record(&fetched, &place, &record) == KP_DONE) {
+        holds("each once, in order", record.shown && record.offset == count && record.producer_id <= CLIENTS);
+        wants("value", kp_record_part(&fetched, &place, KP_VALUE, &part), KP_DONE);
+        holds("a letter", part.size == 1 && !part.null);
+        wants("bytes", kp_record_bytes(&fetched, &place, KP_VALUE, &value, 1), KP_DONE);
+        holds("one of four", value >= 'a' && value < 'a' + BATCHES);
+        wants("no header", kp_record_part(&fetched, &place, KP_HEADERS, &part), KP_OUT_OF_RANGE);
+        place = record.next;
+        count++;
+    }
+    holds("all", count == CLIENTS * BATCHES);
+    wants("close", kp_close(&fetched), KP_DONE);
+}
+
 /* What an operator asks of the leader: what the others have reported, which transactions are open; and the head of its last batch. */
 static void answers_an_operator(kp_handle *node) {
     kp_handle opened = {0}, batches = {0};
@@ -289,6 +312,7 @@ int main(void) {
     reads(&nodes[0].node, one, size);
     reads_committed(&nodes[0].node, one);
     answers_a_consumer(&nodes[0].node, one, size);
+    walks(&nodes[0].node, one);
     answers_an_operator(&nodes[0].node);
 
     kp_handle proposal = {0};
@@ -296,10 +320,14 @@ int main(void) {
     uint8_t addressee;
     wants("for whom", kp_addressee(&proposal, &addressee), KP_DONE);
     holds("for the controller", addressee == KP_CONTROLLER);
+    kp_handle again = {0};
+    wants("once more", kp_repeat(&controller, &proposal, &again), KP_DONE);
     wants("decide", kp_decide(&controller, &proposal), KP_DONE);
     wants("learn", kp_step(&nodes[0].node, &proposal), KP_DONE);
+    wants("decide again", kp_decide(&controller, &again), KP_DONE); /* nothing changes: the answer has the record as it is */
+    wants("close", kp_close(&again), KP_DONE);
     wants("leadership", kp_leadership(&controller, &leadership), KP_DONE);
-    holds("node 2 has left", leadership.in_sync[1] && !leadership.in_sync[2]);
+    holds("node 2 has left, once", leadership.in_sync[1] && !leadership.in_sync[2] && leadership.version == 2);
 
     const kp_marker marker = {3, 2000, 0, 0, false};
     wants("marker", kp_mark(&nodes[0].node, &one->pass, &marker, &receipt), KP_DONE);

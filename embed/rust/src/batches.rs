@@ -2,6 +2,7 @@
 
 use crate::error::Error;
 use crate::ffi::RawBatches;
+use crate::record::ShownRecords;
 use crate::values::BatchHead;
 
 /// Batches that were read, in the order of the log. They share the log's memory until they are dropped, and need no lock.
@@ -39,6 +40,35 @@ impl Batches {
     /// Goes on to the batch after the next one. O(1).
     pub fn skip_one(&mut self) {
         self.next = self.count.min(self.next + 1);
+    }
+
+    /// The records of the batches that weren't given yet that a consumer is shown, from an offset on, with key, headers, time and producer:
+    /// data and, of what was fetched read committed, of no aborted transaction: just those that are visible then, which is proved of the
+    /// library. The batches are left for other calls.
+    ///
+    /// ```
+    /// use kpart::{Cluster, Isolation, Limits};
+    ///
+    /// # fn main() -> Result<(), kpart::Error> {
+    /// let cluster = Cluster::open(1, Limits::default())?;
+    /// let mut pass = cluster.pass()?;
+    /// pass.elect(0)?;
+    /// let mut leader = cluster.node(0)?;
+    /// leader.adopt()?;
+    /// leader.produce(&mut pass, include_bytes!(concat!(env!("CARGO_MANIFEST_DIR"), "/tests/one_record.batch")))?;
+    /// leader.raise()?;
+    ///
+    /// let mut fetched = leader.fetch(&mut pass, 0, 1_048_576, Isolation::ReadCommitted)?;
+    /// drop(leader); // from here on no lock is held
+    /// for record in fetched.batches.records(0) {
+    ///     let record = record?;
+    ///     println!("{} {:?} {:?}", record.offset, record.key, record.value);
+    /// }
+    /// # assert_eq!(fetched.batches.records(0).count(), 1);
+    /// # Ok(()) }
+    /// ```
+    pub fn records(&mut self, from: u64) -> ShownRecords<'_> {
+        ShownRecords::new(&mut self.raw, self.next, from)
     }
 
     /// Puts the next one's bytes in place of what the buffer holds, and says whether there was one. They are those that were handed

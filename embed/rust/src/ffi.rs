@@ -152,6 +152,33 @@ pub(crate) struct HeadOut {
     pub attributes: u16,
 }
 
+/// Where a record stands among batches.
+#[repr(C)]
+#[derive(Clone, Copy, Debug, Default)]
+pub(crate) struct RecordPlace {
+    pub batch: usize,
+    pub number: u32,
+    pub byte: u32,
+}
+
+#[repr(C)]
+#[derive(Clone, Copy, Default)]
+pub(crate) struct RecordOut {
+    pub next: RecordPlace,
+    pub offset: u64,
+    pub timestamp: u64,
+    pub producer_id: u64,
+    pub producer_epoch: u16,
+    pub shown: bool,
+}
+
+#[repr(C)]
+#[derive(Clone, Copy, Default)]
+pub(crate) struct PartOut {
+    pub size: usize,
+    pub null: bool,
+}
+
 #[repr(C)]
 #[derive(Clone, Copy, Default)]
 pub(crate) struct SaidOut {
@@ -232,6 +259,9 @@ unsafe extern "C" {
     fn kp_batch_size(batches: &mut Handle, index: usize, size: &mut u32) -> u32;
     fn kp_batch(batches: &mut Handle, index: usize, to: *mut u8, count: usize) -> u32;
     fn kp_batch_head(batches: &mut Handle, index: usize, found: &mut HeadOut) -> u32;
+    fn kp_record(batches: &mut Handle, place: &RecordPlace, found: &mut RecordOut) -> u32;
+    fn kp_record_part(batches: &mut Handle, place: &RecordPlace, part: usize, found: &mut PartOut) -> u32;
+    fn kp_record_bytes(batches: &mut Handle, place: &RecordPlace, part: usize, to: *mut u8, count: usize) -> u32;
     fn kp_open_transaction(transactions: &mut Handle, index: usize, found: &mut OpenOut) -> u32;
     fn kp_fetched(fetched: &mut Handle, found: &mut FetchedOut) -> u32;
     fn kp_aborted(fetched: &mut Handle, index: usize, found: &mut AbortedOut) -> u32;
@@ -666,6 +696,15 @@ impl RawSegments {
     }
 }
 
+// What was found, if it was there.
+fn found_there<T>(answer: Result<(), Error>, found: T) -> Result<Option<T>, Error> {
+    match answer {
+        Ok(()) => Ok(Some(found)),
+        Err(Error::OutOfRange) => Ok(None),
+        Err(error) => Err(error),
+    }
+}
+
 impl RawBatches {
     pub(crate) fn count(&mut self) -> Result<usize, Error> {
         count(&mut self.handle)
@@ -699,6 +738,26 @@ impl RawBatches {
         // SAFETY: the handle is the library's.
         answered(unsafe { kp_aborted(&mut self.handle, index, &mut found) })?;
         Ok(found)
+    }
+
+    /// The record at the place; none where none stands there.
+    pub(crate) fn record(&mut self, place: &RecordPlace) -> Result<Option<RecordOut>, Error> {
+        let mut found = RecordOut::default();
+        // SAFETY: the handle is the library's.
+        found_there(answered(unsafe { kp_record(&mut self.handle, place, &mut found) }), found)
+    }
+
+    /// A part of the record at the place, but for its bytes; none where it hasn't got so many.
+    pub(crate) fn record_part(&mut self, place: &RecordPlace, part: usize) -> Result<Option<PartOut>, Error> {
+        let mut found = PartOut::default();
+        // SAFETY: the handle is the library's.
+        found_there(answered(unsafe { kp_record_part(&mut self.handle, place, part, &mut found) }), found)
+    }
+
+    /// Copies a part of the record at the place.
+    pub(crate) fn copy_part(&mut self, place: &RecordPlace, part: usize, to: &mut [u8]) -> Result<(), Error> {
+        // SAFETY: the handle is the library's; the pointer and the count are a slice's.
+        answered(unsafe { kp_record_bytes(&mut self.handle, place, part, to.as_mut_ptr(), to.len()) })
     }
 
     /// Copies a batch to the front of the place.

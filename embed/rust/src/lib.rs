@@ -85,6 +85,7 @@ mod ffi;
 mod links;
 mod message;
 mod node;
+mod record;
 mod records;
 mod segments;
 mod values;
@@ -99,6 +100,7 @@ pub use ffi::Limits;
 pub use links::{Link, Place};
 pub use message::{Addressee, Message, Said};
 pub use node::Node;
+pub use record::{Header, Record, ShownRecords};
 pub use records::{CommittedRecord, Records};
 pub use segments::{Segment, Segments};
 pub use values::{
