@@ -16,8 +16,8 @@ use std::thread::Builder;
 use std::time::Duration;
 
 /// What the lines are.
-pub const HELP: &str = "stop N | restart N | elect N [TOPIC PARTITION] | cut A B | delay A B MS | heal | hold N | release N \
-| fail COUNT CODE API | rtt MS | show | quit";
+pub const HELP: &str = "stop N | restart N | elect N [TOPIC PARTITION] | cut A B | delay A B MS | lossy A B ONE_IN | doubling A B ONE_IN \
+| heal | hold N | release N | fail COUNT CODE API | rtt MS | show | quit";
 
 /// The longest line.
 const LONGEST: u64 = 1_024;
@@ -107,9 +107,8 @@ fn run(hub: &Arc<Hub>, line: &str) -> Result<String, String> {
             cluster::elect(hub, number(node)?, Some(place)).map_err(told)?;
         }
         ["cut", from, to] => cluster::set_link(hub, number(from)?, number(to)?, Link::Cut).map_err(told)?,
-        ["delay", from, to, ms] => {
-            let link = Link::Delayed(Duration::from_millis(number(ms)?));
-            cluster::set_link(hub, number(from)?, number(to)?, link).map_err(told)?;
+        [kind @ ("delay" | "lossy" | "doubling"), from, to, count] => {
+            cluster::set_link(hub, number(from)?, number(to)?, link(kind, number(count)?)).map_err(told)?;
         }
         ["heal"] => cluster::heal(hub),
         ["hold", node] => hold(hub, number(node)?, true)?,
@@ -124,6 +123,26 @@ fn run(hub: &Arc<Hub>, line: &str) -> Result<String, String> {
         _ => return Err(HELP.to_string()),
     }
     Ok(String::new())
+}
+
+/// The link of a line that has a number: milliseconds, or of how many messages one is lost or doubled.
+fn link(kind: &str, count: u32) -> Link {
+    match kind {
+        "delay" => Link::Delayed(Duration::from_millis(count.into())),
+        "lossy" => Link::Lossy { one_in: count },
+        _ => Link::Doubling { one_in: count },
+    }
+}
+
+/// A link as its line says it; none for one that is up.
+fn spelled(link: Link) -> Option<String> {
+    match link {
+        Link::Cut => Some("cut".to_string()),
+        Link::Delayed(time) => Some(format!("delay {}", time.as_millis())),
+        Link::Lossy { one_in } => Some(format!("lossy {one_in}")),
+        Link::Doubling { one_in } => Some(format!("doubling {one_in}")),
+        _ => None,
+    }
 }
 
 fn number<T: std::str::FromStr>(word: &str) -> Result<T, String> {
@@ -159,9 +178,9 @@ pub fn show(hub: &Hub) -> String {
             let _ = writeln!(out, "  node {node} leads {leads} end {end} watermark {watermark} stable {stable} life {life}");
         }
     }
-    for (from, row) in lock(&hub.cuts).iter().enumerate() {
-        for (to, _) in row.iter().enumerate().filter(|it| *it.1) {
-            let _ = writeln!(out, "link {from} {to} cut");
+    for (from, row) in lock(&hub.links).iter().enumerate() {
+        for (to, link) in row.iter().enumerate().filter_map(|(to, link)| Some((to, spelled(*link)?))) {
+            let _ = writeln!(out, "link {from} {to} {link}");
         }
     }
     for (name, _, state, generation, members) in hub.groups.list() {

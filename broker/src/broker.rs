@@ -193,6 +193,22 @@ impl Broker {
         Ok(cluster::set_link(&self.hub, from, to, Link::Delayed(time))?)
     }
 
+    /// Loses one in so many of the messages from one node to another, by chance: with 1 each, with 0 none.
+    ///
+    /// # Errors
+    /// [`Fault::NoSuch`].
+    pub fn lossy(&self, from: u8, to: u8, one_in: u32) -> Result<(), Fault> {
+        Ok(cluster::set_link(&self.hub, from, to, Link::Lossy { one_in })?)
+    }
+
+    /// Has one in so many of the messages from one node to another come twice, by chance: with 1 each, with 0 none.
+    ///
+    /// # Errors
+    /// [`Fault::NoSuch`].
+    pub fn doubling(&self, from: u8, to: u8, one_in: u32) -> Result<(), Fault> {
+        Ok(cluster::set_link(&self.hub, from, to, Link::Doubling { one_in })?)
+    }
+
     /// Has all links up again.
     pub fn heal(&self) {
         cluster::heal(&self.hub);
@@ -244,8 +260,8 @@ impl Broker {
     /// Waits until an admin's line says `quit`.
     pub fn wait(&self) {
         while !self.hub.is_closing() {
-            let count = self.hub.news.count();
-            self.hub.news.wait(count, Instant::now() + Duration::from_secs(1));
+            let count = self.hub.end.count();
+            self.hub.end.wait(count, Instant::now() + Duration::from_secs(1));
         }
     }
 }

@@ -66,10 +66,10 @@ fn settle_in_sync(hub: &Hub, partition: &Partition, control: &mut Control, recor
         control.caught_up.fill(now);
         control.end = state.end;
     }
-    let cuts = *lock(&hub.cuts);
+    let links = *lock(&hub.links);
     for node in (0..hub.nodes()).filter(|it| *it != leader) {
         let (place, other) = (usize::from(node), usize::from(leader));
-        let is_cut = cuts[place][other] || cuts[other][place];
+        let is_cut = links[place][other] == Link::Cut || links[other][place] == Link::Cut;
         let follower = of(&states, node);
         let has_all = !is_cut && follower.is_some_and(|it| it.end >= control.end);
         if has_all {
@@ -190,7 +190,7 @@ pub fn set_link(hub: &Hub, from: u8, to: u8, link: Link) -> Result<(), Undone> {
     if from >= hub.nodes() || to >= hub.nodes() || from == to {
         return Err(Undone::NoSuch);
     }
-    lock(&hub.cuts)[usize::from(from)][usize::from(to)] = link == Link::Cut;
+    lock(&hub.links)[usize::from(from)][usize::from(to)] = link;
     hub.partitions.iter().for_each(|it| it.workers.link(Place::Node(from), Place::Node(to), link));
     Ok(())
 }

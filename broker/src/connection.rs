@@ -1,4 +1,5 @@
-//! Sockets: an acceptor for each node; for each connection a thread that reads and appends, and one that waits and answers in order.
+//! Sockets: an acceptor for each node; for each connection a thread that reads, appends and answers what is known at once, and one that
+//! waits, and answers all else in order.
 
 use crate::hub::Hub;
 use crate::produce::{self, Produced, Producer};
@@ -9,7 +10,7 @@ use kwire::{Reader, api};
 use std::io;
 use std::net::{IpAddr, Ipv4Addr, Ipv6Addr, Shutdown, SocketAddr, TcpListener, TcpStream};
 use std::sync::Arc;
-use std::sync::atomic::{AtomicBool, Ordering::SeqCst};
+use std::sync::atomic::{AtomicBool, AtomicUsize, Ordering::SeqCst};
 use std::sync::mpsc::{Receiver, SyncSender, sync_channel};
 use std::thread::Builder;
 use std::time::{Duration, Instant};
@@ -60,9 +61,21 @@ struct Connection {
     has_ended: AtomicBool,
     /// The client has closed it: nobody waits for answers.
     is_gone: AtomicBool,
+    /// How many requests the answering thread has yet to answer. The reading thread raises it, and writes only where it is 0.
+    under_way: AtomicUsize,
 }
 
 impl Connection {
+    /// Whether nobody waits for an answer, or the node is down.
+    fn is_off(&self) -> bool {
+        !self.hub.is_up(self.node) || self.is_gone.load(SeqCst)
+    }
+
+    /// Where the answer to a request goes.
+    fn reply<'a>(&'a self, header: Header, buffer: &'a mut Vec<u8>) -> Reply<'a> {
+        Reply::new(&self.hub, &self.stream, header.version, header.correlation_id, header.came, buffer)
+    }
+
     /// Ends it, and says why, once.
     fn end(&self, why: Result<(), Close>) {
         let first = !self.has_ended.swap(true, SeqCst);
@@ -147,8 +160,8 @@ fn start(hub: &Arc<Hub>, node: u8, number: u64, stream: TcpStream, peer: SocketA
     stream.set_read_timeout(Some(PATIENCE))?;
     stream.set_write_timeout(Some(PATIENCE))?;
     let (hub, peer) = (hub.clone(), peer.to_string());
-    let connection =
-        Arc::new(Connection { hub, node, number, peer, stream, has_ended: AtomicBool::new(false), is_gone: AtomicBool::new(false) });
+    let (has_ended, is_gone, under_way) = (AtomicBool::new(false), AtomicBool::new(false), AtomicUsize::new(0));
+    let connection = Arc::new(Connection { hub, node, number, peer, stream, has_ended, is_gone, under_way });
     let producer = Arc::new(Producer::new(&connection.hub));
     let (sender, inbox) = sync_channel(DEEP);
     let (reads, receipts) = (connection.clone(), producer.clone());
@@ -160,7 +173,7 @@ fn start(hub: &Arc<Hub>, node: u8, number: u64, stream: TcpStream, peer: SocketA
     // Where this fails, the sender is dropped, and the other thread ends.
     let reading = Builder::new().name(format!("read {node}")).stack_size(STACK);
     reading.spawn(move || {
-        let ended = read_all(&reads, &producer, &sender);
+        let ended = Reading { connection: &reads, producer: &producer, to: &sender, batch: None, buffer: Vec::new() }.read_all();
         match ended {
             Ok(()) => {
                 // What has come is answered first, but nothing is waited for.
@@ -174,66 +187,93 @@ fn start(hub: &Arc<Hub>, node: u8, number: u64, stream: TcpStream, peer: SocketA
     Ok(())
 }
 
-/// Reads requests until the client ends, or is refused.
-fn read_all(connection: &Connection, producer: &Producer, to: &SyncSender<Pending>) -> Result<(), Close> {
-    let (hub, node) = (&connection.hub, connection.node);
-    let mut input = &connection.stream;
-    let mut frames = FrameDecoder::new(LEAST_REQUEST, hub.options.most_frame);
-    let mut batch = None;
-    let (mut last, mut began) = (Instant::now(), None);
-    loop {
-        let before = last;
-        while let Some(frame) = frames.next_frame()? {
-            last = Instant::now();
-            let pending = taken(connection, producer, &mut batch, frame)?;
-            to.send(pending).map_err(|_| Close::Quiet)?;
+/// What a connection's reading thread has.
+struct Reading<'a> {
+    connection: &'a Connection,
+    producer: &'a Producer,
+    to: &'a SyncSender<Pending>,
+    /// The memory of a batch, and of an answer, which are used again.
+    batch: Option<kpart::Batch>,
+    buffer: Vec<u8>,
+}
+
+impl Reading<'_> {
+    /// Reads requests until the client ends, or is refused.
+    fn read_all(mut self) -> Result<(), Close> {
+        let (hub, node) = (&self.connection.hub, self.connection.node);
+        let mut input = &self.connection.stream;
+        let mut frames = FrameDecoder::new(LEAST_REQUEST, hub.options.most_frame);
+        let (mut last, mut began) = (Instant::now(), None);
+        loop {
+            let before = last;
+            while let Some(frame) = frames.next_frame()? {
+                last = Instant::now();
+                self.take(frame, last)?;
+            }
+            if frames.waiting() == 0 || last > before {
+                began = None;
+            }
+            if frames.waiting() > 0 {
+                began = began.or(Some(Instant::now()));
+            }
+            match frames.fill_from(&mut input, CHUNK) {
+                Ok(0) => return Ok(()),
+                Ok(_) => {}
+                Err(error) if is_early(&error) => {}
+                Err(_) => return Err(Close::Quiet),
+            }
+            if !hub.is_up(node) {
+                return Err(Close::Quiet);
+            }
+            if began.is_some_and(|it: Instant| it.elapsed() > hub.options.slow) {
+                return Err(Close::because("a request takes too long to come"));
+            }
+            if last.elapsed() > hub.options.idle {
+                return Err(Close::because("no request came for too long"));
+            }
         }
-        if frames.waiting() == 0 || last > before {
-            began = None;
+    }
+
+    /// Appends what a Produce brings, and answers it where it can; all else goes to the answering thread.
+    fn take(&mut self, frame: &[u8], came: Instant) -> Result<(), Close> {
+        let connection = self.connection;
+        let hub = &connection.hub;
+        hub.counts.requests.fetch_add(1, SeqCst);
+        let mut reader = Reader::new(frame);
+        let header = RequestHeader::decode(&mut reader)?;
+        let client = header.client_id.unwrap_or_default();
+        let header = Header { key: header.api_key, version: header.api_version, correlation_id: header.correlation_id, came };
+        if header.key == api::PRODUCE.key {
+            let produced = produce::append(hub, connection.node, self.producer, &mut self.batch, header, &mut reader)?;
+            return self.answer(produced);
         }
-        if frames.waiting() > 0 {
-            began = began.or(Some(Instant::now()));
+        if frame.len() > MOST_OTHER {
+            return Err(Close::because("a request that brings no batches is too long"));
         }
-        match frames.fill_from(&mut input, CHUNK) {
-            Ok(0) => return Ok(()),
-            Ok(_) => {}
-            Err(error) if is_early(&error) => {}
-            Err(_) => return Err(Close::Quiet),
+        let body = frame.get(reader.position()..).unwrap_or_default().to_vec();
+        self.hand_on(Pending::Other(Request { header, client: client.to_string(), body }))
+    }
+
+    /// Answers at once where all is known and no other answer comes before.
+    fn answer(&mut self, mut produced: Produced) -> Result<(), Close> {
+        let connection = self.connection;
+        let (hub, node) = (&connection.hub, connection.node);
+        let is_known = produce::replicate(hub, node, self.producer, &mut produced);
+        if !is_known || connection.under_way.load(SeqCst) > 0 || hub.is_slowed(node) {
+            return self.hand_on(Pending::Produced(Box::new(produced)));
         }
-        if !hub.is_up(node) {
-            return Err(Close::Quiet);
-        }
-        if began.is_some_and(|it: Instant| it.elapsed() > hub.options.slow) {
-            return Err(Close::because("a request takes too long to come"));
-        }
-        if last.elapsed() > hub.options.idle {
-            return Err(Close::because("no request came for too long"));
-        }
+        let reply = connection.reply(produced.header, &mut self.buffer);
+        produce::answer(hub, node, self.producer, &mut Passes::default(), &produced, &|| connection.is_off(), reply)
+    }
+
+    fn hand_on(&self, pending: Pending) -> Result<(), Close> {
+        self.connection.under_way.fetch_add(1, SeqCst);
+        self.to.send(pending).map_err(|_| Close::Quiet)
     }
 }
 
 fn is_early(error: &io::Error) -> bool {
     matches!(error.kind(), io::ErrorKind::WouldBlock | io::ErrorKind::TimedOut | io::ErrorKind::Interrupted)
-}
-
-/// Appends what a Produce brings; copies what another request says.
-fn taken(connection: &Connection, producer: &Producer, batch: &mut Option<kpart::Batch>, frame: &[u8]) -> Result<Pending, Close> {
-    let hub = &connection.hub;
-    hub.counts.requests.fetch_add(1, SeqCst);
-    let mut reader = Reader::new(frame);
-    let header = RequestHeader::decode(&mut reader)?;
-    let client = header.client_id.unwrap_or_default();
-    let came = Instant::now();
-    let header = Header { key: header.api_key, version: header.api_version, correlation_id: header.correlation_id, came };
-    if header.key == api::PRODUCE.key {
-        let produced = produce::append(hub, connection.node, producer, batch, header, &mut reader)?;
-        return Ok(Pending::Produced(Box::new(produced)));
-    }
-    if frame.len() > MOST_OTHER {
-        return Err(Close::because("a request that brings no batches is too long"));
-    }
-    let body = frame.get(reader.position()..).unwrap_or_default().to_vec();
-    Ok(Pending::Other(Request { header, client: client.to_string(), body }))
 }
 
 /// Answers requests in their order.
@@ -244,14 +284,12 @@ fn answer_all(connection: &Connection, producer: &Producer, inbox: &Receiver<Pen
     for pending in inbox {
         match pending {
             Pending::Produced(produced) => {
-                let header = produced.header;
-                let reply = Reply::new(hub, &connection.stream, header.version, header.correlation_id, header.came, &mut buffer);
-                let is_off = || !hub.is_up(node) || connection.is_gone.load(SeqCst);
-                produce::answer(hub, node, producer, &mut passes, &produced, &is_off, reply)?;
+                let reply = connection.reply(produced.header, &mut buffer);
+                produce::answer(hub, node, producer, &mut passes, &produced, &|| connection.is_off(), reply)?;
             }
             Pending::Other(request) => {
-                let Header { key, version, correlation_id, came } = request.header;
-                let reply = Reply::new(hub, &connection.stream, version, correlation_id, came, &mut buffer);
+                let Header { key, version, .. } = request.header;
+                let reply = connection.reply(request.header, &mut buffer);
                 let failing = hub.failure(key);
                 let (client, peer) = (request.client.as_str(), connection.peer.as_str());
                 let gone = &connection.is_gone;
@@ -259,6 +297,7 @@ fn answer_all(connection: &Connection, producer: &Producer, inbox: &Receiver<Pen
                 requests::answer(&mut call, key, &request.body, reply)?;
             }
         }
+        connection.under_way.fetch_sub(1, SeqCst);
         if !hub.is_up(node) {
             return Err(Close::Quiet);
         }

@@ -297,7 +297,7 @@ fn mark(hub: &Hub, passes: &mut Passes, place: usize, ending: &Ending, until: In
             let handed = partition.cluster.node(leader).and_then(|mut it| it.mark(pass, &marker));
             match handed {
                 Ok(receipt) => {
-                    partition.nudge(leader);
+                    partition.replicate(leader);
                     let taken = (&receipt, Some(receipt.epoch));
                     if partition.wait_acked(pass, leader, taken, until, || !hub.is_up(leader)) == Waited::Committed {
                         return Ok(());

@@ -1,6 +1,6 @@
 //! JoinGroup, SyncGroup, Heartbeat, LeaveGroup, OffsetCommit, OffsetFetch, DescribeGroups, ListGroups.
 
-use crate::members::{CommittedOffset, Described, Join, Joined, LONGEST_METADATA};
+use crate::members::{CommittedOffset, Described, Join, Joined, LONGEST_METADATA, Peer, Who};
 use crate::reply::{Call, Close, Reply};
 use kwire::ErrorCode;
 use kwire::groups::describe_groups::{DescribeGroupsRequest, DescribeGroupsResponse, DescribedGroup, DescribedMember};
@@ -31,7 +31,7 @@ pub fn join_group(call: &mut Call<'_>, request: &JoinGroupRequest<'_>, reply: Re
             protocol_name: Some(&joined.protocol),
             leader: &joined.leader,
             member_id: &joined.member,
-            members: joined.members.iter().map(|it| JoinedMember { member_id: &it.0, group_instance_id: None, metadata: &it.1 }).collect(),
+            members: joined.members.iter().map(peer).collect(),
             ..JoinGroupResponse::default()
         }),
         Err(code) => reply.send(&JoinGroupResponse {
@@ -43,10 +43,14 @@ pub fn join_group(call: &mut Call<'_>, request: &JoinGroupRequest<'_>, reply: Re
     }
 }
 
+fn peer(it: &Peer) -> JoinedMember<'_> {
+    JoinedMember { member_id: &it.member, group_instance_id: it.instance.as_deref(), metadata: &it.metadata }
+}
+
 fn join(call: &Call<'_>, request: &JoinGroupRequest<'_>) -> Option<Result<Joined, ErrorCode>> {
     let join = Join {
         group: request.group_id,
-        member: request.member_id,
+        who: Who { member: request.member_id, instance: request.group_instance_id },
         client: (call.client, call.peer),
         kind: request.protocol_type,
         session: request.session_timeout_ms,
@@ -62,7 +66,8 @@ pub fn sync_group(call: &mut Call<'_>, request: &SyncGroupRequest<'_>, reply: Re
     let hub = call.hub;
     let synced = match call.check_coordinator() {
         Ok(()) => {
-            let synced = hub.groups.sync(request.group_id, request.generation_id, request.member_id, &given, || call.is_off());
+            let who = Who { member: request.member_id, instance: request.group_instance_id };
+            let synced = hub.groups.sync(request.group_id, request.generation_id, who, &given, || call.is_off());
             synced.ok_or(Close::Quiet)?.map_err(i16::from)
         }
         Err(code) => Err(code),
@@ -84,24 +89,24 @@ fn number(result: Result<(), i16>) -> i16 {
 
 /// A member is alive.
 pub fn heartbeat(call: &mut Call<'_>, request: &HeartbeatRequest<'_>, reply: Reply<'_>) -> Result<(), Close> {
-    let heard = call
-        .check_coordinator()
-        .and_then(|()| call.hub.groups.heartbeat(request.group_id, request.generation_id, request.member_id).map_err(i16::from));
+    let who = Who { member: request.member_id, instance: request.group_instance_id };
+    let heard =
+        call.check_coordinator().and_then(|()| call.hub.groups.heartbeat(request.group_id, request.generation_id, who).map_err(i16::from));
     reply.send(&HeartbeatResponse { throttle_time_ms: 0, error_code: number(heard) })
 }
 
 /// Members leave.
 pub fn leave_group(call: &mut Call<'_>, request: &LeaveGroupRequest<'_>, reply: Reply<'_>) -> Result<(), Close> {
     let checked = call.check_coordinator();
-    let leave = |member: &str| number(call.hub.groups.leave(request.group_id, member).map_err(i16::from));
+    let leave = |who: Who<'_>| number(call.hub.groups.leave(request.group_id, who).map_err(i16::from));
     if let Err(error_code) = checked {
         return reply.send(&LeaveGroupResponse { error_code, ..LeaveGroupResponse::default() });
     }
     if call.version < 3 {
-        let error_code = leave(request.member_id);
+        let error_code = leave(Who { member: request.member_id, instance: None });
         return reply.send(&LeaveGroupResponse { error_code, ..LeaveGroupResponse::default() });
     }
-    let left = |it: &LeavingMember<'_>| leave(it.member_id);
+    let left = |it: &LeavingMember<'_>| leave(Who { member: it.member_id, instance: it.group_instance_id });
     let members = request.members.iter().map(|it| LeftMember {
         member_id: it.member_id,
         group_instance_id: it.group_instance_id,
@@ -113,9 +118,10 @@ pub fn leave_group(call: &mut Call<'_>, request: &LeaveGroupRequest<'_>, reply: 
 
 /// Keeps a group's offsets.
 pub fn offset_commit(call: &mut Call<'_>, request: &OffsetCommitRequest<'_>, reply: Reply<'_>) -> Result<(), Close> {
+    let who = Who { member: request.member_id, instance: request.group_instance_id };
     let checked = call
         .check_coordinator()
-        .and_then(|()| call.hub.groups.check_commit(request.group_id, request.generation_id, request.member_id).map_err(i16::from));
+        .and_then(|()| call.hub.groups.check_commit(request.group_id, request.generation_id, who).map_err(i16::from));
     let mut offsets = Vec::new();
     let mut topics = Vec::with_capacity(request.topics.len());
     for topic in &request.topics {
@@ -239,7 +245,7 @@ pub fn describe_groups(call: &mut Call<'_>, request: &DescribeGroupsRequest<'_>,
 fn described<'a>(name: &'a str, it: &'a Described) -> DescribedGroup<'a> {
     let members = it.members.iter().map(|it| DescribedMember {
         member_id: &it.member,
-        group_instance_id: None,
+        group_instance_id: it.instance.as_deref(),
         client_id: &it.client,
         client_host: &it.host,
         member_metadata: &it.metadata,

@@ -6,6 +6,7 @@ use crate::members::Groups;
 use crate::news::News;
 use crate::options::{MOST_NODES, Options};
 use crate::partition::Partition;
+use kpart::Link;
 use kwire::ErrorCode;
 use std::collections::HashMap;
 use std::io::Write as _;
@@ -33,8 +34,8 @@ pub struct Gate {
 /// Answers that are to fail: how many, and with which code.
 type Failures = HashMap<i16, (u32, i16)>;
 
-/// Which links are cut, by sender and receiver.
-pub type Cuts = [[bool; MOST_NODES as usize]; MOST_NODES as usize];
+/// What the links are, by sender and receiver.
+pub type Lines = [[Link; MOST_NODES as usize]; MOST_NODES as usize];
 
 /// An open connection of a node.
 struct Open {
@@ -50,14 +51,16 @@ pub struct Hub {
     pub partitions: Vec<Partition>,
     /// Tells of watermarks, roles, and of nodes that stop.
     pub news: Arc<News>,
+    /// Tells that the broker ends, and of nothing else.
+    pub end: News,
     /// By node.
     pub gates: Vec<Gate>,
     /// Transactional ids.
     pub transactions: Transactions,
     /// Consumer groups.
     pub groups: Groups,
-    /// Which links are cut.
-    pub cuts: Mutex<Cuts>,
+    /// What the links are.
+    pub links: Mutex<Lines>,
     /// The producer id that is given out next.
     pub next_producer: AtomicU64,
     /// For how many milliseconds each answer is held back.
@@ -95,7 +98,8 @@ impl Hub {
             options,
             partitions,
             news,
-            cuts: Mutex::default(),
+            end: News::default(),
+            links: Mutex::default(),
             next_producer: AtomicU64::new(1_000),
             rtt: AtomicU64::new(0),
             counts: Counts::default(),
@@ -145,6 +149,7 @@ impl Hub {
     pub fn close(&self) {
         self.closing.store(true, SeqCst);
         self.news.tell();
+        self.end.tell();
     }
 
     /// Where a partition stands in the table.
@@ -185,6 +190,11 @@ impl Hub {
             failures.remove(&api);
         }
         Some(code)
+    }
+
+    /// Whether a tester has a node's acknowledgements held back, or all answers come later.
+    pub fn is_slowed(&self, node: u8) -> bool {
+        self.rtt.load(SeqCst) > 0 || self.gate(node).is_some_and(|it| it.held.load(SeqCst))
     }
 
     /// Waits while the node's acknowledgements are held back, and somebody waits for them.

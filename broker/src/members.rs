@@ -23,6 +23,8 @@ const LONGEST_PROTOCOLS: usize = 1 << 16;
 
 /// So many letters of a client's name for itself are kept.
 const LONGEST_CLIENT: usize = 200;
+/// The longest name of a static member.
+const LONGEST_INSTANCE: usize = 249;
 
 /// What a group has committed of a partition.
 #[derive(Clone, Debug, Default, PartialEq, Eq)]
@@ -64,8 +66,18 @@ impl State {
 /// Names of protocols, with what the member says in each.
 pub type Protocols = Vec<(String, Vec<u8>)>;
 
+/// Who asks: a member's id, and the name that a static member has for itself (KIP-345).
+#[derive(Clone, Copy, Debug)]
+pub struct Who<'a> {
+    /// The id that the group has given it, or empty.
+    pub member: &'a str,
+    /// Its name, which no other member of the group has (`group.instance.id`).
+    pub instance: Option<&'a str>,
+}
+
 #[derive(Clone, Debug)]
 struct Member {
+    instance: Option<String>,
     client: String,
     host: String,
     session: Duration,
@@ -95,8 +107,8 @@ struct Group {
 pub struct Join<'a> {
     /// The group.
     pub group: &'a str,
-    /// The member, or empty.
-    pub member: &'a str,
+    /// The member.
+    pub who: Who<'a>,
     /// The client's name for itself, and its address.
     pub client: (&'a str, &'a str),
     /// The kind of protocol.
@@ -122,8 +134,19 @@ pub struct Joined {
     pub leader: String,
     /// The member itself.
     pub member: String,
-    /// All members with what they say, for the leader.
-    pub members: Protocols,
+    /// All members, for the leader.
+    pub members: Vec<Peer>,
+}
+
+/// A member, as the group's leader is told of it.
+#[derive(Debug)]
+pub struct Peer {
+    /// Its id.
+    pub member: String,
+    /// A static member's name.
+    pub instance: Option<String>,
+    /// What it says in the protocol.
+    pub metadata: Vec<u8>,
 }
 
 /// What a member is told once all have their part: its part, the kind of protocol, and the protocol.
@@ -147,6 +170,8 @@ pub struct Described {
 pub struct DescribedMember {
     /// Its id.
     pub member: String,
+    /// A static member's name.
+    pub instance: Option<String>,
     /// The client's name for itself.
     pub client: String,
     /// Its address.
@@ -162,6 +187,22 @@ fn millis(number: i32) -> Duration {
 }
 
 impl Member {
+    /// Of who joins.
+    fn of(join: &Join<'_>) -> Member {
+        Member {
+            instance: join.who.instance.map(str::to_string),
+            client: join.client.0.chars().take(LONGEST_CLIENT).collect(),
+            host: join.client.1.to_string(),
+            session: millis(join.session),
+            rebalance: millis(join.rebalance.min(LONGEST_REBALANCE)),
+            protocols: join.protocols.clone(),
+            joined: true,
+            waiting: 0,
+            seen: Instant::now(),
+            assignment: Vec::new(),
+        }
+    }
+
     fn says(&self, protocol: &str) -> Vec<u8> {
         self.protocols.iter().find(|it| it.0 == protocol).map(|it| it.1.clone()).unwrap_or_default()
     }
@@ -213,40 +254,83 @@ impl Group {
         self.members.get(&self.leader)?.protocols.iter().map(|it| it.0.clone()).find(|it| known(it))
     }
 
-    /// Whether a member with these protocols can be one of the group.
-    fn goes_with(&self, join: &Join<'_>) -> bool {
-        let others = || self.members.iter().filter(|it| it.0 != join.member).map(|it| it.1);
+    /// Whether a member with these protocols can be one of the group, in the place of this one.
+    fn goes_with(&self, join: &Join<'_>, place: &str) -> bool {
+        let others = || self.members.iter().filter(|it| it.0 != place).map(|it| it.1);
         let shared = |name: &str| others().all(|it| it.protocols.iter().any(|it| it.0 == name));
         others().next().is_none() || self.kind == join.kind && join.protocols.iter().any(|it| shared(&it.0))
     }
 
     /// Whether the member asks for a generation that it is in already, as after an answer that was lost.
     fn is_repeated(&self, join: &Join<'_>) -> bool {
-        let same = self.members.get(join.member).is_some_and(|it| it.protocols == join.protocols);
+        let same = self.members.get(join.who.member).is_some_and(|it| it.protocols == join.protocols);
         same && match self.state {
             State::Syncing => true,
-            State::Stable => self.leader != join.member,
+            State::Stable => self.leader != join.who.member,
             State::Empty | State::Joining => false,
         }
     }
 
     fn joined(&self, member: &str) -> Joined {
-        let all = self.members.iter().map(|(name, it)| (name.clone(), it.says(&self.protocol)));
+        let peer = |(name, it): (&String, &Member)| Peer {
+            member: name.clone(),
+            instance: it.instance.clone(),
+            metadata: it.says(&self.protocol),
+        };
         Joined {
             generation: self.generation,
             protocol: self.protocol.clone(),
             kind: self.kind.clone(),
             leader: self.leader.clone(),
             member: member.to_string(),
-            members: if self.leader == member { all.collect() } else { Vec::new() },
+            members: if self.leader == member { self.members.iter().map(peer).collect() } else { Vec::new() },
         }
     }
 
-    fn check(&self, generation: i32, member: &str) -> Result<(), ErrorCode> {
-        if !self.members.contains_key(member) {
-            return Err(ErrorCode::UnknownMemberId);
+    /// The id of the member that has a static member's name.
+    fn holder(&self, instance: &str) -> Option<&String> {
+        self.members.iter().find(|it| it.1.instance.as_deref() == Some(instance)).map(|it| it.0)
+    }
+
+    /// A member is fenced whose name another one has taken over.
+    fn check_member(&self, who: Who<'_>) -> Result<(), ErrorCode> {
+        match who.instance.map(|it| self.holder(it)) {
+            Some(Some(holder)) if holder != who.member => Err(ErrorCode::FencedInstanceId),
+            Some(None) => Err(ErrorCode::UnknownMemberId),
+            _ if self.members.contains_key(who.member) => Ok(()),
+            _ => Err(ErrorCode::UnknownMemberId),
         }
+    }
+
+    fn check(&self, generation: i32, who: Who<'_>) -> Result<(), ErrorCode> {
+        self.check_member(who)?;
         if self.generation != generation { Err(ErrorCode::IllegalGeneration) } else { Ok(()) }
+    }
+
+    /// A static member that has come back takes the place, and the part, of the one that had its name. Where the group is stable, and its
+    /// protocol stays, nobody has to join anew.
+    fn replace(&mut self, old: &str, member: String, mut new: Member) -> Begun {
+        let leader = self.leader.clone();
+        new.assignment = self.members.remove(old).map(|it| it.assignment).unwrap_or_default();
+        self.members.insert(member.clone(), new);
+        if self.leader == old {
+            self.leader.clone_from(&member);
+        }
+        if self.state == State::Stable && self.common().as_ref() == Some(&self.protocol) {
+            // A leader is told its old id, so that it makes no assignment, which nobody would get.
+            return Begun::Is(Joined { leader, members: Vec::new(), ..self.joined(&member) });
+        }
+        self.rebalance();
+        self.wait_for(member)
+    }
+
+    /// A member has joined the next generation, and waits for it.
+    fn wait_for(&mut self, member: String) -> Begun {
+        if let Some(own) = self.members.get_mut(&member) {
+            (own.joined, own.waiting) = (true, own.waiting + 1);
+        }
+        self.most = self.most.map(|it| it.max(Instant::now() + INITIAL));
+        Begun::Waits { member, before: self.generation }
     }
 }
 
@@ -285,8 +369,8 @@ impl Groups {
     /// Joins the next generation, and waits for it. `None` where the node goes down meanwhile.
     pub fn join(&self, join: Join<'_>, is_off: impl Fn() -> bool) -> Option<Result<Joined, ErrorCode>> {
         let mut all = lock(&self.all);
-        let name = join.group;
-        let begun = self.begin_join(&mut all, join);
+        let (name, instance) = (join.group, join.who.instance);
+        let begun = self.begin_join(&mut all, &join);
         let (member, before) = match begun {
             Ok(Begun::Waits { member, before }) => (member, before),
             Ok(Begun::Is(joined)) => return Some(Ok(joined)),
@@ -299,6 +383,9 @@ impl Groups {
                 self.changed.notify_all();
             }
             let has_begun = group.generation != before;
+            if let Err(code) = group.check_member(Who { member: &member, instance }) {
+                return Some(Err(code));
+            }
             let Some(own) = group.members.get_mut(&member) else { return Some(Err(ErrorCode::UnknownMemberId)) };
             if has_begun || is_off() {
                 own.waiting = own.waiting.saturating_sub(1);
@@ -309,45 +396,37 @@ impl Groups {
         }
     }
 
-    fn begin_join(&self, all: &mut All<'_>, join: Join<'_>) -> Result<Begun, ErrorCode> {
-        check_join(&join)?;
-        let most_members = self.most_members;
+    fn begin_join(&self, all: &mut All<'_>, join: &Join<'_>) -> Result<Begun, ErrorCode> {
+        check_join(join)?;
         let group = self.entry(all, join.group)?;
-        let is_new = !group.members.contains_key(join.member);
-        if is_new && !join.member.is_empty() {
-            return Err(ErrorCode::UnknownMemberId);
+        let Who { member, instance } = join.who;
+        // A static member that has lost its id has that of whoever has its name.
+        let place = if member.is_empty() { instance.and_then(|it| group.holder(it)).cloned() } else { Some(member.to_string()) };
+        if !member.is_empty() {
+            group.check_member(join.who)?;
         }
-        if !group.goes_with(&join) {
+        if !group.goes_with(join, place.as_deref().unwrap_or_default()) {
             return Err(ErrorCode::InconsistentGroupProtocol);
         }
-        if is_new && group.members.len() >= most_members {
+        if place.is_none() && group.members.len() >= self.most_members {
             return Err(ErrorCode::GroupMaxSizeReached);
         }
-        if group.is_repeated(&join) {
-            return Ok(Begun::Is(group.joined(join.member)));
+        if group.is_repeated(join) {
+            return Ok(Begun::Is(group.joined(member)));
         }
-        let client: String = join.client.0.chars().take(LONGEST_CLIENT).collect();
-        let member = match join.member {
-            "" => format!("{client}-{}", self.next.fetch_add(1, SeqCst)),
-            known => known.to_string(),
-        };
         group.kind = join.kind.to_string();
+        let mut new = Member::of(join);
+        let fresh = || format!("{}-{}", instance.unwrap_or(&new.client), self.next.fetch_add(1, SeqCst));
+        let member = if member.is_empty() { fresh() } else { member.to_string() };
+        if let Some(old) = place.filter(|it| *it != member) {
+            return Ok(group.replace(&old, member, new));
+        }
         group.rebalance();
-        let (waiting, assignment) = group.members.remove(&member).map_or((0, Vec::new()), |it| (it.waiting, it.assignment));
-        let new = Member {
-            client,
-            host: join.client.1.to_string(),
-            session: millis(join.session),
-            rebalance: millis(join.rebalance.min(LONGEST_REBALANCE)),
-            protocols: join.protocols,
-            joined: true,
-            waiting: waiting + 1,
-            seen: Instant::now(),
-            assignment,
-        };
-        group.most = group.most.map(|it| it.max(Instant::now() + INITIAL));
+        if let Some(old) = group.members.remove(&member) {
+            (new.waiting, new.assignment) = (old.waiting, old.assignment);
+        }
         group.members.insert(member.clone(), new);
-        Ok(Begun::Waits { member, before: group.generation })
+        Ok(group.wait_for(member))
     }
 
     /// Hands the assignment in, or waits for it. `None` where the node goes down meanwhile.
@@ -355,20 +434,20 @@ impl Groups {
         &self,
         name: &str,
         generation: i32,
-        member: &str,
+        who: Who<'_>,
         given: &[(String, Vec<u8>)],
         is_off: impl Fn() -> bool,
     ) -> Option<Result<Synced, ErrorCode>> {
         let mut all = lock(&self.all);
         loop {
             let Some(group) = all.get_mut(name) else { return Some(Err(ErrorCode::UnknownMemberId)) };
-            if let Err(code) = group.check(generation, member) {
+            if let Err(code) = group.check(generation, who) {
                 return Some(Err(code));
             }
             if group.state == State::Joining {
                 return Some(Err(ErrorCode::RebalanceInProgress));
             }
-            if group.state == State::Syncing && group.leader == member {
+            if group.state == State::Syncing && group.leader == who.member {
                 for (to, assignment) in given {
                     if let Some(it) = group.members.get_mut(to) {
                         it.assignment = assignment.clone();
@@ -379,7 +458,7 @@ impl Groups {
             }
             let is_stable = group.state == State::Stable;
             let told = (group.kind.clone(), group.protocol.clone());
-            if let Some(own) = group.members.get_mut(member) {
+            if let Some(own) = group.members.get_mut(who.member) {
                 own.seen = Instant::now();
                 if is_stable {
                     return Some(Ok((own.assignment.clone(), told.0, told.1)));
@@ -393,21 +472,25 @@ impl Groups {
     }
 
     /// A member is alive; it is told where it has to join anew.
-    pub fn heartbeat(&self, name: &str, generation: i32, member: &str) -> Result<(), ErrorCode> {
+    pub fn heartbeat(&self, name: &str, generation: i32, who: Who<'_>) -> Result<(), ErrorCode> {
         let mut all = lock(&self.all);
         let group = all.get_mut(name).ok_or(ErrorCode::UnknownMemberId)?;
-        group.check(generation, member)?;
-        if let Some(own) = group.members.get_mut(member) {
+        group.check(generation, who)?;
+        if let Some(own) = group.members.get_mut(who.member) {
             own.seen = Instant::now();
         }
         if group.state == State::Joining { Err(ErrorCode::RebalanceInProgress) } else { Ok(()) }
     }
 
-    /// Takes a member out.
-    pub fn leave(&self, name: &str, member: &str) -> Result<(), ErrorCode> {
+    /// Takes a member out: also a static one by its name alone, as an admin does.
+    pub fn leave(&self, name: &str, who: Who<'_>) -> Result<(), ErrorCode> {
         let mut all = lock(&self.all);
         let group = all.get_mut(name).ok_or(ErrorCode::UnknownMemberId)?;
-        group.members.remove(member).ok_or(ErrorCode::UnknownMemberId)?;
+        let member = match who {
+            Who { member: "", instance: Some(instance) } => group.holder(instance).cloned().unwrap_or_default(),
+            Who { member, .. } => group.check_member(who).map(|()| member.to_string())?,
+        };
+        group.members.remove(&member).ok_or(ErrorCode::UnknownMemberId)?;
         group.rebalance();
         group.settle();
         self.changed.notify_all();
@@ -415,16 +498,16 @@ impl Groups {
     }
 
     /// Whether offsets may be committed: by a member of this generation, or, with generation -1, while there are no members.
-    pub fn check_commit(&self, name: &str, generation: i32, member: &str) -> Result<(), ErrorCode> {
+    pub fn check_commit(&self, name: &str, generation: i32, who: Who<'_>) -> Result<(), ErrorCode> {
         let all = lock(&self.all);
         let group = all.get(name);
+        let is_alone = generation < 0 && who.member.is_empty() && who.instance.is_none();
         match group {
             None if generation < 0 => Ok(()),
             None => Err(ErrorCode::IllegalGeneration),
-            Some(group) if generation < 0 && member.is_empty() && group.members.is_empty() => Ok(()),
-            Some(group) if generation < 0 && member.is_empty() && group.state == State::Empty => Ok(()),
+            Some(group) if is_alone && (group.members.is_empty() || group.state == State::Empty) => Ok(()),
             Some(group) => {
-                group.check(generation, member)?;
+                group.check(generation, who)?;
                 if group.state == State::Syncing { Err(ErrorCode::RebalanceInProgress) } else { Ok(()) }
             }
         }
@@ -459,6 +542,7 @@ impl Groups {
         let group = all.get(name)?;
         let member = |(name, it): (&String, &Member)| DescribedMember {
             member: name.clone(),
+            instance: it.instance.clone(),
             client: it.client.clone(),
             host: it.host.clone(),
             metadata: it.says(&group.protocol),
@@ -510,6 +594,9 @@ fn check_join(join: &Join<'_>) -> Result<(), ErrorCode> {
     if !(1..=LONGEST_SESSION).contains(&join.session) {
         return Err(ErrorCode::InvalidSessionTimeout);
     }
+    if join.who.instance.is_some_and(|it| !(1..=LONGEST_INSTANCE).contains(&it.len())) {
+        return Err(ErrorCode::InvalidRequest);
+    }
     let bytes: usize = join.protocols.iter().map(|it| it.0.len() + it.1.len()).sum();
     if join.protocols.is_empty() || join.kind.is_empty() || bytes > LONGEST_PROTOCOLS {
         return Err(ErrorCode::InconsistentGroupProtocol);
@@ -522,9 +609,13 @@ mod tests {
     use super::*;
     use std::thread;
 
+    fn dynamic(member: &str) -> Who<'_> {
+        Who { member, instance: None }
+    }
+
     fn join<'a>(member: &'a str, kind: &'a str, protocol: &str) -> Join<'a> {
         let protocols = vec![(protocol.to_string(), b"topics".to_vec())];
-        Join { group: "g", member, client: ("c", "h"), kind, session: 200, rebalance: 1_000, protocols }
+        Join { group: "g", who: dynamic(member), client: ("c", "h"), kind, session: 200, rebalance: 1_000, protocols }
     }
 
     fn joined(groups: &Groups, join: Join<'_>) -> Result<Joined, ErrorCode> {
@@ -545,16 +636,16 @@ mod tests {
         assert_eq!(joined(&groups, join("", "consumer", "range")).err(), Some(ErrorCode::GroupMaxSizeReached));
         let (leader, follower) = if one.members.is_empty() { (other, one) } else { (one, other) };
         let given = [(leader.member.clone(), b"a".to_vec()), (follower.member.clone(), b"b".to_vec())];
-        let synced = |it: &Joined, given: &[_]| groups.sync("g", it.generation, &it.member, given, || false);
+        let synced = |it: &Joined, given: &[_]| groups.sync("g", it.generation, dynamic(&it.member), given, || false);
         assert_eq!(synced(&leader, &given).and_then(Result::ok).map(|it| it.0), Some(b"a".to_vec()));
         assert_eq!(synced(&follower, &[]).and_then(Result::ok).map(|it| it.0), Some(b"b".to_vec()));
-        groups.leave("g", &leader.member)?;
-        assert_eq!(groups.heartbeat("g", follower.generation, &follower.member), Err(ErrorCode::RebalanceInProgress));
+        groups.leave("g", dynamic(&leader.member))?;
+        assert_eq!(groups.heartbeat("g", follower.generation, dynamic(&follower.member)), Err(ErrorCode::RebalanceInProgress));
         let again = joined(&groups, join(&follower.member, "consumer", "range"))?;
         assert_eq!((again.generation, again.members.len()), (follower.generation + 1, 1));
         thread::sleep(Duration::from_millis(250));
         groups.expire();
-        assert_eq!(groups.heartbeat("g", again.generation, &again.member), Err(ErrorCode::UnknownMemberId));
+        assert_eq!(groups.heartbeat("g", again.generation, dynamic(&again.member)), Err(ErrorCode::UnknownMemberId));
         Ok(())
     }
 
@@ -567,9 +658,9 @@ mod tests {
         assert_eq!(joined(&groups, join("nobody", "consumer", "range")).err(), Some(ErrorCode::UnknownMemberId));
         assert_eq!(joined(&groups, Join { group: "h", ..join("", "consumer", "range") }).err(), Some(ErrorCode::InvalidGroupId));
         assert_eq!(joined(&groups, Join { session: 0, ..join("", "consumer", "range") }).err(), Some(ErrorCode::InvalidSessionTimeout));
-        assert_eq!(groups.check_commit("g", first.generation, "nobody"), Err(ErrorCode::UnknownMemberId));
-        assert_eq!(groups.check_commit("g", -1, ""), Err(ErrorCode::UnknownMemberId));
-        assert_eq!(groups.check_commit("g", first.generation, &first.member), Err(ErrorCode::RebalanceInProgress));
+        assert_eq!(groups.check_commit("g", first.generation, dynamic("nobody")), Err(ErrorCode::UnknownMemberId));
+        assert_eq!(groups.check_commit("g", -1, dynamic("")), Err(ErrorCode::UnknownMemberId));
+        assert_eq!(groups.check_commit("g", first.generation, dynamic(&first.member)), Err(ErrorCode::RebalanceInProgress));
         assert!(Groups::new(1, 1).join(join("", "consumer", "range"), || true).is_none());
         Ok(())
     }

@@ -7,31 +7,44 @@ use std::time::Instant;
 /// Counts changes, and wakes those that wait for one.
 #[derive(Debug, Default)]
 pub struct News {
-    count: Mutex<u64>,
+    told: Mutex<Told>,
     changed: Condvar,
+}
+
+#[derive(Debug, Default)]
+struct Told {
+    count: u64,
+    waiting: usize,
 }
 
 impl News {
     /// How many there were so far. Ask before you look at what may change.
     pub fn count(&self) -> u64 {
-        *lock(&self.count)
+        lock(&self.told).count
     }
 
-    /// Something has changed.
+    /// Something has changed. Where nobody waits the system isn't called.
     pub fn tell(&self) {
-        *lock(&self.count) += 1;
-        self.changed.notify_all();
+        let mut told = lock(&self.told);
+        told.count += 1;
+        let is_awaited = told.waiting > 0;
+        drop(told);
+        if is_awaited {
+            self.changed.notify_all();
+        }
     }
 
     /// Waits until something has changed since that count, or it is time.
     pub fn wait(&self, since: u64, until: Instant) {
-        let mut count = lock(&self.count);
-        while *count == since {
+        let mut told = lock(&self.told);
+        told.waiting += 1;
+        while told.count == since {
             let left = until.saturating_duration_since(Instant::now());
             if left.is_zero() {
-                return;
+                break;
             }
-            count = self.changed.wait_timeout(count, left).unwrap_or_else(PoisonError::into_inner).0;
+            told = self.changed.wait_timeout(told, left).unwrap_or_else(PoisonError::into_inner).0;
         }
+        told.waiting -= 1;
     }
 }

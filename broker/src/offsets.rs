@@ -4,11 +4,16 @@ use crate::codes::code;
 use crate::fetch::isolation;
 use crate::partition::check_epoch;
 use crate::reply::{Call, Close, Reply};
-use kpart::Isolation;
+use kpart::{Isolation, Node, Pass, TimeOffset};
 use kwire::ErrorCode;
 use kwire::offsets::list_offsets::{
-    EARLIEST, LATEST, ListOffsetsPartition, ListOffsetsRequest, ListOffsetsResponse, ListedPartition, ListedTopic,
+    EARLIEST, LATEST, ListOffsetsPartition, ListOffsetsRequest, ListOffsetsResponse, ListedPartition, ListedTopic, MAX_TIMESTAMP,
 };
+
+/// No record has this time or a later one, in milliseconds since 1970.
+const END_OF_TIMES: u64 = 1 << 62;
+/// From this version on a client may ask for the record of the greatest timestamp (KIP-734).
+const KNOWS_GREATEST: i16 = 7;
 use kwire::offsets::offset_for_leader_epoch::{
     EpochEnd, EpochEndTopic, EpochPartition, OffsetForLeaderEpochRequest, OffsetForLeaderEpochResponse,
 };
@@ -50,17 +55,32 @@ fn listed(call: &mut Call<'_>, topic: &str, asked: &ListOffsetsPartition, isolat
         LATEST if isolation == Isolation::ReadCommitted => Ok(of(signed(state.stable))),
         LATEST => Ok(of(signed(state.watermark))),
         EARLIEST => Ok(ListedPartition { offset: 0, ..ListedPartition::default() }),
+        MAX_TIMESTAMP if call.version >= KNOWS_GREATEST => Ok(at_time(of_greatest_time(&mut node, pass, isolation).map_err(code)?)),
         time => {
             let time = u64::try_from(time).map_err(|_| ErrorCode::UnsupportedVersion)?;
-            let found = node.offset_for_time(pass, time, isolation).map_err(code)?;
-            let one = |it: kpart::TimeOffset| ListedPartition {
-                timestamp: signed(it.timestamp),
-                offset: signed(it.offset),
-                ..ListedPartition::default()
-            };
-            Ok(found.map(one).unwrap_or_default())
+            Ok(at_time(node.offset_for_time(pass, time, isolation).map_err(code)?))
         }
     }
+}
+
+fn at_time(found: Option<TimeOffset>) -> ListedPartition {
+    let one = |it: TimeOffset| ListedPartition { timestamp: signed(it.timestamp), offset: signed(it.offset), ..ListedPartition::default() };
+    found.map(one).unwrap_or_default()
+}
+
+/// The first record of the greatest time, of those that a consumer is shown. The node finds the first one of a time or a later one: here the
+/// last time is searched for which it finds any, by halving what is left. It is asked twice at least: for the time of the record that is
+/// answered, and for the one behind it, of which there is none.
+fn of_greatest_time(node: &mut Node<'_>, pass: &mut Pass, isolation: Isolation) -> Result<Option<TimeOffset>, kpart::Error> {
+    let (mut found, mut end) = (node.offset_for_time(pass, 0, isolation)?, END_OF_TIMES);
+    while let Some(next) = found.map(|it| it.timestamp + 1).filter(|it| *it < end) {
+        let middle = next + (end - next) / 2;
+        match node.offset_for_time(pass, middle, isolation)? {
+            Some(later) => found = Some(later),
+            None => end = middle,
+        }
+    }
+    Ok(found)
 }
 
 /// Where an epoch ends in the leader's log.

@@ -14,8 +14,8 @@ use std::time::{Duration, Instant};
 const MAX_BATCH: u32 = 1_048_588;
 /// Stands for no node.
 const NOBODY: u8 = u8::MAX;
-/// After so long without an acknowledgement the followers are given a turn, and then after twice as long each time.
-const FIRST_NUDGE: Duration = Duration::from_micros(100);
+/// After so long without an acknowledgement the followers are asked again, and then after twice as long each time.
+const FIRST_NUDGE: Duration = Duration::from_micros(500);
 const LONGEST_NUDGE: Duration = Duration::from_millis(4);
 /// For so long a node that leads no more may find out what became of a batch.
 const GRACE: Duration = Duration::from_millis(20);
@@ -113,10 +113,16 @@ impl Partition {
         self.state(node).ok().as_ref().and_then(led_epoch)
     }
 
-    /// Has the nodes that follow ask now, or the one that is alone raise its high watermark.
-    pub fn nudge(&self, leader: u8) {
-        let nodes = self.cluster.nodes();
-        (0..nodes).filter(|it| *it != leader || nodes == 1).for_each(|it| self.workers.turn(it));
+    /// Has the nodes that follow take what the leader has, and it commit that, in this thread. Hold no node meanwhile.
+    pub fn replicate(&self, leader: u8) {
+        // Where there is no such node nothing is to be done.
+        let _done = self.workers.replicate(leader);
+    }
+
+    /// The same where it hasn't been enough: nodes may have to hear of their leader first, for which they have turns.
+    fn nudge(&self, leader: u8) {
+        self.replicate(leader);
+        (0..self.cluster.nodes()).filter(|it| *it != leader).for_each(|it| self.workers.turn(it));
     }
 
     /// Elects the node, and has all nodes hear of it.

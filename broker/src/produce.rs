@@ -1,15 +1,16 @@
-//! Produce: the reading thread appends, the answering thread waits until batches are committed.
+//! Produce: the reading thread appends, replicates and, where all is committed by that, answers. Else the answering thread waits.
 
 use crate::codes::code;
 use crate::connection::Header;
 use crate::hub::Hub;
-use crate::partition::Waited;
+use crate::partition::{Partition, Waited};
 use crate::reply::{Close, Passes, Reply};
 use crate::{lock, requests};
-use kpart::{Batch, Pass, Receipt};
+use kpart::{Ack, Batch, Pass, Receipt};
 use kwire::batch::{BatchHead, mended};
 use kwire::produce::{ProduceRequest, ProduceResponse, ProducedPartition, ProducedTopic};
 use kwire::{ErrorCode, Message, Reader, api};
+use std::collections::HashMap;
 use std::sync::Mutex;
 use std::sync::atomic::Ordering::SeqCst;
 use std::time::{Duration, Instant};
@@ -17,15 +18,37 @@ use std::time::{Duration, Instant};
 /// The longest that a producer may have its answer wait.
 const LONGEST: i32 = 600_000;
 
-/// The passes to which a connection's receipts come, by partition.
+/// What a connection's two threads share of its producer.
 pub struct Producer {
+    /// The passes to which its receipts come, by partition.
     passes: Vec<Mutex<Option<Pass>>>,
+    /// The leader epoch in which it was last told that the node doesn't lead any more, by partition.
+    refused: Mutex<HashMap<usize, u32>>,
 }
 
 impl Producer {
     /// With no pass yet.
     pub fn new(hub: &Hub) -> Producer {
-        Producer { passes: hub.partitions.iter().map(|_| Mutex::default()).collect() }
+        Producer { passes: hub.partitions.iter().map(|_| Mutex::default()).collect(), refused: Mutex::default() }
+    }
+
+    /// Notes that it was told that the node doesn't lead this epoch any more.
+    fn refuse(&self, place: usize, epoch: u32) {
+        lock(&self.refused).insert(place, epoch);
+    }
+
+    /// Whether it was told so: what it handed in later in that epoch isn't acknowledged either, as it is in Kafka. Else an idempotent
+    /// producer would have batches acknowledged out of their order.
+    fn is_refused(&self, taken: &Taken) -> bool {
+        taken.epoch.is_some_and(|epoch| lock(&self.refused).get(&taken.place).is_some_and(|it| epoch <= *it))
+    }
+
+    /// Whether the node knows that the batch is committed.
+    fn is_committed(&self, partition: &Partition, node: u8, taken: &Taken) -> bool {
+        let Some(slot) = self.passes.get(taken.place) else { return false };
+        let mut slot = lock(slot);
+        let Some(pass) = &mut *slot else { return false };
+        partition.cluster.node(node).and_then(|mut it| it.acked(pass, &taken.receipt)) == Ok(Ack::Yes)
     }
 }
 
@@ -51,6 +74,8 @@ struct Taken {
     receipt: Receipt,
     /// The leader epoch in which it was handed in. That of a duplicate's receipt may be an earlier one.
     epoch: Option<u32>,
+    /// The node has said that it is committed.
+    is_committed: bool,
 }
 
 /// Hands all batches of a Produce in.
@@ -117,9 +142,22 @@ fn append_one(hub: &Hub, producer: &Producer, batch: &mut Option<Batch>, wanted:
     drop(slot);
     hub.counts.batches.fetch_add(1, SeqCst);
     hub.counts.duplicates.fetch_add(receipt.duplicate.into(), SeqCst);
-    partition.nudge(node);
     let epoch = if receipt.duplicate { partition.led(node) } else { Some(receipt.epoch) };
-    Ok(Taken { place, receipt, epoch })
+    Ok(Taken { place, receipt, epoch, is_committed: false })
+}
+
+/// Has the followers take what was appended. Whether all is known by that for which the producer waits.
+pub fn replicate(hub: &Hub, node: u8, producer: &Producer, produced: &mut Produced) -> bool {
+    let mut is_known = true;
+    for taken in produced.topics.iter_mut().flat_map(|it| &mut it.1).filter_map(|it| it.came.as_mut().ok()) {
+        let Some(partition) = hub.partitions.get(taken.place) else { continue };
+        partition.replicate(node);
+        if produced.acks == -1 {
+            taken.is_committed = producer.is_committed(partition, node, taken);
+            is_known &= taken.is_committed;
+        }
+    }
+    is_known
 }
 
 /// The bytes as the library's batch, whose memory is used again. A batch of the kind that sarama writes is mended first.
@@ -210,8 +248,11 @@ fn became(
     let base = i64::try_from(taken.receipt.base).unwrap_or(-1);
     let Some(partition) = hub.partitions.get(taken.place).filter(|_| produced.acks == -1) else { return Ok(Ok(base)) };
     let not_leader = ErrorCode::NotLeaderOrFollower;
-    if taken.epoch.is_some_and(|it| passes.is_refused(taken.place, it)) {
+    if producer.is_refused(taken) {
         return Ok(Err(not_leader.into()));
+    }
+    if taken.is_committed {
+        return Ok(Ok(base));
     }
     let waited = match taken_over(hub, producer, passes, taken.place) {
         Ok(pass) => partition.wait_acked(pass, node, (&taken.receipt, taken.epoch), produced.until, is_off),
@@ -221,7 +262,7 @@ fn became(
         Waited::Committed => Ok(Ok(base)),
         Waited::Failed(code) => {
             if let Some(epoch) = taken.epoch.filter(|_| code == not_leader) {
-                passes.refuse(taken.place, epoch);
+                producer.refuse(taken.place, epoch);
             }
             Ok(Err(code.into()))
         }

@@ -5,7 +5,6 @@ use crate::hub::Hub;
 use kpart::Pass;
 use kwire::frame::response_frame;
 use kwire::{ErrorCode, Response, WireError};
-use std::collections::HashMap;
 use std::io::{self, IoSlice, Write};
 use std::net::TcpStream;
 use std::sync::Arc;
@@ -39,7 +38,6 @@ impl From<WireError> for Close {
 #[derive(Debug, Default)]
 pub struct Passes {
     all: Vec<Option<Pass>>,
-    refused: HashMap<usize, u32>,
 }
 
 impl Passes {
@@ -55,17 +53,6 @@ impl Passes {
             *slot = Some(partition.cluster.pass().map_err(code)?);
         }
         slot.as_mut().ok_or(unknown)
-    }
-
-    /// Notes that a producer was told that the node doesn't lead this epoch any more.
-    pub fn refuse(&mut self, place: usize, epoch: u32) {
-        self.refused.insert(place, epoch);
-    }
-
-    /// Whether a producer was told so: what it handed in later in that epoch isn't acknowledged either, as it is in Kafka. Else an
-    /// idempotent producer would have batches acknowledged out of their order.
-    pub fn is_refused(&self, place: usize, epoch: u32) -> bool {
-        self.refused.get(&place).is_some_and(|it| epoch <= *it)
     }
 }
 

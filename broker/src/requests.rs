@@ -19,12 +19,11 @@ const fn whole(api: Api) -> Advertised {
     Advertised { api, least: api.least, greatest: api.greatest }
 }
 
-/// What the broker says of itself in its answer to ApiVersions. ListOffsets ends below 7, where a client may ask for the record of the
-/// greatest timestamp: no call of the library answers that.
+/// What the broker says of itself in its answer to ApiVersions. ListOffsets ends below 8, where a client may ask for what tiered storage has.
 pub const ADVERTISED: &[Advertised] = &[
     whole(api::PRODUCE),
     whole(api::FETCH),
-    Advertised { api: api::LIST_OFFSETS, least: 1, greatest: 6 },
+    Advertised { api: api::LIST_OFFSETS, least: 1, greatest: 7 },
     whole(api::METADATA),
     whole(api::OFFSET_COMMIT),
     whole(api::OFFSET_FETCH),

@@ -1,7 +1,7 @@
 //! InitProducerId, AddPartitionsToTxn, AddOffsetsToTxn, EndTxn, TxnOffsetCommit.
 
 use crate::coordinator::{self, PendingOffset, Producer};
-use crate::members::{CommittedOffset, LONGEST_METADATA};
+use crate::members::{CommittedOffset, LONGEST_METADATA, Who};
 use crate::reply::{Call, Close, Reply};
 use kwire::ErrorCode;
 use kwire::transactions::add_offsets_to_txn::{AddOffsetsToTxnRequest, AddOffsetsToTxnResponse};
@@ -87,7 +87,8 @@ pub fn txn_offset_commit(call: &mut Call<'_>, request: &TxnOffsetCommitRequest<'
 
 fn keep(call: &Call<'_>, request: &TxnOffsetCommitRequest<'_>) -> Result<(), ErrorCode> {
     let hub = call.hub;
-    hub.groups.check_commit(request.group_id, request.generation_id, request.member_id)?;
+    let who = Who { member: request.member_id, instance: request.group_instance_id };
+    hub.groups.check_commit(request.group_id, request.generation_id, who)?;
     let mut offsets = Vec::new();
     for topic in &request.topics {
         for it in &topic.partitions {

@@ -53,7 +53,7 @@ fn versions_are_told() -> Outcome {
     let response = ApiVersionsResponse::decode(&mut Reader::new(&frame[4..]), 0)?;
     assert_eq!((response.error_code, frame[3]), (i16::from(ErrorCode::UnsupportedVersion), 7));
     let listed = response.api_keys.iter().find(|it| it.api_key == 2).ok_or("no ListOffsets")?;
-    assert_eq!((listed.min_version, listed.max_version), (1, 6));
+    assert_eq!((listed.min_version, listed.max_version), (1, 7));
     Ok(())
 }
 
@@ -247,10 +247,16 @@ fn an_admin_has_lines() -> Outcome {
             said += &(line + "\n");
         }
     };
-    for line in ["stop 0", "restart 0", "cut 0 1", "delay 1 0 5", "heal", "hold 1", "release 1", "rtt 0", "fail 1 7 produce"] {
+    for line in ["stop 0", "restart 0", "cut 0 1", "delay 1 0 5", "lossy 1 2 9", "doubling 2 1 8"] {
         assert_eq!(ask(line)?.0, "ok", "{line}");
     }
-    for line in ["", "stop", "stop 9", "stop x", "restart 1", "cut 1 1", "elect 1 events 7", "fail 1 7 nothing", "stop 0 1"] {
+    let shown = ask("show")?.1;
+    assert!(shown.contains("link 0 1 cut\nlink 1 0 delay 5\nlink 1 2 lossy 9\nlink 2 1 doubling 8\n"), "{shown}");
+    for line in ["heal", "hold 1", "release 1", "rtt 0", "fail 1 7 produce"] {
+        assert_eq!(ask(line)?.0, "ok", "{line}");
+    }
+    let bad = ["", "stop", "stop 9", "stop x", "restart 1", "cut 1 1", "elect 1 events 7", "fail 1 7 nothing", "stop 0 1"];
+    for line in bad.into_iter().chain(["lossy 0 1", "lossy 0 1 x", "doubling 0 3 2", "delay 0 1 -1"]) {
         assert!(ask(line)?.0.starts_with("error"), "{line}");
     }
     assert!(ask("elect 1 events 0")?.0 == "ok" && ask("elect 2")?.0 == "ok");

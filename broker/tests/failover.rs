@@ -209,3 +209,27 @@ fn a_link_that_is_slow() -> Outcome {
     assert_eq!(client.fetch_of(0, &Ask::default())?.watermark, 1);
     Ok(())
 }
+
+#[test]
+fn links_that_lose_and_double() -> Outcome {
+    const BATCHES: i32 = 10;
+    let broker = broker()?;
+    let leader = broker.leader(TOPIC, 0).ok_or("no leader")?;
+    for other in (0..3).filter(|it| *it != leader) {
+        broker.doubling(leader, other, 1)?;
+        broker.lossy(other, leader, 5)?;
+    }
+    let other = (leader + 1) % 3;
+    assert!(broker.show().contains(&format!("link {leader} {other} doubling 1\nlink ")));
+    assert!(broker.show().contains(&format!("link {other} {leader} lossy 5\n")));
+    let mut client = Client::of_node(&broker, leader)?;
+    for sequence in 0..BATCHES {
+        let writes = Writes { producer: (9, 0), sequence, transactional: false };
+        assert_eq!(client.produce(0, &batch(&[&sequence.to_string()], writes, 1), -1)?, (0, sequence.into()));
+    }
+    broker.heal();
+    assert!(!broker.show().contains("link "));
+    let end = format!("end {BATCHES} watermark {BATCHES}");
+    until("all have each batch once", || broker.show().matches(&end).count() == 3)?;
+    Ok(())
+}

@@ -4,6 +4,7 @@ mod common;
 
 use common::{Ask, Client, LONG, NOBODY, Outcome, TOPIC, Writes, batch, broker, broker_of, produce_request, produced, until};
 use kpart_broker::{Broker, Options};
+use kwire::fetch::FetchRequest;
 use kwire::metadata::{AskedTopic, MetadataRequest, MetadataResponse};
 use kwire::offsets::offset_for_leader_epoch::{EpochPartition, EpochTopic, OffsetForLeaderEpochRequest, OffsetForLeaderEpochResponse};
 use kwire::{ErrorCode, Message, Reader};
@@ -116,6 +117,27 @@ fn requests_are_answered_in_order() -> Outcome {
     Ok(())
 }
 
+// A batch whose fate is known at once is answered behind a request that waits, and before one that comes later.
+#[test]
+fn no_answer_overtakes_another_one() -> Outcome {
+    let broker = broker()?;
+    let mut client = Client::of_leader(&broker, 0)?;
+    let waits = FetchRequest { max_wait_ms: 200, min_bytes: 1 << 20, topics: vec![], ..FetchRequest::default() };
+    let sent = batch(&["a"], NOBODY, 1);
+    let produce = produce_request(0, &sent, -1);
+    for round in 0..3 {
+        let start = Instant::now();
+        let numbers = [client.send(&waits, 12)?, client.send(&produce, 9)?, client.send(&waits, 12)?];
+        client.answer(&waits, 12, numbers[0])?;
+        assert!(start.elapsed() >= Duration::from_millis(200));
+        let answer = client.answer(&produce, 9, numbers[1])?;
+        assert_eq!(produced(&answer)?, (0, round));
+        client.answer(&waits, 12, numbers[2])?;
+        assert_eq!(client.list(0, -1, 0)?.1, round + 1);
+    }
+    Ok(())
+}
+
 #[test]
 fn a_fetch_waits_for_bytes() -> Outcome {
     let broker = broker()?;
@@ -167,6 +189,26 @@ fn offsets_by_time() -> Outcome {
     assert_eq!(by_time(client.list(0, 1_003, 0)?), (0, 3, 5_000));
     assert_eq!(by_time(client.list(0, 5_001, 0)?), (0, -1, -1));
     assert_eq!(client.list(0, -3, 0)?.0, i16::from(ErrorCode::UnsupportedVersion));
+    Ok(())
+}
+
+// By KIP-734, of the records that a consumer of the isolation level is shown.
+#[test]
+fn the_record_of_the_greatest_time() -> Outcome {
+    const GREATEST: i64 = (1 << 62) - 1;
+    let broker = broker()?;
+    let mut client = Client::of_leader(&broker, 0)?;
+    let greatest = |client: &mut Client, isolation: i8| client.list_at(7, 0, -3, isolation);
+    assert_eq!(greatest(&mut client, 0)?, (0, -1, -1, -1));
+    client.produce(0, &batch(&["a", "b", "c"], NOBODY, 1_000), -1)?;
+    assert_eq!(greatest(&mut client, 0)?, (0, 2, 1_002, -1));
+    client.produce(0, &batch(&["d"], NOBODY, 5_000), -1)?;
+    client.produce(0, &batch(&["e", "f"], NOBODY, 4_999), -1)?; // the first one of the time counts
+    assert_eq!(greatest(&mut client, 0)?, (0, 3, 5_000, -1));
+    assert_eq!(client.list_at(7, 0, -1, 0)?.1, 6);
+    client.produce(0, &batch(&["g"], NOBODY, GREATEST), -1)?;
+    client.produce(0, &batch(&["h"], NOBODY, 0), -1)?;
+    assert_eq!(greatest(&mut client, 0)?, (0, 6, GREATEST, -1));
     Ok(())
 }
 

@@ -60,6 +60,9 @@ fn what_is_aborted_is_named_and_left_out() -> Outcome {
     let got = client.fetch(0, 0, 1)?;
     assert_eq!((got.watermark, got.stable, got.bytes.len()), (4, 0, 0)); // both are open
     assert_eq!((client.list(0, -1, 1)?.1, client.list(0, -1, 0)?.1), (0, 4));
+    // The record of the greatest time is one that the consumer is shown.
+    assert_eq!(client.list_at(7, 0, -3, 1)?.1, -1);
+    assert!(client.list_at(7, 0, -3, 0)?.1 >= 0);
     assert_eq!(end(&mut client, "one", one, false)?, 0);
     let got = client.fetch(0, 0, 1)?;
     assert_eq!((got.watermark, got.stable), (5, 2));

@@ -20,6 +20,8 @@ pub struct FrameDecoder {
     held: Vec<u8>,
     /// Bytes at the start of `held` that were given out.
     used: usize,
+    /// Bytes at the start of `held` that have come; behind them is room.
+    came: usize,
     least: usize,
     greatest: usize,
 }
@@ -30,13 +32,13 @@ impl FrameDecoder {
     /// may come at once.
     #[must_use]
     pub fn new(least: usize, greatest: usize) -> Self {
-        FrameDecoder { held: Vec::new(), used: 0, least, greatest }
+        FrameDecoder { held: Vec::new(), used: 0, came: 0, least, greatest }
     }
 
     /// Adds bytes that came.
     pub fn push(&mut self, bytes: &[u8]) {
-        self.forget_used();
-        self.held.extend_from_slice(bytes);
+        self.room_for(bytes.len()).copy_from_slice(bytes);
+        self.came += bytes.len();
     }
 
     /// Reads once, at most `most` bytes, and adds them. 0 says that the stream has ended, or that `most` is 0.
@@ -44,11 +46,8 @@ impl FrameDecoder {
     /// # Errors
     /// What `input` gives.
     pub fn fill_from(&mut self, input: &mut impl Read, most: usize) -> io::Result<usize> {
-        self.forget_used();
-        let before = self.held.len();
-        self.held.resize(before + most, 0);
-        let read = input.read(&mut self.held[before..]);
-        self.held.truncate(before + read.as_ref().map_or(0, |it| *it).min(most));
+        let read = input.read(self.room_for(most));
+        self.came += read.as_ref().map_or(0, |it| *it).min(most);
         read
     }
 
@@ -57,7 +56,7 @@ impl FrameDecoder {
     /// # Errors
     /// [`WireError::BadFrameSize`], as soon as the size has come, and then each time: such a stream can't be read on.
     pub fn next_frame(&mut self) -> Result<Option<&[u8]>, WireError> {
-        let rest = &self.held[self.used..];
+        let rest = &self.held[self.used..self.came];
         let Some(size) = rest.first_chunk::<SIZE>() else { return Ok(None) };
         let size = i32::from_be_bytes(*size);
         let bad = WireError::BadFrameSize { size, least: self.least, greatest: self.greatest };
@@ -70,15 +69,22 @@ impl FrameDecoder {
     /// Bytes that have come and weren't given out as a frame.
     #[must_use]
     pub fn waiting(&self) -> usize {
-        self.held.len() - self.used
+        self.came - self.used
     }
 
-    fn forget_used(&mut self) {
-        self.held.drain(..self.used);
+    /// Room for so many bytes behind those that have come, of which none that was given out is kept. Bytes of earlier frames lie in it.
+    fn room_for(&mut self, count: usize) -> &mut [u8] {
+        self.held.copy_within(self.used..self.came, 0);
+        self.came -= self.used;
         self.used = 0;
-        if self.held.is_empty() && self.held.capacity() > KEPT {
+        if self.came == 0 && self.held.capacity() > KEPT {
             self.held = Vec::new();
         }
+        let end = self.came + count;
+        if self.held.len() < end {
+            self.held.resize(end, 0);
+        }
+        &mut self.held[self.came..end]
     }
 }
 

@@ -169,11 +169,16 @@ impl Client {
 
     /// Code, offset, timestamp and epoch.
     pub fn list(&mut self, index: i32, timestamp: i64, isolation_level: i8) -> Fallible<(i16, i64, i64, i32)> {
+        self.list_at(6, index, timestamp, isolation_level)
+    }
+
+    /// The same at another version.
+    pub fn list_at(&mut self, version: i16, index: i32, timestamp: i64, isolation_level: i8) -> Fallible<(i16, i64, i64, i32)> {
         let partition = ListOffsetsPartition { partition_index: index, current_leader_epoch: -1, timestamp };
         let topics = vec![ListOffsetsTopic { name: TOPIC, partitions: vec![partition] }];
         let request = ListOffsetsRequest { isolation_level, topics, ..ListOffsetsRequest::default() };
-        let answer = self.ask(&request, 6)?;
-        let response = ListOffsetsResponse::decode(&mut Reader::new(&answer), 6)?;
+        let answer = self.ask(&request, version)?;
+        let response = ListOffsetsResponse::decode(&mut Reader::new(&answer), version)?;
         let it = &response.topics[0].partitions[0];
         Ok((it.error_code, it.offset, it.timestamp, it.leader_epoch))
     }

@@ -226,6 +226,7 @@ unsafe extern "C" {
     fn kp_leadership(pass: &mut Handle, found: &mut LeadershipOut) -> u32;
     fn kp_watermark(pass: &mut Handle, node: u8, offset: &mut u64) -> u32;
     fn kp_decide(pass: &mut Handle, message: &mut Handle) -> u32;
+    fn kp_repeat(pass: &mut Handle, message: &mut Handle, copy: &mut Handle) -> u32;
     fn kp_tell_receipts(from: &mut Handle, to: &mut Handle) -> u32;
 
     fn kp_adopt(node: &mut Handle, role: &mut RoleOut) -> u32;
@@ -638,6 +639,15 @@ impl RawMessage {
         // SAFETY: the handle is the library's.
         answered(unsafe { kp_addressee(&mut self.handle, &mut found) })?;
         Ok(found)
+    }
+
+    /// The same message once more.
+    pub(crate) fn repeat(&mut self, pass: &mut RawPass) -> Result<RawMessage, Error> {
+        of_one(self.cluster, pass.cluster)?;
+        let mut handle = Handle::closed();
+        // SAFETY: two handles are the library's, and of one cluster; the third is closed.
+        answered(unsafe { kp_repeat(&mut pass.handle, &mut self.handle, &mut handle) })?;
+        Ok(RawMessage { handle, cluster: self.cluster })
     }
 
     pub(crate) fn said(&mut self) -> Result<SaidOut, Error> {

@@ -17,6 +17,7 @@
 //! | to keep a node's log as files | [`Node::segments`] |
 //! | to wait until something is committed, without a loop | [`Cluster::wait_acked`], [`Cluster::wait_mark`] |
 //! | followers to replicate | [`Workers`], or [`Node::ask`] and [`Node::step`] by hand |
+//! | to have them do so at once, in this thread | [`Workers::replicate`] |
 //! | to hear what becomes of the nodes | [`Workers::start_with`] |
 //! | to test a service where messages are lost or late | [`Workers::link`] |
 //! | Kafka's error code for a refusal | [`Refusal::kafka_code`] |
@@ -77,17 +78,20 @@
 
 mod batch;
 mod batches;
+mod carrier;
 mod cluster;
 mod error;
 mod fetched;
 #[allow(unsafe_code)]
 mod ffi;
+mod inbox;
 mod links;
 mod message;
 mod node;
 mod record;
 mod records;
 mod segments;
+mod teller;
 mod values;
 mod workers;
 
@@ -103,8 +107,9 @@ pub use node::Node;
 pub use record::{Header, Record, ShownRecords};
 pub use records::{CommittedRecord, Records};
 pub use segments::{Segment, Segments};
+pub use teller::Event;
 pub use values::{
     Ack, BatchHead, Change, EpochEnd, Known, Leadership, Marker, NodeState, OpenTransaction, ProducerState, Receipt, Restarted, Role,
     Status, TimeOffset,
 };
-pub use workers::{Event, Workers};
+pub use workers::Workers;

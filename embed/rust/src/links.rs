@@ -1,9 +1,9 @@
-//! Links between the workers, which a tester cuts, delays, or makes lossy.
+//! Links between the nodes and the controller, which a tester cuts, delays, or makes lossy or doubling.
 
 use crate::cluster::lock;
 use crate::message::Addressee;
 use std::sync::Mutex;
-use std::sync::atomic::{AtomicBool, Ordering};
+use std::sync::atomic::{AtomicBool, AtomicUsize, Ordering};
 use std::time::{Duration, Instant};
 
 /// An end of a link.
@@ -42,15 +42,28 @@ pub enum Link {
         /// One in how many.
         one_in: u32,
     },
+    /// It comes twice by chance, as [`Link::Lossy`] loses it, the second one right behind the first ([`Message::repeat`]). Where memory is
+    /// refused for the second it comes once. Else it comes as over [`Link::Up`].
+    ///
+    /// [`Message::repeat`]: crate::Message::repeat
+    Doubling {
+        /// One in how many.
+        one_in: u32,
+    },
 }
 
 // What becomes of one message.
 #[derive(Clone, Copy, Debug, PartialEq, Eq)]
 pub(crate) enum Fate {
     Lost,
-    Comes,
-    ComesAt(Instant),
+    Comes {
+        // When, where that isn't now.
+        at: Option<Instant>,
+        twice: bool,
+    },
 }
+
+const COMES: Fate = Fate::Comes { at: None, twice: false };
 
 // One way from one place to another.
 #[derive(Clone, Debug)]
@@ -72,16 +85,20 @@ impl Line {
         match link {
             Link::Cut => Fate::Lost,
             Link::Lossy { one_in } if self.is_drawn(one_in) => Fate::Lost,
-            Link::Up | Link::Lossy { .. } => self.in_order(now, now),
-            Link::Delayed(time) => now.checked_add(time).map_or(Fate::Lost, |due| self.in_order(now, due)),
+            Link::Doubling { one_in } if self.is_drawn(one_in) => Fate::Comes { at: self.in_order(now, now), twice: true },
+            Link::Up | Link::Lossy { .. } | Link::Doubling { .. } => Fate::Comes { at: self.in_order(now, now), twice: false },
+            Link::Delayed(time) => match now.checked_add(time) {
+                Some(due) => Fate::Comes { at: self.in_order(now, due), twice: false },
+                None => Fate::Lost,
+            },
         }
     }
 
-    // Not before any that was sent earlier.
-    fn in_order(&mut self, now: Instant, due: Instant) -> Fate {
+    // Not before any that was sent earlier; none where that is now.
+    fn in_order(&mut self, now: Instant, due: Instant) -> Option<Instant> {
         let due = self.busy_until.map_or(due, |earlier| earlier.max(due));
         self.busy_until = (due > now).then_some(due);
-        self.busy_until.map_or(Fate::Comes, Fate::ComesAt)
+        self.busy_until
     }
 
     // Marsaglia's xorshift of 64 bits, of whose product the upper half counts (xorshift64*).
@@ -109,13 +126,16 @@ pub(crate) struct Links {
     // Whether any was ever set; else all are up, and nobody takes the lock.
     were_set: AtomicBool,
     lines: Mutex<Vec<Line>>,
+    // How many messages of each link are in its addressee's channel.
+    posted: Vec<AtomicUsize>,
 }
 
 impl Links {
     pub(crate) fn new(nodes: u8, seed: u64) -> Links {
         let places = u64::from(nodes) + 1;
         let seeds = (0..places * places).map(|line| mixed(seed).wrapping_add(line));
-        Links { nodes, were_set: AtomicBool::new(false), lines: Mutex::new(seeds.map(Line::new).collect()) }
+        let posted = (0..places * places).map(|_| AtomicUsize::new(0)).collect();
+        Links { nodes, were_set: AtomicBool::new(false), lines: Mutex::new(seeds.map(Line::new).collect()), posted }
     }
 
     pub(crate) fn set(&self, from: Place, to: Place, link: Link) {
@@ -127,9 +147,32 @@ impl Links {
     // Asked once for each message that is sent, in the order of sending.
     pub(crate) fn fate(&self, from: Place, to: Place) -> Fate {
         if !self.were_set.load(Ordering::Acquire) {
-            return Fate::Comes;
+            return COMES;
         }
-        self.line(from, to).map_or(Fate::Comes, |line| lock(&self.lines)[line].fate(Instant::now()))
+        self.line(from, to).map_or(COMES, |line| lock(&self.lines)[line].fate(Instant::now()))
+    }
+
+    // A message goes by its addressee's channel; whoever sends over the link has the way between its ends. So with the two below.
+    pub(crate) fn begins(&self, from: Place, to: Place) {
+        if let Some(posted) = self.posted(from, to) {
+            posted.fetch_add(1, Ordering::Relaxed);
+        }
+    }
+
+    // One of them was taken.
+    pub(crate) fn ends(&self, from: Place, to: Place) {
+        if let Some(posted) = self.posted(from, to) {
+            posted.fetch_sub(1, Ordering::Relaxed);
+        }
+    }
+
+    // Whether what came at once would overtake one of them.
+    pub(crate) fn is_busy(&self, from: Place, to: Place) -> bool {
+        self.posted(from, to).is_some_and(|it| it.load(Ordering::Relaxed) > 0)
+    }
+
+    fn posted(&self, from: Place, to: Place) -> Option<&AtomicUsize> {
+        self.posted.get(self.line(from, to)?)
     }
 
     fn line(&self, from: Place, to: Place) -> Option<usize> {
@@ -151,43 +194,67 @@ mod tests {
     const ONE: Place = Place::Node(1);
     const LONG: Duration = Duration::from_secs(60);
 
-    fn drawn(seed: u64, from: Place, one_in: u32) -> Vec<bool> {
+    const TWICE: Fate = Fate::Comes { at: None, twice: true };
+
+    // Of 1,000 messages those that have this fate over the link.
+    fn drawn(seed: u64, from: Place, link: Link, fate: Fate) -> Vec<bool> {
         let links = Links::new(3, seed);
-        links.set(from, ONE, Link::Lossy { one_in });
-        (0..1_000).map(|_| links.fate(from, ONE) == Fate::Lost).collect()
+        links.set(from, ONE, link);
+        (0..1_000).map(|_| links.fate(from, ONE) == fate).collect()
     }
 
     #[test]
     fn chances_are_the_seeds() {
-        let lost = drawn(7, Place::Node(0), 4);
-        assert_eq!(lost, drawn(7, Place::Node(0), 4));
-        assert_ne!(lost, drawn(8, Place::Node(0), 4));
-        assert_ne!(lost, drawn(7, Place::Controller, 4)); // each link has its own
-        let many = lost.iter().filter(|it| **it).count();
-        assert!((150..350).contains(&many), "{many} of 1,000");
-        assert!(drawn(7, Place::Node(0), 1).iter().all(|it| *it));
-        assert!(!drawn(7, Place::Node(0), 0).iter().any(|it| *it));
+        let lossy = |one_in| (Link::Lossy { one_in }, Fate::Lost);
+        let doubling = |one_in| (Link::Doubling { one_in }, TWICE);
+        let zero = Place::Node(0);
+        let of = |seed, from, (link, fate)| drawn(seed, from, link, fate);
+        for kind in [&lossy as &dyn Fn(u32) -> (Link, Fate), &doubling] {
+            let found = of(7, zero, kind(4));
+            assert_eq!(found, of(7, zero, kind(4)));
+            assert_ne!(found, of(8, zero, kind(4)));
+            assert_ne!(found, of(7, Place::Controller, kind(4))); // each link has its own
+            let many = found.iter().filter(|it| **it).count();
+            assert!((150..350).contains(&many), "{many} of 1,000");
+            assert!(of(7, zero, kind(1)).iter().all(|it| *it));
+            assert!(!of(7, zero, kind(0)).iter().any(|it| *it));
+        }
+        // What isn't drawn comes once.
+        assert!(drawn(7, zero, Link::Doubling { one_in: 0 }, COMES).iter().all(|it| *it));
     }
 
     #[test]
     fn a_link_is_one_way_and_keeps_its_order() {
         let links = Links::new(2, 0);
-        assert_eq!(links.fate(Place::Node(0), ONE), Fate::Comes);
+        assert_eq!(links.fate(Place::Node(0), ONE), COMES);
         links.set(Place::Node(0), ONE, Link::Cut);
         assert_eq!(links.fate(Place::Node(0), ONE), Fate::Lost);
-        assert_eq!(links.fate(ONE, Place::Node(0)), Fate::Comes);
-        assert_eq!(links.fate(Place::Controller, ONE), Fate::Comes);
+        assert_eq!(links.fate(ONE, Place::Node(0)), COMES);
+        assert_eq!(links.fate(Place::Controller, ONE), COMES);
         let before = Instant::now();
         links.set(Place::Node(0), ONE, Link::Delayed(LONG));
-        let Fate::ComesAt(first) = links.fate(Place::Node(0), ONE) else { panic!("it is held") };
+        let Fate::Comes { at: Some(first), .. } = links.fate(Place::Node(0), ONE) else { panic!("it is held") };
         assert!(first >= before + LONG);
-        for link in [Link::Up, Link::Delayed(Duration::from_millis(1)), Link::Lossy { one_in: 0 }] {
+        for link in [Link::Up, Link::Delayed(Duration::from_millis(1)), Link::Lossy { one_in: 0 }, Link::Doubling { one_in: 1 }] {
             links.set(Place::Node(0), ONE, link);
-            assert_eq!(links.fate(Place::Node(0), ONE), Fate::ComesAt(first), "none overtakes it");
+            let twice = link == Link::Doubling { one_in: 1 };
+            assert_eq!(links.fate(Place::Node(0), ONE), Fate::Comes { at: Some(first), twice }, "none overtakes it");
         }
         links.set(Place::Node(0), ONE, Link::Delayed(Duration::MAX));
         assert_eq!(links.fate(Place::Node(0), ONE), Fate::Lost);
         links.set(Place::Node(2), ONE, Link::Cut); // no such node
-        assert_eq!(links.fate(Place::Node(2), ONE), Fate::Comes);
+        assert_eq!(links.fate(Place::Node(2), ONE), COMES);
+    }
+
+    #[test]
+    fn what_is_in_a_channel_keeps_its_link_busy() {
+        let links = Links::new(2, 0);
+        links.begins(Place::Node(0), ONE);
+        links.begins(Place::Node(0), ONE);
+        links.ends(Place::Node(0), ONE);
+        assert!(links.is_busy(Place::Node(0), ONE));
+        assert!(!links.is_busy(ONE, Place::Node(0)));
+        links.ends(Place::Node(0), ONE);
+        assert!(!links.is_busy(Place::Node(0), ONE));
     }
 }

@@ -1,5 +1,6 @@
 //! Messages between nodes, or between a leader and the controller.
 
+use crate::cluster::Pass;
 use crate::error::Error;
 use crate::ffi::{RawMessage, SaidOut};
 use crate::values::EpochEnd;
@@ -72,7 +73,7 @@ fn place_of(number: u8) -> Addressee {
     }
 }
 
-/// A message under way. It may be dropped, come late, or in another order; it can't be made up, changed, or come twice.
+/// A message under way. It may be dropped, come late, in another order, or again ([`Message::repeat`]); it can't be made up or changed.
 #[derive(Debug)]
 pub struct Message {
     pub(crate) raw: RawMessage,
@@ -115,5 +116,30 @@ impl Message {
     /// ```
     pub fn said(&mut self) -> Result<Said, Error> {
         self.raw.said().map(Said::of)
+    }
+
+    /// A repeat of it, as a network may bring a message twice: what it says, and to whom, is the same, and its batches are shared. Any pass of
+    /// the cluster will do. F33; [`Error::OtherCluster`], [`Error::NoRoom`]. O(1) for each batch.
+    ///
+    /// ```
+    /// use kpart::{Cluster, Limits, Refusal};
+    ///
+    /// # fn main() -> Result<(), kpart::Error> {
+    /// let cluster = Cluster::open(2, Limits::default())?;
+    /// let mut pass = cluster.pass()?;
+    /// pass.elect(0)?;
+    /// cluster.node(0)?.adopt()?;
+    /// cluster.node(1)?.adopt()?;
+    /// cluster.node(0)?.produce(&mut pass, include_bytes!(concat!(env!("CARGO_MANIFEST_DIR"), "/tests/one_record.batch")))?;
+    /// let request = cluster.node(1)?.ask()?;
+    /// let mut answer = cluster.node(0)?.step(request)?.expect("a leader answers");
+    /// let mut again = answer.repeat(&mut pass)?;
+    /// assert_eq!(again.said(), answer.said());
+    /// cluster.node(1)?.step(answer)?;
+    /// assert_eq!(cluster.node(1)?.step(again).err(), Some(Refusal::StaleAnswer.into())); // it has the batch already
+    /// # Ok(()) }
+    /// ```
+    pub fn repeat(&mut self, pass: &mut Pass) -> Result<Message, Error> {
+        Message::new(self.raw.repeat(&mut pass.raw)?)
     }
 }

@@ -1,198 +1,38 @@
-//! A thread for each node, which carries its messages over channels of std.
+//! A thread for each node, which gives it its turns, and takes what links hold back.
 
-use crate::cluster::{Cluster, Pass};
+use crate::carrier::{Carrier, Desk};
+use crate::cluster::Cluster;
 use crate::error::{Error, Refusal};
-use crate::links::{Fate, Link, Links, Place};
+use crate::inbox::{Inbox, Parcel};
+use crate::links::{Link, Links, Place};
 use crate::message::{Addressee, Message};
-use crate::node::Node;
-use crate::values::{Change, NodeState, Role};
-use std::collections::BTreeMap;
+use crate::teller::{Event, Hook, Teller};
+use crate::values::Change;
+use std::fmt;
+use std::mem::replace;
 use std::sync::Arc;
-use std::sync::mpsc::{Receiver, RecvTimeoutError, Sender, channel};
+use std::sync::mpsc::channel;
 use std::thread::{Builder, JoinHandle};
 use std::time::{Duration, Instant};
 
 // After so many turns without an answer a follower asks again.
 const PATIENCE: u32 = 50;
-// After so many turns at which nothing had changed the next one comes later, and at last so many times as late.
+// After so many turns that did nothing the next one comes later, and at last so many times as late.
 const QUIET: u32 = 16;
 const SLOWEST: u32 = 8;
-
-#[derive(Debug)]
-enum Parcel {
-    // With the time when it comes, where that isn't now.
-    Message(Message, Option<Instant>),
-    Turn,
-    Propose(Change),
-    Stop,
-}
-
-// Where parcels for each node go, and at last those for the controller.
-#[derive(Clone, Debug)]
-struct Posts {
-    nodes: Vec<Sender<Parcel>>,
-    controller: Sender<Parcel>,
-    links: Arc<Links>,
-}
-
-impl Posts {
-    // Over the link from there.
-    fn carry(&self, from: Place, message: Message) {
-        match self.links.fate(from, message.addressee().into()) {
-            Fate::Lost => {}
-            Fate::Comes => self.post(message, None),
-            Fate::ComesAt(due) => self.post(message, Some(due)),
-        }
-    }
-
-    // What comes to a worker that has ended is dropped, as any message may be.
-    fn post(&self, message: Message, due: Option<Instant>) {
-        let post = match message.addressee() {
-            Addressee::Node(number) => self.nodes.get(usize::from(number)),
-            Addressee::Controller => Some(&self.controller),
-        };
-        if let Some(post) = post {
-            let _sent = post.send(Parcel::Message(message, due));
-        }
-    }
-}
-
-// What comes to a worker, and of that the messages whose time hasn't come, by their times.
-struct Inbox {
-    parcels: Receiver<Parcel>,
-    held: BTreeMap<(Instant, u64), Message>,
-    count: u64,
-}
-
-impl Inbox {
-    fn new(parcels: Receiver<Parcel>) -> Inbox {
-        Inbox { parcels, held: BTreeMap::new(), count: 0 }
-    }
-
-    // Of two that come at the same time the one that was held first comes first.
-    fn hold(&mut self, message: Message, due: Instant) {
-        self.held.insert((due, self.count), message);
-        self.count += 1;
-    }
-
-    // The first one that is held, if its time has come.
-    fn due(&mut self, now: Instant) -> Option<Message> {
-        let first = self.held.first_entry().filter(|it| it.key().0 <= now)?;
-        Some(first.remove())
-    }
-
-    // The next parcel, or none where that time comes first. A message whose time has come goes before what comes now.
-    fn next(&mut self, until: Option<Instant>) -> Option<Parcel> {
-        loop {
-            let now = Instant::now();
-            if let Some(message) = self.due(now) {
-                return Some(Parcel::Message(message, None));
-            }
-            let due = self.held.first_key_value().map(|(key, _)| key.0);
-            let end = until.into_iter().chain(due).min();
-            let came = match end {
-                Some(end) => self.parcels.recv_timeout(end.saturating_duration_since(now)),
-                None => self.parcels.recv().map_err(RecvTimeoutError::from),
-            };
-            match came {
-                // Also one that needn't wait takes its turn among those that are held, as one of its link may have come due meanwhile.
-                Ok(Parcel::Message(message, due)) if due.is_some() || !self.held.is_empty() => {
-                    self.hold(message, due.unwrap_or_else(Instant::now));
-                }
-                Ok(parcel) => return Some(parcel),
-                Err(RecvTimeoutError::Disconnected) => return Some(Parcel::Stop),
-                Err(RecvTimeoutError::Timeout) if until.is_some_and(|until| until <= Instant::now()) => return None,
-                Err(RecvTimeoutError::Timeout) => {}
-            }
-        }
-    }
-}
-
-/// What a worker tells of its node ([`Workers::start_with`]).
-#[derive(Clone, Copy, Debug, PartialEq, Eq)]
-#[non_exhaustive]
-pub enum Event {
-    /// The high watermark that callers are shown ([`Pass::watermark`]) has risen: all below it is committed.
-    Mark {
-        /// The node.
-        node: u8,
-        /// Where it is, above where it was told to be before; at the start that is 0.
-        offset: u64,
-    },
-    /// The node took up the controller's record ([`Node::adopt`](crate::Node::adopt)).
-    Role {
-        /// The node.
-        node: u8,
-        /// What that made of it.
-        role: Role,
-    },
-    /// The node went down: somebody stopped it, or memory was refused as it took batches. Once for each time.
-    Down {
-        /// The node.
-        node: u8,
-    },
-}
-
-type Hook = Arc<dyn Fn(Event) + Send + Sync>;
-
-// What is told of a node, and what was told so far.
-struct Teller {
-    number: u8,
-    hook: Hook,
-    pass: Pass,
-    // How often it went down; none before the first look.
-    falls: Option<u64>,
-    records: u64,
-    mark: u64,
-    news: Vec<Event>,
-}
-
-impl Teller {
-    fn new(number: u8, hook: Hook, pass: Pass) -> Teller {
-        Teller { number, hook, pass, falls: None, records: 0, mark: 0, news: Vec::new() }
-    }
-
-    // What has changed since the last look. The node's lock is held, so it is of one moment.
-    fn look(&mut self, node: &Node<'_>, is_down: bool) {
-        let past = node.past();
-        if is_down {
-            self.look_at_mark(); // it rose before
-        }
-        let falls = past.life + u64::from(is_down);
-        let told = self.falls.unwrap_or(past.life);
-        self.news.extend((told..falls).map(|_| Event::Down { node: self.number }));
-        self.falls = Some(told.max(falls));
-        if past.records > self.records && !is_down {
-            self.news.extend(past.role.map(|role| Event::Role { node: self.number, role }));
-        }
-        self.records = past.records;
-        self.look_at_mark();
-    }
-
-    fn look_at_mark(&mut self) {
-        let offset = self.pass.watermark(self.number).unwrap_or(self.mark);
-        if offset > self.mark {
-            self.mark = offset;
-            self.news.push(Event::Mark { node: self.number, offset });
-        }
-    }
-
-    // No lock is held.
-    fn tell(&mut self) {
-        for event in self.news.drain(..) {
-            (self.hook)(event);
-        }
-    }
-}
 
 /// A worker for each node and one for the controller: each a thread, with a channel of std for what comes to it.
 ///
 /// At its turn, which comes again and again, a node takes up the controller's record; then it asks its leader, unless an answer is
 /// under way, or, where it leads, raises its high watermark; and it notes its high watermark as the checkpoint. A follower that
-/// took batches asks again at once. While nothing changes at the node its turns come more rarely, at last eight times as late;
-/// [`Workers::turn`] ends that at once. A node that was stopped stays down until somebody restarts it; one that went down as memory
+/// took batches asks again at once. While a node's turns do nothing, as nothing changes or others were faster, they come more rarely, at last
+/// eight times as late; [`Workers::turn`] ends that at once. A node that was stopped stays down until somebody restarts it; one that went down as memory
 /// was refused in a take is started again at its next turn. Dropping the workers stops them. [`Workers::start_with`] tells the host
-/// what becomes of the nodes; by [`Workers::link`] a test loses messages, or holds them back.
+/// what becomes of the nodes; by [`Workers::link`] a test loses messages, holds them back, or doubles them.
+///
+/// The thread that has a node ask carries the request to the leader, and what comes of it, by one node's lock after another: no other
+/// thread has to wake for it. What a link holds back, and what goes to the controller or comes from it, goes by the channels. Whoever
+/// hands in batches can have them replicated so, in its own thread, by [`Workers::replicate`].
 ///
 /// ```
 /// use kpart::{Change, Cluster, Limits, Workers};
@@ -210,14 +50,19 @@ impl Teller {
 /// }
 /// # Ok(()) }
 /// ```
-#[derive(Debug)]
 pub struct Workers {
-    posts: Posts,
+    carrier: Arc<Carrier>,
     threads: Vec<JoinHandle<()>>,
 }
 
+impl fmt::Debug for Workers {
+    fn fmt(&self, out: &mut fmt::Formatter<'_>) -> fmt::Result {
+        out.debug_struct("Workers").field("threads", &self.threads).finish_non_exhaustive()
+    }
+}
+
 impl Workers {
-    /// Starts them: a node's turn comes `every` after its last one ended, or later where nothing changes. [`Error::NoRoom`]; [`Error::NoThread`].
+    /// Starts them: a node's turn comes `every` after its last one ended, or later where turns do nothing. [`Error::NoRoom`]; [`Error::NoThread`].
     pub fn start(cluster: &Cluster, every: Duration) -> Result<Workers, Error> {
         Workers::begin(cluster, every, 0, None)
     }
@@ -225,14 +70,15 @@ impl Workers {
     /// Starts them with a hook, to which each worker tells what becomes of its node: so a host learns who leads, and what is committed,
     /// without asking. [`Error::NoRoom`]; [`Error::NoThread`].
     ///
-    /// The events of one node come in their order, from one thread; those of several nodes in any order, and at the same time. First
+    /// The events of one node come in their order, one at a time; those of several nodes in any order, and at the same time. First
     /// comes what the worker finds: [`Event::Down`], or the role that the node has, and its watermark where that is above 0. After
-    /// that each change is told once, whoever made it: what the worker's own step or turn changed right after that, and what others
-    /// changed at its next one. Of what others changed meanwhile each [`Event::Down`] is told, then the last role, where it is up, and
-    /// the last watermark: behind these where it is up, before them where it is down.
+    /// that each change is told once, whoever made it: what a message or a turn changed right after that, and what the host's own calls
+    /// changed at the node's next message or turn. Of what they changed meanwhile each [`Event::Down`] is told, then the last role, where
+    /// it is up, and the last watermark: behind these where it is up, before them where it is down.
     ///
-    /// The hook is called outside of any node's lock, so it may take one. As long as it runs, that worker carries nothing: hand on
-    /// what takes time. It must not drop the workers, which would wait for themselves; a panic in it ends that worker.
+    /// The hook is called outside of any node's lock, so it may take one: by a worker, or by a thread in [`Workers::replicate`]. As long
+    /// as it runs, that thread carries nothing: hand on what takes time. It must not drop the workers, which would wait for themselves; a
+    /// panic in it ends that worker, or goes through that call.
     ///
     /// ```
     /// use kpart::{Cluster, Event, Limits, Role, Workers};
@@ -257,8 +103,8 @@ impl Workers {
         Workers::begin(cluster, every, 0, Some(Arc::new(hook)))
     }
 
-    /// Starts them as [`Workers::start_with`] does, with a seed for the chances of [`Link::Lossy`]; the other calls take 0. Of the
-    /// messages that are sent over a link while it is lossy, one seed loses the same in each run: the third and the tenth, say.
+    /// Starts them as [`Workers::start_with`] does, with a seed for the chances of [`Link::Lossy`] and [`Link::Doubling`]; the other calls take 0. Of
+    /// the messages that are sent over a link while it is lossy, one seed loses the same in each run: the third and the tenth, say.
     /// [`Error::NoRoom`]; [`Error::NoThread`].
     ///
     /// ```
@@ -287,22 +133,24 @@ impl Workers {
     }
 
     fn begin(cluster: &Cluster, every: Duration, seed: u64, hook: Option<Hook>) -> Result<Workers, Error> {
-        let pass = cluster.pass()?;
-        let teller = |number| match &hook {
-            Some(hook) => Ok(Some(Teller::new(number, hook.clone(), cluster.pass()?))),
-            None => Ok(None),
-        };
-        let tellers = (0..cluster.nodes()).map(teller).collect::<Result<Vec<_>, Error>>()?;
-        let (senders, inboxes): (Vec<_>, Vec<_>) = (0..cluster.nodes()).map(|_| channel()).unzip();
-        let (controller, inbox) = channel();
-        let links = Arc::new(Links::new(cluster.nodes(), seed));
-        let posts = Posts { nodes: senders, controller, links };
-        let decides = posts.clone();
-        let mut workers = Workers { posts, threads: Vec::new() };
-        workers.spawn("kpart controller".to_string(), move || control(pass, Inbox::new(inbox), &decides))?;
-        for (number, (inbox, teller)) in (0..cluster.nodes()).zip(inboxes.into_iter().zip(tellers)) {
-            let mut worker = Worker::new(cluster.clone(), number, workers.posts.clone(), every, teller);
-            workers.spawn(format!("kpart node {number}"), move || worker.serve(Inbox::new(inbox)))?;
+        let (mut desks, mut inboxes) = (Vec::new(), Vec::new());
+        for number in 0..cluster.nodes() {
+            let teller = match &hook {
+                Some(hook) => Some(Teller::new(number, hook.clone(), cluster.pass()?)),
+                None => None,
+            };
+            let (post, parcels) = channel();
+            desks.push(Desk::new(post, teller));
+            inboxes.push(Inbox::new(parcels));
+        }
+        let (controller, parcels) = channel();
+        let links = Links::new(cluster.nodes(), seed);
+        let carrier = Arc::new(Carrier::new(cluster, links, desks, controller, every.saturating_mul(PATIENCE))?);
+        let mut workers = Workers { carrier: carrier.clone(), threads: Vec::new() };
+        workers.spawn("kpart controller".to_string(), move || control(Inbox::new(parcels), &carrier))?;
+        for (number, inbox) in (0..).zip(inboxes) {
+            let mut worker = Worker::new(cluster.clone(), number, workers.carrier.clone(), every);
+            workers.spawn(format!("kpart node {number}"), move || worker.serve(inbox))?;
         }
         Ok(workers)
     }
@@ -315,18 +163,47 @@ impl Workers {
 
     /// Gives a node a turn now. A number that the cluster hasn't got is no node's.
     pub fn turn(&self, node: u8) {
-        self.put(node, Parcel::Turn);
+        self.carrier.put(Addressee::Node(node), Parcel::Turn);
     }
 
-    /// Has a node, if it leads, propose a change of the in-sync replicas to the controller. Look at [`Pass::leadership`] for what came
+    /// Replicates what a leader has taken, in the calling thread: each node that follows it asks it, unless an answer is under way, and what
+    /// comes of that is carried on; and it raises its high watermark. So where the links hold nothing back, and all that are in sync follow
+    /// it, what it had taken before is committed when this returns, and nobody has to wait for a worker's turn. Else the workers do what
+    /// is left. A node that doesn't lead does nothing. [`Error::OutOfRange`] where there is no such node.
+    ///
+    /// It takes one node's lock after another, so hold no node meanwhile. O(n) in the nodes, and O(1) for each batch.
+    ///
+    /// ```
+    /// use kpart::{Ack, Cluster, Limits, Workers};
+    /// use std::time::Duration;
+    ///
+    /// # fn main() -> Result<(), kpart::Error> {
+    /// let cluster = Cluster::open(3, Limits::default())?;
+    /// let mut pass = cluster.pass()?;
+    /// pass.elect(0)?;
+    /// for number in 0..3 {
+    ///     cluster.node(number)?.adopt()?;
+    /// }
+    /// let workers = Workers::start(&cluster, Duration::from_millis(100))?;
+    /// let batch = include_bytes!(concat!(env!("CARGO_MANIFEST_DIR"), "/tests/one_record.batch"));
+    /// let receipt = cluster.node(0)?.produce(&mut pass, batch)?;
+    /// workers.replicate(0)?;
+    /// assert_eq!(cluster.node(0)?.acked(&mut pass, &receipt)?, Ack::Yes); // it is there
+    /// # Ok(()) }
+    /// ```
+    pub fn replicate(&self, leader: u8) -> Result<(), Error> {
+        self.carrier.replicate(leader)
+    }
+
+    /// Has a node, if it leads, propose a change of the in-sync replicas to the controller. Look at [`Pass::leadership`](crate::Pass::leadership) for what came
     /// of it, and call it again while nothing did.
     pub fn propose(&self, node: u8, change: Change) {
-        self.put(node, Parcel::Propose(change));
+        self.carrier.put(Addressee::Node(node), Parcel::Propose(change));
     }
 
     /// Carries a message that you got from a node yourself, over no link: it comes.
     pub fn post(&self, message: Message) {
-        self.posts.post(message, None);
+        self.carrier.post(None, message, None);
     }
 
     /// Sets what becomes of what is sent from one place to another from now on, to test what stands on a cluster. At the start all
@@ -352,24 +229,17 @@ impl Workers {
     /// # Ok(()) }
     /// ```
     pub fn link(&self, from: Place, to: Place, link: Link) {
-        self.posts.links.set(from, to, link);
+        self.carrier.links().set(from, to, link);
     }
 
     /// Stops them, and waits for their threads' end. What is under way is dropped; the nodes stay as they are.
     pub fn stop(self) {}
-
-    fn put(&self, node: u8, parcel: Parcel) {
-        if let Some(post) = self.posts.nodes.get(usize::from(node)) {
-            let _sent = post.send(parcel);
-        }
-    }
 }
 
 impl Drop for Workers {
     fn drop(&mut self) {
-        for post in self.posts.nodes.iter().chain([&self.posts.controller]) {
-            let _sent = post.send(Parcel::Stop);
-        }
+        let nodes = (0..self.carrier.nodes()).map(Addressee::Node);
+        nodes.chain([Addressee::Controller]).for_each(|it| self.carrier.put(it, Parcel::Stop));
         for thread in self.threads.drain(..) {
             let _ended = thread.join();
         }
@@ -377,14 +247,10 @@ impl Drop for Workers {
 }
 
 // Decides on each proposal that comes, and sends the decision on.
-fn control(mut pass: Pass, mut inbox: Inbox, posts: &Posts) {
+fn control(mut inbox: Inbox, carrier: &Carrier) {
     while let Some(parcel) = inbox.next(None) {
         match parcel {
-            Parcel::Message(proposal, _) => {
-                if let Ok(decision) = pass.decide(proposal) {
-                    posts.carry(Place::Controller, decision);
-                }
-            }
+            Parcel::Letter(letter) => carrier.decide(letter.message),
             Parcel::Turn | Parcel::Propose(_) => {}
             Parcel::Stop => return,
         }
@@ -394,217 +260,76 @@ fn control(mut pass: Pass, mut inbox: Inbox, posts: &Posts) {
 struct Worker {
     cluster: Cluster,
     number: u8,
-    posts: Posts,
+    carrier: Arc<Carrier>,
     every: Duration,
     next_turn: Instant,
-    asked: Option<Instant>,
-    has_fallen: bool,
-    teller: Option<Teller>,
-    stir: Stir,
-}
-
-// What a node was at the last look, and at how many turns since nothing had changed.
-#[derive(Default)]
-struct Stir {
-    last: Option<NodeState>,
+    // What its node noted at the last turn.
+    noted: u64,
+    // How many turns did nothing since one did something.
     quiet: u32,
 }
 
-impl Stir {
-    // How far the node's log has grown since the last look; none where nothing at all has changed.
-    fn look(&mut self, node: &mut Node<'_>) -> Option<u64> {
-        let state = node.show().ok();
-        let ends = [self.last, state].map(|it| it.map_or(0, |it| it.end));
-        let changed = state != self.last;
-        self.last = state;
-        if changed {
-            self.quiet = 0;
-        }
-        changed.then_some(ends[1].saturating_sub(ends[0]))
-    }
-
-    // The time until the next turn.
-    fn wait(&self, every: Duration) -> Duration {
-        every * (1 + self.quiet / QUIET).min(SLOWEST)
-    }
-}
-
 impl Worker {
-    fn new(cluster: Cluster, number: u8, posts: Posts, every: Duration, teller: Option<Teller>) -> Worker {
-        Worker { cluster, number, posts, every, next_turn: Instant::now(), asked: None, has_fallen: false, teller, stir: Stir::default() }
+    fn new(cluster: Cluster, number: u8, carrier: Arc<Carrier>, every: Duration) -> Worker {
+        Worker { cluster, number, carrier, every, next_turn: Instant::now(), noted: 0, quiet: 0 }
     }
 
     fn serve(&mut self, mut inbox: Inbox) {
         loop {
-            // A refusal ends that step alone: the node is as before, and a later turn comes.
-            let _done = match inbox.next(Some(self.next_turn)) {
-                Some(Parcel::Message(message, _)) => self.take(message),
-                Some(Parcel::Propose(change)) => self.propose(change),
+            match inbox.next(Some(self.next_turn)) {
+                Some(Parcel::Letter(letter)) => self.carrier.deliver(self.number, letter),
+                // A refusal ends that alone: the node is as before, and a later turn comes.
+                Some(Parcel::Propose(change)) => {
+                    let _done = self.propose(change);
+                }
                 Some(Parcel::Turn) => {
-                    self.stir.quiet = 0;
-                    self.turn()
+                    self.quiet = 0;
+                    self.turn();
                 }
                 None => self.turn(),
                 Some(Parcel::Stop) => return,
-            };
-            if self.next_turn <= Instant::now() {
-                let _done = self.turn();
             }
-            if let Some(teller) = &mut self.teller {
-                teller.tell();
+            if self.next_turn <= Instant::now() {
+                self.turn();
             }
         }
     }
 
     // Between two turns the node's lock is free for so long, also where a turn takes longer than that: a lock goes to whoever asks first,
     // and a worker that asked again at once would keep others from it.
-    fn turn(&mut self) -> Result<(), Error> {
-        let done = self.take_turn();
-        self.next_turn = Instant::now() + self.stir.wait(self.every);
-        done
+    fn turn(&mut self) {
+        let did = self.take_turn().unwrap_or(false);
+        self.carrier.tell(self.number);
+        let did = self.carrier.ask(self.number) || did;
+        self.quiet = if did { 0 } else { self.quiet.saturating_add(1) };
+        self.next_turn = Instant::now() + self.every * (1 + self.quiet / QUIET).min(SLOWEST);
     }
 
-    fn take_turn(&mut self) -> Result<(), Error> {
+    // All of a turn that needs no other node. Whether it took up a record, or leads, and more is committed than at the last turn.
+    fn take_turn(&mut self) -> Result<bool, Error> {
+        let desk = self.carrier.desk(self.number).ok_or(Error::OutOfRange)?;
         let mut node = self.cluster.node(self.number)?;
-        if self.has_fallen {
+        if desk.has_fallen() {
             match node.restart() {
                 Err(error) if error.is_memory() => return Err(error),
                 // Refused otherwise, it was started by somebody else, or has no life left.
-                _done => self.has_fallen = false,
+                _done => desk.set_fallen(false),
             }
         }
         let adopted = node.adopt();
         if adopted.is_ok() {
-            self.asked = None;
+            desk.set_asked(None);
         }
         let leads = node.raise().is_ok();
-        let _noted = node.checkpoint();
-        if self.stir.look(&mut node).is_none() {
-            self.stir.quiet = self.stir.quiet.saturating_add(1);
-        }
-        if let Some(teller) = &mut self.teller {
-            teller.look(&node, adopted == Err(Refusal::Down.into()));
-        }
-        if leads {
-            return Ok(());
-        }
-        if self.asked.is_some_and(|asked| asked.elapsed() < self.every * PATIENCE) {
-            return Ok(());
-        }
-        let request = node.ask()?;
-        drop(node);
-        self.asked = Some(Instant::now());
-        self.posts.carry(Place::Node(self.number), request);
-        Ok(())
+        let noted = node.checkpoint().unwrap_or(self.noted);
+        let has_moved = noted != replace(&mut self.noted, noted);
+        desk.look(&node, adopted == Err(Refusal::Down.into()));
+        Ok(adopted.is_ok() || leads && has_moved)
     }
 
-    fn take(&mut self, message: Message) -> Result<(), Error> {
-        let mut node = self.cluster.node(self.number)?;
-        let stepped = node.step(message);
-        let is_down = stepped.is_err() && node.checkpoint() == Err(Refusal::Down.into());
-        match &stepped {
-            Ok(Some(_)) => {
-                let _raised = node.raise();
-            }
-            Ok(None) => self.asked = None,
-            Err(error) => {
-                // It has fallen also where something else comes before its next turn, and is refused since it is down.
-                self.has_fallen |= is_down && error.is_memory();
-                self.asked = None;
-            }
-        }
-        let grown = self.stir.look(&mut node).unwrap_or(0);
-        if let Some(teller) = &mut self.teller {
-            teller.look(&node, is_down);
-        }
-        let answer = match stepped? {
-            // So that its leader knows at once what it has taken.
-            None if grown > 0 => {
-                let request = node.ask()?;
-                self.asked = Some(Instant::now());
-                Some(request)
-            }
-            answer => answer,
-        };
-        drop(node);
-        if let Some(answer) = answer {
-            self.posts.carry(Place::Node(self.number), answer);
-        }
-        Ok(())
-    }
-
-    fn propose(&mut self, change: Change) -> Result<(), Error> {
+    fn propose(&self, change: Change) -> Result<(), Error> {
         let proposal = self.cluster.node(self.number)?.alter(change)?;
-        self.posts.carry(Place::Node(self.number), proposal);
-        Ok(())
-    }
-}
-
-#[cfg(test)]
-mod tests {
-    use super::*;
-    use crate::ffi::Limits;
-
-    // A request, to node 0, and a proposal, to the controller.
-    fn messages() -> Result<(Message, Message), Error> {
-        let cluster = Cluster::open(2, Limits::default())?;
-        cluster.pass()?.elect(0)?;
-        cluster.node(0)?.adopt()?;
-        cluster.node(1)?.adopt()?;
-        let request = cluster.node(1)?.ask()?;
-        let proposal = cluster.node(0)?.alter(Change::Leave(1))?;
-        Ok((request, proposal))
-    }
-
-    const REQUEST: Option<Addressee> = Some(Addressee::Node(0));
-    const PROPOSAL: Option<Addressee> = Some(Addressee::Controller);
-
-    #[test]
-    fn what_is_held_comes_in_order() -> Result<(), Error> {
-        let mut inbox = Inbox::new(channel().1);
-        let start = Instant::now();
-        let at = |after| start + Duration::from_millis(after);
-        let (request, proposal) = messages()?;
-        inbox.hold(request, at(60));
-        inbox.hold(proposal, at(60));
-        inbox.hold(messages()?.1, at(30));
-        let mut due = |after| inbox.due(at(after)).map(|message| message.addressee());
-        assert_eq!((due(29), due(30), due(59)), (None, PROPOSAL, None));
-        assert_eq!((due(60), due(60), due(60)), (REQUEST, PROPOSAL, None));
-        Ok(())
-    }
-
-    fn next(inbox: &mut Inbox) -> Option<Addressee> {
-        match inbox.next(None) {
-            Some(Parcel::Message(message, _)) => Some(message.addressee()),
-            _ => None,
-        }
-    }
-
-    #[test]
-    fn what_is_held_keeps_nothing_up() -> Result<(), Error> {
-        const HELD: Duration = Duration::from_millis(30);
-        let (sender, parcels) = channel();
-        let mut inbox = Inbox::new(parcels);
-        let send = |message, due| sender.send(Parcel::Message(message, due)).expect("it is there");
-        let start = Instant::now();
-        let (request, proposal) = messages()?;
-        send(request, Some(start + HELD));
-        assert_eq!(next(&mut inbox), REQUEST);
-        assert!(start.elapsed() >= HELD);
-        send(proposal, Some(start + HELD)); // its time has passed: what was sent later doesn't overtake it
-        let (request, _) = messages()?;
-        send(request, None);
-        assert_eq!((next(&mut inbox), next(&mut inbox)), (PROPOSAL, REQUEST));
-        let (request, proposal) = messages()?;
-        send(request, Some(start + Duration::from_secs(3_600)));
-        send(proposal, None); // of another link
-        assert_eq!(next(&mut inbox), PROPOSAL);
-        assert!(inbox.next(Some(start)).is_none());
-        sender.send(Parcel::Turn).expect("it is there");
-        assert!(matches!(inbox.next(None), Some(Parcel::Turn)));
-        drop(sender);
-        assert!(matches!(inbox.next(None), Some(Parcel::Stop)));
+        self.carrier.send(Place::Node(self.number), proposal);
         Ok(())
     }
 }

@@ -1,4 +1,4 @@
-//! What workers tell of their nodes, and what becomes of messages over links that are cut, delayed or lossy.
+//! What workers tell of their nodes, and what becomes of messages over links that are cut, delayed, lossy or doubling.
 
 use kpart::{Change, Cluster, Error, Event, Limits, Link, Pass, Place, Role, Workers};
 use std::sync::mpsc::{Receiver, channel};
@@ -231,5 +231,58 @@ fn what_is_lost_is_asked_for_again() -> Done {
     for node in 0..3 {
         assert_eq!(cluster.wait_mark(&mut pass, node, BATCHES - 1, LONG)?, Some(BATCHES));
     }
+    Ok(())
+}
+
+// Also the proposals and decisions come twice.
+#[test]
+fn what_comes_twice_is_taken_once() -> Done {
+    const BATCHES: u64 = 20;
+    let (cluster, mut pass) = led(3)?;
+    let workers = Workers::start_seeded(&cluster, EVERY, 17, |_| {})?;
+    let places = [Place::Node(0), Place::Node(1), Place::Node(2), Place::Controller];
+    for (from, to) in places.iter().flat_map(|from| places.iter().map(move |to| (*from, *to))) {
+        workers.link(from, to, Link::Doubling { one_in: if from == Place::Node(0) { 1 } else { 2 } });
+    }
+    for batch in 0..BATCHES {
+        put(&cluster, &mut pass)?;
+        if batch % 2 == 0 {
+            workers.replicate(0)?;
+        }
+    }
+    for node in 0..3 {
+        assert_eq!(cluster.wait_mark(&mut pass, node, BATCHES - 1, LONG)?, Some(BATCHES));
+        assert_eq!(cluster.node(node)?.read(&mut pass, 0)?.count() as u64, BATCHES);
+    }
+    cluster.node(2)?.stop()?;
+    assert!(comes(|| {
+        workers.propose(0, Change::Leave(2));
+        pass.leadership().is_ok_and(|it| !it.has_in_sync(2))
+    }));
+    put(&cluster, &mut pass)?;
+    assert_eq!(cluster.wait_mark(&mut pass, 0, BATCHES, LONG)?, Some(BATCHES + 1));
+    Ok(())
+}
+
+// The thread that hands a batch in has it committed, with no worker's turn.
+#[test]
+fn a_batch_is_replicated_in_the_callers_thread() -> Done {
+    let (cluster, mut pass) = led(3)?;
+    let (workers, events) = heard(&cluster, Duration::from_secs(3_600))?;
+    // Each node's first turn.
+    let roles: Vec<Event> = (0..3).map(|_| next(&events)).collect();
+    assert!(roles.iter().all(|it| matches!(it, Event::Role { .. })), "{roles:?}");
+    for batch in 1..=3 {
+        put(&cluster, &mut pass)?;
+        workers.replicate(0)?;
+        assert_eq!(pass.watermark(0)?, batch);
+        let told: Vec<Event> = events.try_iter().collect();
+        assert!(told.contains(&Event::Mark { node: 0, offset: batch }), "{told:?}");
+    }
+    assert_eq!(workers.replicate(3), Err(Error::OutOfRange));
+    workers.link(Place::Node(2), Place::Node(0), Link::Cut);
+    put(&cluster, &mut pass)?;
+    workers.replicate(0)?;
+    assert_eq!(pass.watermark(0)?, 3); // what node 2 asks is lost
     Ok(())
 }

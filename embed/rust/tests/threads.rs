@@ -8,7 +8,7 @@ use std::time::Duration;
 
 const ONE_RECORD: &[u8] = include_bytes!("one_record.batch");
 const NODES: u8 = 3;
-const BATCHES: u64 = 100;
+const BATCHES: usize = 100;
 const ELECTIONS: u8 = 20;
 
 fn is_send<T: Send>() {}
@@ -31,8 +31,8 @@ fn pause() {
     thread::sleep(Duration::from_micros(100));
 }
 
-// Hands a batch in until one of its receipts is acknowledged.
-fn put(cluster: &Cluster, pass: &mut Pass) -> Result<Receipt, Error> {
+// Hands a batch in until one of its receipts is acknowledged. With workers it has each one replicated by itself.
+fn put(cluster: &Cluster, pass: &mut Pass, workers: Option<&Workers>) -> Result<Receipt, Error> {
     let mut batch = Batch::new(ONE_RECORD)?;
     loop {
         let (leader, _) = pass.leadership()?.leader.expect("somebody leads");
@@ -44,6 +44,9 @@ fn put(cluster: &Cluster, pass: &mut Pass) -> Result<Receipt, Error> {
             }
             Err(error) => return Err(error),
         };
+        if let Some(workers) = workers {
+            workers.replicate(leader)?;
+        }
         if is_kept(cluster, pass, &receipt)? {
             return Ok(receipt);
         }
@@ -63,15 +66,12 @@ fn is_kept(cluster: &Cluster, pass: &mut Pass, receipt: &Receipt) -> Result<bool
     Ok(false)
 }
 
-// Elects one node after another one, as long as anybody produces.
-fn elect(cluster: &Cluster, ends: &AtomicBool) -> Result<(), Error> {
+// Elects one node after another one.
+fn elect(cluster: &Cluster) -> Result<(), Error> {
     let mut pass = cluster.pass()?;
     for step in 1..=ELECTIONS {
-        if ends.load(Ordering::Relaxed) {
-            break;
-        }
         pass.elect(step % NODES)?;
-        thread::sleep(Duration::from_millis(20));
+        thread::sleep(Duration::from_millis(5));
     }
     Ok(())
 }
@@ -90,27 +90,37 @@ fn all_of(cluster: &Cluster, node: u8, end: u64) -> Result<Vec<Vec<u8>>, Error> 
 
 #[test]
 fn as_many_threads_as_cores() -> Result<(), Error> {
+    produce_in_threads(false)
+}
+
+#[test]
+fn threads_that_replicate_by_themselves() -> Result<(), Error> {
+    produce_in_threads(true)
+}
+
+fn produce_in_threads(replicates: bool) -> Result<(), Error> {
     let threads = thread::available_parallelism().map_or(2, usize::from);
     let cluster = Cluster::open(NODES, Limits::default())?;
     cluster.pass()?.elect(0)?;
-    let workers = Workers::start(&cluster, Duration::from_micros(300))?;
-    let ends = Arc::new(AtomicBool::new(false));
-    let elections = thread::spawn({
-        let (cluster, ends) = (cluster.clone(), ends.clone());
-        move || elect(&cluster, &ends)
-    });
+    let workers = Arc::new(Workers::start(&cluster, Duration::from_micros(300))?);
+    let are_elected = Arc::new(AtomicBool::new(false));
     let producer = |cluster: Cluster| {
+        let (workers, are_elected) = (replicates.then(|| workers.clone()), are_elected.clone());
         move || -> Result<Vec<Receipt>, Error> {
-            let mut pass = cluster.pass()?;
-            (0..BATCHES).map(|_| put(&cluster, &mut pass)).collect()
+            let (mut pass, mut kept) = (cluster.pass()?, Vec::new());
+            while kept.len() < BATCHES || !are_elected.load(Ordering::Relaxed) {
+                kept.push(put(&cluster, &mut pass, workers.as_deref())?);
+            }
+            Ok(kept)
         }
     };
     let producing: Vec<_> = (0..threads).map(|_| thread::spawn(producer(cluster.clone()))).collect();
+    let elected = elect(&cluster);
+    are_elected.store(true, Ordering::Relaxed);
     let kept: Result<Vec<Vec<Receipt>>, Error> = producing.into_iter().map(|it| it.join().expect("no panic")).collect();
-    ends.store(true, Ordering::Relaxed);
-    elections.join().expect("no panic")?;
     let kept: Vec<Receipt> = kept?.concat();
-    assert_eq!(kept.len() as u64, threads as u64 * BATCHES);
+    elected?;
+    assert!(kept.len() >= threads * BATCHES);
     let end = kept.iter().map(|it| it.last + 1).max().unwrap_or(0);
     let logs: Vec<_> = (0..NODES).map(|node| all_of(&cluster, node, end)).collect::<Result<_, _>>()?;
     assert!(logs.iter().all(|log| *log == logs[0]), "the nodes agree");
@@ -118,6 +128,5 @@ fn as_many_threads_as_cores() -> Result<(), Error> {
         let stamped = &logs[0][receipt.base as usize];
         assert_eq!(stamped[12..16], receipt.epoch.to_be_bytes(), "each acknowledged batch stands");
     }
-    workers.stop();
     Ok(())
 }
