@@ -130,17 +130,32 @@ pub fn bytes_of(digits: &[u8]) -> Vec<u8> {
         .collect()
 }
 
+/// The two digits of each number below 100.
+const PAIRS: [[u8; 2]; 100] = {
+    let mut pairs = [[0; 2]; 100];
+    let mut number = 0;
+    while number < 100 {
+        pairs[number] = [b'0' + (number / 10) as u8, b'0' + (number % 10) as u8];
+        number += 1;
+    }
+    pairs
+};
+
 #[cfg_attr(stages, inline(never))]
 pub fn push(out: &mut Vec<u8>, before: &str, number: u64) {
     out.extend_from_slice(before.as_bytes());
     let (mut digits, mut place, mut rest) = ([0; 20], 20, number);
-    loop {
+    while rest >= 100 {
+        place -= 2;
+        digits[place..place + 2].copy_from_slice(&PAIRS[(rest % 100) as usize]);
+        rest /= 100;
+    }
+    let [tens, ones] = PAIRS[rest as usize];
+    place -= 1;
+    digits[place] = ones;
+    if rest >= 10 {
         place -= 1;
-        digits[place] = b'0' + (rest % 10) as u8;
-        rest /= 10;
-        if rest == 0 {
-            break;
-        }
+        digits[place] = tens;
     }
     out.extend_from_slice(&digits[place..]);
 }
