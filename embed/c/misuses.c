@@ -78,7 +78,7 @@ static void wants_description_misuses(world *w, kp_handle *node) {
     WANT(kp_said(node, &said), KP_OTHER_KIND);
 }
 
-static void wants_record_misuses(world *w, kp_handle *node) {
+static void wants_record_misuses(world *w, kp_handle *node, kp_handle *message) {
     kp_handle closed = {0}, other = {0};
     kp_record_place place = {0};
     kp_record_out found;
@@ -93,6 +93,7 @@ static void wants_record_misuses(world *w, kp_handle *node) {
     WANT(kp_repeat(&closed, &w->pass, &other), KP_CLOSED);
     WANT(kp_repeat(&w->pass, &closed, &other), KP_CLOSED);
     WANT(kp_repeat(&w->pass, node, &closed), KP_OTHER_KIND);
+    WANT(kp_repeat(&w->pass, message, &w->cluster), KP_IN_USE);
     WANT(kp_close(&closed), KP_CLOSED);
     WANT(kp_close(&other), KP_CLOSED);
 }
@@ -123,7 +124,7 @@ static void wants_node_misuses(world *w, kp_handle *node, kp_handle *segments) {
 }
 
 /* With no memory each call that has nothing else against it says so. A length is tested before a byte of it is read. */
-static void wants_no_room(world *w, kp_handle *node, kp_handle *handed) {
+static void wants_no_room(world *w, kp_handle *node, kp_handle *handed, kp_handle *message) {
     const size_t most = 2147483659;
     kp_handle closed = {0};
     kp_receipt receipt = {.base = 1, .last = 2, .place = 3, .epoch = 4, .duplicate = true};
@@ -136,6 +137,7 @@ static void wants_no_room(world *w, kp_handle *node, kp_handle *handed) {
     WANT(kp_log_from(node, 0, 1, &closed), KP_NO_ROOM);
     WANT(kp_segments(node, &closed), KP_NO_ROOM);
     WANT(kp_ask(node, &closed), KP_NO_ROOM);
+    WANT(kp_repeat(&w->pass, message, &closed), KP_NO_ROOM);
     WANT(kp_hand(&closed, one_record.bytes, most), KP_NO_ROOM);
     WANT(kp_hand(&closed, one_record.bytes, most + 1), KP_BAD_LENGTH);
     WANT(kp_hand(handed, one_record.bytes, most), KP_NO_ROOM);
@@ -162,31 +164,33 @@ static void misuses_have_their_numbers(void) {
     test = "misuses";
     world w;
     kp_receipt receipt;
-    kp_handle handed = {0}, segments = {0};
+    kp_handle handed = {0}, segments = {0}, message = {0};
     opens(&w, &roomy);
     elects(&w);
     WANT(produces(&w, &one_record, &receipt), KP_DONE);
     WANT(kp_stop(&w.nodes[0]), KP_DONE);
     WANT(kp_hand(&handed, one_record.bytes, one_record.size), KP_DONE);
     WANT(kp_segments(&w.nodes[LEADER], &segments), KP_DONE);
+    WANT(kp_ask(&w.nodes[1], &message), KP_DONE);
     const long held = blocks;
     for (int round = 0; round < 2; round++) {
         refuses = round == 1;
         wants_opening_misuses(&w);
         wants_pair_misuses(&w, &w.nodes[LEADER]);
         wants_description_misuses(&w, &w.nodes[LEADER]);
-        wants_record_misuses(&w, &w.nodes[LEADER]);
+        wants_record_misuses(&w, &w.nodes[LEADER], &message);
         wants_receipts_misuses(&w, &w.nodes[LEADER]);
         wants_node_misuses(&w, &w.nodes[LEADER], &segments);
         WANT(blocks, held);
     }
-    wants_no_room(&w, &w.nodes[1], &handed);
+    wants_no_room(&w, &w.nodes[1], &handed, &message);
     WANT(blocks, held);
     refuses = false;
     wants_read_refusals(&w);
     WANT(blocks, held);
     WANT(kp_close(&handed), KP_DONE);
     WANT(kp_close(&segments), KP_DONE);
+    WANT(kp_close(&message), KP_DONE);
     closes(&w);
 }
 
