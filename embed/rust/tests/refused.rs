@@ -190,6 +190,8 @@ fn describes(cluster: &Cluster, pass: &mut Pass) -> Result<(), Error> {
     assert_eq!((log.len(), cluster.node(0)?.known()?.proposed), (2, None));
     let mut request = again(|| cluster.node(1)?.ask())?;
     assert_eq!((request.sender()?, request.said()?), (Addressee::Node(1), Said::AsksFrom { offset: 21, last_epoch: Some(0) }));
+    let mut once_more = again(|| request.repeat(pass))?;
+    assert_eq!(once_more.said()?, request.said()?);
     Ok(())
 }
 
