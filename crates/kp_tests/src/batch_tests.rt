@@ -1,9 +1,9 @@
 //! Batches and markers as bytes. The bytes are spelled out by hand from the Kafka protocol guide's 'Record Batch',
 //! 'Record' and 'Control Batch'; the checksums are of a CRC-32C written in Python.
 
-use crate::shown::{batch_text, hex, is, unhex};
+use crate::shown::{batch_text, hex, is, push_record, unhex};
 use bytes::Bytes;
-use kp_batch::{Batch, Fields, HeaderParts, Parts, Speller};
+use kp_batch::{Batch, Fields, HeaderParts, Parts, RecordPlace, Speller};
 use kp_marker::{Kind, marker};
 use kp_types::{Limits, Refusal};
 use std::alloc::Global;
@@ -223,6 +223,36 @@ fn batches_are_read_back(rt: HostRuntime) {
     is(&rt, read(alloc, STAMPED_HEX, 99), STAMPED_TEXT);
     is(&rt, read(alloc, THREE_HEX, 99), THREE_TEXT);
     is(&rt, read(alloc, COMMIT_HEX, 99), COMMIT_TEXT);
+}
+
+// The batch's records, each found by its place, behind the place of the next one.
+fn by_places(alloc: Global, batch: &Batch) -> Result<String, Refusal> {
+    let mut text = String::new(alloc);
+    let mut at = RecordPlace { number: 0, byte: 0 };
+    for _ in 0..4 {
+        let Some((record, next)) = batch.record_at(at) else {
+            text.push_str("none")?;
+            break;
+        };
+        write!(text, "{} {} ", next.number, next.byte)?;
+        push_record(&mut text, record)?;
+        at = next;
+    }
+    Ok(text)
+}
+
+fn three_by_places(alloc: Global) -> Result<String, Refusal> {
+    let batch = Batch::read(Bytes::from_vec(unhex(alloc, THREE_HEX)?)?, &LIMITS)?;
+    by_places(alloc, &batch)
+}
+
+#[test]
+fn records_are_found_by_their_places(rt: HostRuntime) {
+    is(
+        &rt,
+        three_by_places(rt.alloc()),
+        "1 8 time 1000 - 61\n2 28 time 700 6b - 6831=- c3a9=78797a\n3 38 time 1300   =\nnone",
+    );
 }
 
 // The batch in this place, as digits.

@@ -247,9 +247,7 @@ impl<B: BoardName> Seats<B> {
         let Some(message) = self.mail.get_mut(number) else {
             return Err(Refusal::BadCount);
         };
-        let body = message.body.share()?;
-        let pass = self.board.repeat(&mut message.pass);
-        Ok(Message { body, pass })
+        message.repeat(&self.board)
     }
 
     fn deliver(&mut self, text: &mut String, number: usize) -> Result<(), Refusal> {
