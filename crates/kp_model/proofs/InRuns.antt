@@ -1,6 +1,7 @@
 -- What holds in each world of a run: of its records, addressees, messages and logs.
 pub mod Runs
 pub mod RunLaws
+pub mod Longer
 pub mod Ranges
 pub mod Addressees
 pub mod KnownRecords
