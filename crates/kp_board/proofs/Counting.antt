@@ -28,8 +28,8 @@ pub record Counts (v w : View) (old new : ℕ) : Type 0 where
   pub made : made_by w ≡ made_by v
   pub changes : changes_by w + old ≡ changes_by v + new
 
-pub counts_on : (views : List View) (id : ℕ) (v w : View) (old new : ℕ) → get_elem? views id ≡ some v → Counts v w old new → AreCounted views old → AreCounted (set views id w) new
-counts_on views id v w old new at c d =
+pub counts_on : (views : List View) (id : ℕ) (v w : View) (first old new : ℕ) → get_elem? views id ≡ some v → Counts v w old new → AreCounted views first old → AreCounted (set views id w) first new
+counts_on views id v w first old new at c d =
     let founders = sum_set one_if_founder views id v w at in
     let callers = sum_set one_if_caller views id v w at in
     let made = sum_set made_by views id v w at in
@@ -54,8 +54,8 @@ pub caller_counts : (v : View) (c d : CallerView) (old new : ℕ) → v ≡ of_c
 caller_counts v c d old new is same = subst (λ (x : View). Counts x (of_caller d) old new) (sym is) record { founder = refl; caller = refl; made = refl; changes = same }
 
 -- one pass more, which counts nothing
-pub counts_more : (views : List View) (w : View) (n : ℕ) → one_if_founder w ≡ 0 → one_if_caller w ≡ 0 → made_by w ≡ 0 → changes_by w ≡ 0 → AreCounted views n → AreCounted (views ++ w ∷ []) n
-counts_more views w n e f g h d =
+pub counts_more : (views : List View) (w : View) (first n : ℕ) → one_if_founder w ≡ 0 → one_if_caller w ≡ 0 → made_by w ≡ 0 → changes_by w ≡ 0 → AreCounted views first n → AreCounted (views ++ w ∷ []) first n
+counts_more views w first n e f g h d =
     let founders = sum_by_push one_if_founder views w in
     let callers = sum_by_push one_if_caller views w in
     let made = sum_by_push made_by views w in

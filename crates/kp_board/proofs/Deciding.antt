@@ -10,12 +10,13 @@ use Rattle.atomic_table.specs.Table.{Me, State, step, Act, keeps, stepped, Valid
 use Rattle.kp_types.specs.Causes.{first_of}
 use Rattle.kp_types.specs.declared.refusal.Refusal.{Refusal}
 use Rattle.kp_types.specs.declared.refusal.Refusal.TheVariants.{RecordFull}
-use Rattle.kp_model.specs.World.{LeaderAndIsr, Proposal, Message, Proposes, Decides, World, with_record, with_message, IsSent, most_nodes}
-use Rattle.kp_model.specs.Event.{Outcome, Deliver, SentDecision}
+use Rattle.kp_model.specs.World.{LeaderAndIsr, Proposal, Message, Proposes, Decides, World, IsSent, most_nodes}
 use Rattle.kp_model.specs.Controller.{same_record, altered, greatest_version}
-use Rattle.kp_model.specs.Step.{Step, IsInRange, Delivers, DecidesBy, decide_cause, decided_on, decision}
-use Rattle.kp_model.specs.Run.{Run, last, extend}
+use Rattle.kp_model.specs.Step.{IsInRange, decide_cause, decided_on, decision}
+use Rattle.kp_model.specs.Run.{Run, last}
+use Rattle.kp_model.specs.Left.{Opening}
 use Rattle.kp_model.proofs.InRuns.KnownRecords.{decisions_rise}
+use Rattle.kp_model.proofs.InRuns.Longer.{decided_run, decided_world, decision_step, sent_after, sent_before, told_so}
 use Rattle.kp_model.proofs.InRuns.RunLaws.{last_is_of}
 use Rattle.kp_model.proofs.Plain.SameRecords.{same_record_is}
 use Rattle.kp_control.specs.Word.{packed}
@@ -25,8 +26,8 @@ use Rattle.kp_board.specs.Rule.{mark_word, WasWatermark, WasRecord, WereRecords,
 use Rattle.kp_board.specs.Plays.{Finds}
 use Rattle.kp_board.specs.Decisions.{EndsDeciding, ShowsDecision, ShowsAfter, Decided, deciding, unless_refused, record_after}
 use Rattle.kp_board.proofs.Counting.{caller_counts}
-use Rattle.kp_board.proofs.Steps.{sent_before, caller_later, keeps_rule, looks_on, record_on}
-use Rattle.kp_board.proofs.Fitting.{caller_fits, same_caller, record_word, not_above, version_le, shown_now, sent_after}
+use Rattle.kp_board.proofs.Steps.{caller_later, keeps_rule, looks_on, record_on}
+use Rattle.kp_board.proofs.Fitting.{caller_fits, same_caller, record_word, not_above, version_le, shown_now}
 
 -- a proposal that names another record leaves this one
 not_named : (c : LeaderAndIsr) (p : Proposal) → same_record c p.known ≡ false → record_after c p ≡ c
@@ -49,32 +50,18 @@ word_is c p c_in known_in = dite (ℕ_discrete (packed c) (packed p.known))
 -- ---- the run and one decision more
 
 module _ {n : ℕ} (r : Run n) (number : ℕ) (p : Proposal) (proposed : slice_get (last r).messages number ≡ Some (Proposes p)) (free : decide_cause (last r).controller p ≡ None) where
-  abbrev told_so : Outcome
-  told_so = record { reply = SentDecision (decided_on (last r).controller p); number = Some (length (last r).messages) }
-
-  abbrev after : World
-  after = with_message (with_record (last r) (decided_on (last r).controller p)) (Decides (decision (last r).controller p))
-
-  abbrev decision_step : Step (last r) (Deliver number) told_so after
-  decision_step =
-      subst (λ (o : Option Message). Delivers (last r) o told_so after) (sym proposed)
-      (subst (λ (o : Option Refusal). DecidesBy o (last r) p told_so after) (sym free) (refl, refl))
-
-  abbrev pub decided_run : Run n
-  decided_run = extend r (Deliver number) told_so after decision_step
-
-  pub ends_deciding : EndsDeciding decided_run p (last r).controller
+  pub ends_deciding : EndsDeciding (decided_run r number p proposed free) p (last r).controller
   ends_deciding = record {
     before = r;
     number = number;
-    outcome = told_so;
-    after = after;
-    step = decision_step;
+    outcome = told_so r number p proposed free;
+    after = decided_world r number p proposed free;
+    step = decision_step r number p proposed free;
     is = refl;
     proposed = proposed;
     old_is = refl;
     next_is = refl;
-    sent = sent_after n (last r).messages (Decides (decision (last r).controller p) ∷ []) (Decides (decision (last r).controller p)) (0, refl);
+    sent = sent_after (last r).messages (Decides (decision (last r).controller p) ∷ []) (Decides (decision (last r).controller p)) (0, refl);
   }
 
 -- a decision's record is newer than the one that its proposal names
@@ -109,18 +96,21 @@ first_proposal _ other = other
 same_first : (p q : Proposal) → Proposes p ∷ [] ≡ Proposes q ∷ [] → p ≡ q
 same_first p q e = ap (λ (ls : List Message). first_proposal ls p) e
 
-module _ (n : ℕ) (id : ℕ) (m : Me ℕ View) (x : CallerView) (p : Proposal) (is : m.0 ≡ of_caller x) (told : x.sent ≡ Proposes p ∷ []) (s : State ℕ View) (d : Ruled n s) (at : get_elem? s.views id ≡ some m.0) where
+module _ (begun : Opening) (id : ℕ) (m : Me ℕ View) (x : CallerView) (p : Proposal) (is : m.0 ≡ of_caller x) (told : x.sent ≡ Proposes p ∷ []) (s : State ℕ View) (d : Ruled begun s) (at : get_elem? s.views id ≡ some m.0) where
+  abbrev n : ℕ
+  n = begun.count
+
   abbrev now : LeaderAndIsr
   now = (last d.run).controller
 
   fits : FitsCaller d.run s.words x
-  fits = caller_fits n s d id m.0 x at is
+  fits = caller_fits begun s d id m.0 x at is
 
   proposed : IsSent (last d.run).messages (Proposes p)
   proposed = (subst (AreSent (last d.run).messages) told fits.of_run.sent).0
 
   abbrev Picks : Option Refusal → ℕ → Type 0
-  Picks o word = (w : View) × (a : Act ℕ) × Valid s.homes m.1 a × Ruled n (stepped s 0 word id m.1 w a)
+  Picks o word = (w : View) × (a : Act ℕ) × Valid s.homes m.1 a × Ruled begun (stepped s 0 word id m.1 w a)
       × ((y : CallerView) × Same (w, carried_after m.1 a) (of_caller y, m.1) × ShowsAfter o now p x y)
 
   -- the view after the step, by the cause that refuses the decision
@@ -133,7 +123,7 @@ module _ (n : ℕ) (id : ℕ) (m : Me ℕ View) (x : CallerView) (p : Proposal) 
       let words' : List ℕ = set s.words 0 word in
       let there : 0 < length s.words = (let a = d.wide in omega arith) in
       let others = λ (j : ℕ). get_or-set_other s.words 0 (mark_word j) word 0 (λ e. omega arith) in
-      let later = record_on d.run q d.owner s.words words' id (λ w a. inr a) (λ w a. a) (λ j. refl) (λ z t. sent_before (last d.run).messages (l ∷ []) z t) others in
+      let later = record_on d.run q d.owner s.words words' id (λ w a. inr a) (λ j. refl) (λ z t. sent_before (last d.run).messages (l ∷ []) z t) others in
       let g = caller_later d.run q d.owner s.words words' id later x fits in
       let is_now : WasRecord q (decided_on now p) = (last q, inl refl, refl) in
       let of_run : IsOfRun q y = record {
@@ -142,7 +132,7 @@ module _ (n : ℕ) (id : ℕ) (m : Me ℕ View) (x : CallerView) (p : Proposal) 
         shown = is_now;
         marks = g.of_run.marks;
         receipts = g.of_run.receipts;
-        sent = (sent_after n (last d.run).messages (l ∷ []) l (0, refl), tt);
+        sent = (sent_after (last d.run).messages (l ∷ []) l (0, refl), tt);
         changes = were_counted q (same_record now p.known) (decided_on now p) x.changes is_now g.of_run.changes;
       } in (
         of_caller y,
@@ -159,18 +149,18 @@ module _ (n : ℕ) (id : ℕ) (m : Me ℕ View) (x : CallerView) (p : Proposal) 
         of_caller y,
         keeps,
         tt,
-        subst (λ (z : ℕ). Ruled n (stepped s 0 z id m.1 (of_caller y) keeps)) (sym (to ∙ sym d.record_is))
-            (looks_on s d 0 id (of_caller y) record { of_run = shown_now n s d x fits; told = fits.told; reached = fits.reached } m.0 at (caller_counts m.0 x y now.version now.version is refl)),
-        (y, refl, (refl, (n, d.run, shown_now n s d x fits, refl))),
+        subst (λ (z : ℕ). Ruled begun (stepped s 0 z id m.1 (of_caller y) keeps)) (sym (to ∙ sym d.record_is))
+            (looks_on s d 0 id (of_caller y) record { of_run = shown_now begun s d x fits; told = fits.told; reached = fits.reached } m.0 at (caller_counts m.0 x y now.version now.version is refl)),
+        (y, refl, (refl, (n, d.run, shown_now begun s d x fits, refl))),
       )
 
   pub decides : (old new : ℕ) → IsInRange most_nodes p.known → old ≡ packed p.known → new ≡ packed (record_after p.known p)
-      → (w : View) × (a : Act ℕ) × Valid s.homes m.1 a × Ruled n (stepped s 0 (either (eqb (get_or s.words 0 0) old) new (get_or s.words 0 0)) id m.1 w a)
+      → (w : View) × (a : Act ℕ) × Valid s.homes m.1 a × Ruled begun (stepped s 0 (either (eqb (get_or s.words 0 0) old) new (get_or s.words 0 0)) id m.1 w a)
       × Decided (step 0 0 old new none) m (get_or s.words 0 0) (w, carried_after m.1 a)
   decides old new range old_is new_is =
       let found : ℕ = get_or s.words 0 0 in
-      let here = record_word n s d in
-      let later = version_le n x.shown now (not_above n s d x.shown fits.of_run.shown) in
+      let here = record_word begun s d in
+      let later = version_le begun x.shown now (not_above begun s d x.shown fits.of_run.shown) in
       let z = picks (decide_cause now p) (either (eqb found old) new found) refl
       ((λ i. either (eqb (d.record_is i) (old_is i)) (new_is i) (d.record_is i)) ∙ word_is now p here.range range) in (
         z.0,
@@ -178,16 +168,16 @@ module _ (n : ℕ) (id : ℕ) (m : Me ℕ View) (x : CallerView) (p : Proposal) 
         z.2,
         z.3,
         λ x' p' e told'.
-            let same : x ≡ x' = same_caller n x x' (sym is ∙ e) in
+            let same : x ≡ x' = same_caller begun x x' (sym is ∙ e) in
             let same_p : p ≡ p' = same_first p p' (sym told ∙ ap (λ (v : CallerView). v.sent) same ∙ told') in
             subst (λ (t : CallerView × Proposal). (c : LeaderAndIsr) × Finds t.0.shown c found × ((y : CallerView) × Same (z.0, carried_after m.1 z.1) (of_caller y, m.1) × ShowsAfter (decide_cause c t.1) c t.1 t.0 y)) (λ i. (same i, same_p i))
             (now, record { is = here; later = later }, z.4),
       )
 
 -- the exchange on word 0 by a caller's pass that was told of the proposal
-pub decides_at : (n slots id : ℕ) (m : Me ℕ View) (x : CallerView) (p : Proposal) (old new : ℕ) → m.0 ≡ of_caller x → x.sent ≡ Proposes p ∷ [] → IsInRange most_nodes p.known → old ≡ packed p.known → new ≡ packed (record_after p.known p)
-    → Allows (Ruled n) slots id m 0 (λ z. either (eqb z old) new z) (Decided (step slots 0 old new none) m)
-decides_at n slots id m x p old new is told range old_is new_is s d _ at _ = decides n id m x p is told s d at old new range old_is new_is
+pub decides_at : (begun : Opening) (slots id : ℕ) (m : Me ℕ View) (x : CallerView) (p : Proposal) (old new : ℕ) → m.0 ≡ of_caller x → x.sent ≡ Proposes p ∷ [] → IsInRange most_nodes p.known → old ≡ packed p.known → new ≡ packed (record_after p.known p)
+    → Allows (Ruled begun) slots id m 0 (λ z. either (eqb z old) new z) (Decided (step slots 0 old new none) m)
+decides_at begun slots id m x p old new is told range old_is new_is s d _ at _ = decides begun id m x p is told s d at old new range old_is new_is
 
 -- the message that a pass gives on is the one that it was told of, or has sent, last
 pub told_first : (ls : List Message) (l m : Message) → ls ≡ l ∷ [] → slice_get ls 0 ≡ Some m → m ≡ l

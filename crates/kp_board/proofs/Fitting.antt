@@ -5,31 +5,36 @@ use mathlib.Core.Option.{some}
 use native.Mathlib.Decide.{ℕ_discrete}
 use lib.ListN.{get_elem?}
 use Rattle.atomic_table.specs.Table.{State}
-use Rattle.kp_model.specs.World.{LeaderAndIsr, Node, Message, World, IsSent, most_nodes}
+use Rattle.kp_model.specs.World.{LeaderAndIsr, Node, Message, IsSent, most_nodes}
 use Rattle.kp_model.specs.Event.{Act}
 use Rattle.kp_model.specs.Effect.{Effect}
 use Rattle.kp_model.specs.Local.{Local}
 use Rattle.kp_model.specs.Step.{IsGiven, IsInRange}
-use Rattle.kp_model.specs.Run.{Run, IsOf, last}
+use Rattle.kp_model.specs.Run.{Run, last}
+use Rattle.kp_model.specs.Left.{Opening}
 use Rattle.kp_model.proofs.InRuns.RunLaws.{last_is_of, one_record}
+use Rattle.kp_model.proofs.InRuns.Longer.{acted, sent_after, sent_before}
 use Rattle.kp_model.proofs.InRuns.Ranges.{records_are_in_range}
 use Rattle.kp_control.specs.Word.{packed}
 use Rattle.kp_control.proofs.Words.{one_word}
 use Rattle.kp_board.proofs.Counting.{node_counts}
 use Rattle.kp_board.proofs.InRange.{in_seven}
 use Rattle.kp_board.specs.Views.{NodeView, CallerView, View, of_node, of_caller, node_view, caller_view}
-use Rattle.kp_board.specs.Rule.{end_word, mark_word, WasWatermark, NoWatermarkAbove, WasRecord, AreSent, FitsNode, FitsCaller, IsOfRun, Fits, Ruled}
+use Rattle.kp_board.specs.Rule.{end_word, mark_word, WasWatermark, WasRecord, AreSent, FitsNode, FitsCaller, IsOfRun, Fits, Ruled}
 use Rattle.kp_board.specs.Premises.{Shows}
 use Rattle.kp_board.specs.Plays.{IsRecordOfWord}
-use Rattle.kp_board.proofs.Steps.{told_later, sent_before, keeps_rule, acted, acts_on}
+use Rattle.kp_board.proofs.Steps.{told_later, keeps_rule, acts_on}
 use Rattle.kp_model.proofs.Marks.Raised.{node_moved}
 
-module _ (n : ℕ) where
+module _ (o : Opening) where
+  abbrev n : ℕ
+  n = o.count
+
   -- what the rule says of a node's pass
-  pub node_fits : (s : State ℕ View) (d : Ruled n s) (id : ℕ) (v : View) (p : NodeView) → get_elem? s.views id ≡ some v → v ≡ of_node p → FitsNode d.run d.owner s.words id p
+  pub node_fits : (s : State ℕ View) (d : Ruled o s) (id : ℕ) (v : View) (p : NodeView) → get_elem? s.views id ≡ some v → v ≡ of_node p → FitsNode d.run d.owner s.words id p
   node_fits s d id v p at is = subst (Fits d.run d.owner s.words id) is (d.seats id v at)
 
-  pub caller_fits : (s : State ℕ View) (d : Ruled n s) (id : ℕ) (v : View) (c : CallerView) → get_elem? s.views id ≡ some v → v ≡ of_caller c → FitsCaller d.run s.words c
+  pub caller_fits : (s : State ℕ View) (d : Ruled o s) (id : ℕ) (v : View) (c : CallerView) → get_elem? s.views id ≡ some v → v ≡ of_caller c → FitsCaller d.run s.words c
   caller_fits s d id v c at is = subst (Fits d.run d.owner s.words id) is (d.seats id v at)
 
   pub same_node : (p q : NodeView) → of_node p ≡ of_node q → p ≡ q
@@ -39,38 +44,38 @@ module _ (n : ℕ) where
   same_caller p q e = ap caller_view e
 
   -- word 0 is the word of the run's record
-  pub record_word : (s : State ℕ View) (d : Ruled n s) → IsRecordOfWord (last d.run).controller (get_or s.words 0 0)
+  pub record_word : (s : State ℕ View) (d : Ruled o s) → IsRecordOfWord (last d.run).controller (get_or s.words 0 0)
   record_word s d = record { range = in_seven n (last d.run).controller d.small (records_are_in_range n d.run (last d.run) (last_is_of n d.run)); word_is = sym d.record_is }
 
   -- a record shown is in range
-  pub shown_range : (s : State ℕ View) (d : Ruled n s) (c : LeaderAndIsr) → WasRecord d.run c → IsInRange most_nodes c
+  pub shown_range : (s : State ℕ View) (d : Ruled o s) (c : LeaderAndIsr) → WasRecord d.run c → IsInRange most_nodes c
   shown_range s d c h = subst (IsInRange most_nodes) h.2 (in_seven n h.0.controller d.small (records_are_in_range n d.run h.0 h.1))
 
   -- where word 0 is this record's word, it is the run's record
-  pub same_word : (s : State ℕ View) (d : Ruled n s) (c : LeaderAndIsr) → IsInRange most_nodes c → get_or s.words 0 0 ≡ packed c → (last d.run).controller ≡ c
+  pub same_word : (s : State ℕ View) (d : Ruled o s) (c : LeaderAndIsr) → IsInRange most_nodes c → get_or s.words 0 0 ≡ packed c → (last d.run).controller ≡ c
   same_word s d c range e = one_word (last d.run).controller c (record_word s d).range range (sym d.record_is ∙ e)
 
   -- the version shown is not above the one found
-  pub not_above : (s : State ℕ View) (d : Ruled n s) (c : LeaderAndIsr) → WasRecord d.run c → (c ≡ (last d.run).controller) ⊎ (c.version < (last d.run).controller.version)
+  pub not_above : (s : State ℕ View) (d : Ruled o s) (c : LeaderAndIsr) → WasRecord d.run c → (c ≡ (last d.run).controller) ⊎ (c.version < (last d.run).controller.version)
   not_above s d c h = subst (λ (z : LeaderAndIsr). (z ≡ (last d.run).controller) ⊎ (z.version < (last d.run).controller.version)) h.2 (one_record n d.run h.0 h.1)
 
   pub version_le : (c z : LeaderAndIsr) → (c ≡ z) ⊎ (c.version < z.version) → c.version ≤ z.version
   version_le c z (inl e) = let f = ap (λ (x : LeaderAndIsr). x.version) e in omega arith
   version_le c z (inr l) = omega arith
 
-  pub shows : (s : State ℕ View) (d : Ruled n s) (id : ℕ) (p : NodeView) → FitsNode d.run d.owner s.words id p → Shows d.run p
+  pub shows : (s : State ℕ View) (d : Ruled o s) (id : ℕ) (p : NodeView) → FitsNode d.run d.owner s.words id p → Shows d.run p
   shows s d id p f = record { count = f.count; inside = f.inside; state = f.state; shown = f.shown; told = f.told }
 
   -- a caller's pass, once the run's record is the one shown
-  pub shown_now : (s : State ℕ View) (d : Ruled n s) (c : CallerView) → FitsCaller d.run s.words c → IsOfRun d.run (record c { shown = (last d.run).controller })
+  pub shown_now : (s : State ℕ View) (d : Ruled o s) (c : CallerView) → FitsCaller d.run s.words c → IsOfRun d.run (record c { shown = (last d.run).controller })
   shown_now s d c f = record { wide = f.of_run.wide; seen = f.of_run.seen; shown = (last d.run, last_is_of n d.run, refl); marks = f.of_run.marks; receipts = f.of_run.receipts; sent = f.of_run.sent; changes = f.of_run.changes }
 
   -- a node's step, at words that leave the others' words as they were
-  pub node_step : (s : State ℕ View) (d : Ruled n s) (words' : List ℕ) (id : ℕ) (v : View) (p p' : NodeView) (act : Act) (e : Effect) → get_elem? s.views id ≡ some v → v ≡ of_node p → FitsNode d.run d.owner s.words id p
+  pub node_step : (s : State ℕ View) (d : Ruled o s) (words' : List ℕ) (id : ℕ) (v : View) (p p' : NodeView) (act : Act) (e : Effect) → get_elem? s.views id ≡ some v → v ≡ of_node p → FitsNode d.run d.owner s.words id p
       → IsGiven (last d.run).messages act → Local (last d.run).controller p.number p.state act e → p'.state ≡ e.node → p'.number ≡ p.number → p'.count ≡ p.count
       → length words' ≡ length s.words → get_or words' 0 0 ≡ packed (last d.run).controller → ((j : ℕ) → j < n → j ≢ p.number → get_or words' (mark_word j) 0 ≡ get_or s.words (mark_word j) 0)
       → get_or words' (mark_word p.number) 0 ≡ p'.published → p.published ≤ p'.published → (p'.published ≡ p.published) ⊎ (p'.published ≡ p'.state.watermark) → p.state.watermark ≤ max p'.published p'.state.watermark
-      → WasRecord d.run p'.shown → AreSent ((last d.run).messages ++ e.sent) p'.told → Ruled n record { words = words'; homes = s.homes; views = set s.views id (of_node p') }
+      → WasRecord d.run p'.shown → AreSent ((last d.run).messages ++ e.sent) p'.told → Ruled o record { words = words'; homes = s.homes; views = set s.views id (of_node p') }
   node_step s d words' id v p p' act e at is f given local as_effect same count wide zero_word others mark rise which low shown told =
       let k : ℕ = p.number in
       let y : Node = p'.state in
@@ -93,26 +98,19 @@ module _ (n : ℕ) where
         state = ap (λ (z : ℕ). (last q).nodes z) same ∙ here;
         shown = (shown.0, inr shown.1, shown.2);
         word = ap (λ (z : ℕ). get_or words' (mark_word z) 0) same ∙ mark;
-        top = subst (λ (z : ℕ). NoWatermarkAbove q z (max p'.published y.watermark)) (sym same) (λ w a. ⊎_elim
-            (λ (b : w ≡ last q). let g = ap (λ (z : World). (z.nodes k).watermark) b ∙ ap (λ (x : Node). x.watermark) here in omega arith)
-            (λ (b : IsOf w d.run). let g = f.top w b in omega arith) a);
         told = told;
       }
       v at (node_counts v p p' (last d.run).controller.version is)
 
-  pub end_words : (words : List ℕ) (k j x : ℕ) → get_or (set words (end_word k) x) (mark_word j) 0 ≡ get_or words (mark_word j) 0
-  end_words words k j x = get_or-set_other words (end_word k) (mark_word j) x 0 (λ e. omega arith)
+pub end_words : (words : List ℕ) (k j x : ℕ) → get_or (set words (end_word k) x) (mark_word j) 0 ≡ get_or words (mark_word j) 0
+end_words words k j x = get_or-set_other words (end_word k) (mark_word j) x 0 (λ e. omega arith)
 
-  pub told_more : (messages sent ls : List Message) → AreSent messages ls → AreSent (messages ++ sent) ls
-  told_more messages sent ls t = told_later messages (messages ++ sent) (λ l. sent_before messages sent l) ls t
+pub told_more : (messages sent ls : List Message) → AreSent messages ls → AreSent (messages ++ sent) ls
+told_more messages sent ls t = told_later messages (messages ++ sent) (λ l. sent_before messages sent l) ls t
 
-  pub told_all : (ls ms messages : List Message) → ((l : Message) → IsSent ls l → IsSent messages l) → AreSent messages ms → AreSent messages (ls ++ ms)
-  told_all [] ms messages h t = t
-  told_all (l ∷ ls) ms messages h t = (h l (0, refl), told_all ls ms messages (λ m e. h m (suc e.0, e.1)) t)
+pub told_all : (ls ms messages : List Message) → ((l : Message) → IsSent ls l → IsSent messages l) → AreSent messages ms → AreSent messages (ls ++ ms)
+told_all [] ms messages h t = t
+told_all (l ∷ ls) ms messages h t = (h l (0, refl), told_all ls ms messages (λ m e. h m (suc e.0, e.1)) t)
 
-  pub sent_after : (messages sent : List Message) (l : Message) → IsSent sent l → IsSent (messages ++ sent) l
-  sent_after [] sent l e = e
-  sent_after (x ∷ messages) sent l e = let i = sent_after messages sent l e in (suc i.0, i.1)
-
-  pub told_sent : (messages sent ls : List Message) → AreSent messages ls → AreSent (messages ++ sent) (sent ++ ls)
-  told_sent messages sent ls t = told_all sent ls (messages ++ sent) (sent_after messages sent) (told_more messages sent ls t)
+pub told_sent : (messages sent ls : List Message) → AreSent messages ls → AreSent (messages ++ sent) (sent ++ ls)
+told_sent messages sent ls t = told_all sent ls (messages ++ sent) (sent_after messages sent) (told_more messages sent ls t)

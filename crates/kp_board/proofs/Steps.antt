@@ -1,6 +1,5 @@
 -- Each step keeps the rule.
-use Rattle.std.proofs.Common.{◌≡◌, ◌≢◌, ℕ, ◌<◌, ◌≤◌, max, Bool, List, [], ◌∷◌, ◌++◌, length, get_or, set, inr, ⊎_elim, ◌⊎◌, refl, sym, ap, ◌∙◌, subst, arith, ne_eqb}
-use Rattle.std.specs.Prelude.{if◌then◌else◌}
+use Rattle.std.proofs.Common.{◌≡◌, ◌≢◌, ℕ, ◌<◌, ◌≤◌, List, [], ◌∷◌, ◌++◌, length, get_or, set, inr, ⊎_elim, refl, sym, ap, ◌∙◌, subst, arith}
 use mathlib.Core.Logic.{dite}
 use mathlib.Core.Option.{some}
 use native.Mathlib.Decide.{ℕ_discrete}
@@ -10,27 +9,21 @@ use Rattle.atomic_table.specs.Table.{State}
 use Rattle.atomic_table.proofs.Lists.{at_set}
 use Rattle.kp_model.specs.Log.{Batch}
 use Rattle.kp_model.specs.World.{LeaderAndIsr, Node, Message, World, IsSent}
-use Rattle.kp_model.specs.Event.{Act, Acts}
+use Rattle.kp_model.specs.Event.{Act}
 use Rattle.kp_model.specs.Effect.{Effect}
 use Rattle.kp_model.specs.Local.{Local}
-use Rattle.kp_model.specs.Step.{IsGiven, moved, answered}
-use Rattle.kp_model.specs.Run.{Run, IsOf, last, extend, WasAppended}
-use Rattle.kp_model.proofs.InRuns.RunLaws.{last_is_of, count_stays}
-use Rattle.kp_model.proofs.OneStep.Steps.{get_front}
+use Rattle.kp_model.specs.Step.{IsGiven, moved}
+use Rattle.kp_model.specs.Run.{Run, BeginsHeld, IsOf, last, WasAppended}
+use Rattle.kp_model.specs.Left.{Opening}
+use Rattle.kp_model.proofs.InRuns.Longer.{acted, moved_other, sent_before}
 use Rattle.kp_control.specs.Word.{packed}
 use Rattle.kp_board.specs.Views.{CallerView, Note, KeptReceipt, View, founder, of_node, of_caller, of_message, of_note, spent}
 use Rattle.kp_board.proofs.Counting.{Counts, counts_on}
-use Rattle.kp_board.specs.Rule.{mark_word, WasWatermark, NoWatermarkAbove, WasRecord, BeginsHeld, AreAppended, AreSent, WereRecords, IsOfRun, FitsNote, FitsCaller, Fits, Ruled}
+use Rattle.kp_board.specs.Rule.{mark_word, WasWatermark, WasRecord, AreAppended, AreSent, WereRecords, IsOfRun, FitsNote, FitsCaller, Fits, Ruled}
 
 pub told_later : (messages messages' : List Message) → ((l : Message) → IsSent messages l → IsSent messages' l) → (ls : List Message) → AreSent messages ls → AreSent messages' ls
 told_later messages messages' h [] t = tt
 told_later messages messages' h (l ∷ ls) t = (h l t.0, told_later messages messages' h ls t.1)
-
-pub sent_before : (messages sent : List Message) (l : Message) → IsSent messages l → IsSent (messages ++ sent) l
-sent_before messages sent l s = (s.0, get_front messages sent s.0 l s.1)
-
-pub moved_other : (w : World) (k j : ℕ) (e : Effect) → j ≢ k → (moved w k e).nodes j ≡ w.nodes j
-moved_other w k j e ne = subst (λ (b : Bool). (if b then e.node else w.nodes j) ≡ w.nodes j) (sym (ne_eqb j k ne)) refl
 
 module _ {n : ℕ} where
   -- the run q goes on from r, and what the seats other than id know stays true
@@ -38,7 +31,6 @@ module _ {n : ℕ} where
     pub among : (w : World) → IsOf w r → IsOf w q
     pub messages : (l : Message) → IsSent (last r).messages l → IsSent (last q).messages l
     pub nodes : (k : ℕ) → k < n → owner k ≢ id → (last q).nodes k ≡ (last r).nodes k
-    pub tops : (k m : ℕ) → k < n → owner k ≢ id → NoWatermarkAbove r k m → NoWatermarkAbove q k m
     pub same : (k : ℕ) → k < n → owner k ≢ id → get_or words' (mark_word k) 0 ≡ get_or words (mark_word k) 0
     pub rises : (k : ℕ) → k < n → get_or words (mark_word k) 0 ≤ get_or words' (mark_word k) 0
 
@@ -87,12 +79,12 @@ module _ {n : ℕ} where
     }
 
     pub others_fit : (j : ℕ) (v : View) → j ≢ id → Fits r owner words j v → Fits q owner words' j v
-    others_fit j (founder i m made) apart f = record {
+    others_fit j (founder i o made) apart f = record {
       count = f.count;
+      shown = showed_later o.controller f.shown;
       own = f.own;
       state = λ k a l. later.nodes k l (λ e. apart (sym (f.own k a l) ∙ e)) ∙ f.state k a l;
       word = λ k a l. later.same k l (λ e. apart (sym (f.own k a l) ∙ e)) ∙ f.word k a l;
-      top = λ k a l. later.tops k 0 l (λ e. apart (sym (f.own k a l) ∙ e)) (f.top k a l);
     }
     others_fit j (of_node p) apart f = let ne : owner p.number ≢ id = λ e. apart (sym f.own ∙ e) in record {
       count = f.count;
@@ -101,7 +93,6 @@ module _ {n : ℕ} where
       state = later.nodes p.number f.inside ne ∙ f.state;
       shown = showed_later p.shown f.shown;
       word = later.same p.number f.inside ne ∙ f.word;
-      top = later.tops p.number (max p.published p.state.watermark) f.inside ne f.top;
       told = told_later (last r).messages (last q).messages later.messages p.told f.told;
     }
     others_fit j (of_caller c) apart f = caller_later c f
@@ -116,37 +107,9 @@ module _ {n : ℕ} where
       ⊎_elim (λ (t : (j ≡ id) × (w ≡ v)). subst (λ (x : ℕ × View). Fits r owner words x.0 x.1) (λ i. (sym t.0 i, t.1 i)) own)
       (λ (t : (j ≢ id) × (get_elem? views j ≡ some v)). others j v t.0 t.1) (at_set views id j w v e)
 
-  -- A step keeps the rule: the one lemma under all kinds.
-  pub keeps_rule : (s : State ℕ View) (d : Ruled n s) (q : Run n) (words' : List ℕ) (id : ℕ) (w : View) → Later d.run q d.owner s.words words' id → length words' ≡ length s.words
-      → get_or words' 0 0 ≡ packed (last q).controller → ((k : ℕ) → k < n → WasWatermark q k (get_or words' (mark_word k) 0)) → Fits q d.owner words' id w
-      → (v : View) → get_elem? s.views id ≡ some v → Counts v w (last d.run).controller.version (last q).controller.version → Ruled n record { words = words'; homes = s.homes; views = set s.views id w }
-  keeps_rule s d q words' id w later as_wide record_is marks fits v at counts = record {
-    small = d.small;
-    run = q;
-    owner = d.owner;
-    wide = as_wide ∙ d.wide;
-    record_is = record_is;
-    marks = marks;
-    seats = views_fit q d.owner words' s.views id w fits (λ j v apart e. others_fit d.run q d.owner s.words words' id later j v apart (d.seats j v e));
-    counted = counts_on s.views id v w (last d.run).controller.version (last q).controller.version at counts d.counted;
-  }
-
   -- nothing happens in the model
   pub stays : (r : Run n) (owner : ℕ → ℕ) (words : List ℕ) (id : ℕ) → Later r r owner words words id
-  stays r owner words id = record { among = λ w a. a; messages = λ l s. s; nodes = λ k l ne. refl; tops = λ k m l ne t. t; same = λ k l ne. refl; rises = λ k l. omega arith }
-
-  -- a load that tells the seat something
-  pub looks_on : (s : State ℕ View) (d : Ruled n s) (i id : ℕ) (w : View) → Fits d.run d.owner s.words id w
-      → (v : View) → get_elem? s.views id ≡ some v → Counts v w (last d.run).controller.version (last d.run).controller.version
-      → Ruled n record { words = set s.words i (get_or s.words i 0); homes = s.homes; views = set s.views id w }
-  looks_on s d i id w fits v at counts = subst (λ (ws : List ℕ). Ruled n record { words = ws; homes = s.homes; views = set s.views id w }) (sym (set-get_or s.words i 0))
-      (keeps_rule s d d.run s.words id w (stays d.run d.owner s.words id) refl d.record_is d.marks fits v at counts)
-
-  -- the run after a node's step
-  abbrev pub acted : (r : Run n) (k : ℕ) (act : Act) (e : Effect) → k < n → IsGiven (last r).messages act → Local (last r).controller k ((last r).nodes k) act e → Run n
-  acted r k act e inside given local =
-      extend r (Acts k act) (answered (last r).messages e) (moved (last r) k e)
-      (record { counted = (let z = count_stays n r (last r) (last_is_of n r) in omega arith); given = given; effect = e; local = local; outcome_is = refl; new_is = refl })
+  stays r owner words id = record { among = λ w a. a; messages = λ l s. s; nodes = λ k l ne. refl; same = λ k l ne. refl; rises = λ k l. omega arith }
 
   -- what the others know stays true over a step of the node k, whose pass is id
   pub acts_on : (r : Run n) (owner : ℕ → ℕ) (words words' : List ℕ) (id k : ℕ) (act : Act) (e : Effect) (inside : k < n) (given : IsGiven (last r).messages act) (local : Local (last r).controller k ((last r).nodes k) act e)
@@ -157,23 +120,45 @@ module _ {n : ℕ} where
         among = λ w a. inr a;
         messages = λ l s. sent_before (last r).messages e.sent l s;
         nodes = λ j l ne. other j (λ g. ne (ap owner g ∙ own));
-        tops = λ j m l ne t w a. ⊎_elim
-            (λ (g : w ≡ moved (last r) k e). let f = ap (λ (z : World). (z.nodes j).watermark) g ∙ ap (λ (x : Node). x.watermark) (other j (λ h. ne (ap owner h ∙ own))) in let low = t (last r) (last_is_of n r) in omega arith)
-            (λ (b : IsOf w r). t w b) a;
         same = λ j l ne. same j l (λ g. ne (ap owner g ∙ own));
         rises = λ j l. dite (ℕ_discrete j k) (λ g. subst (λ (z : ℕ). get_or words (mark_word z) 0 ≤ get_or words' (mark_word z) 0) (sym g) rise) (λ ne. let f = same j l ne in omega arith);
       }
 
   -- the run after another event that changes the record alone
   pub record_on : (r q : Run n) (owner : ℕ → ℕ) (words words' : List ℕ) (id : ℕ)
-      → ((w : World) → IsOf w r → IsOf w q) → ((w : World) → IsOf w q → (w ≡ last q) ⊎ IsOf w r)
+      → ((w : World) → IsOf w r → IsOf w q)
       → ((k : ℕ) → (last q).nodes k ≡ (last r).nodes k) → ((l : Message) → IsSent (last r).messages l → IsSent (last q).messages l)
       → ((j : ℕ) → get_or words' (mark_word j) 0 ≡ get_or words (mark_word j) 0) → Later r q owner words words' id
-  record_on r q owner words words' id among cases nodes messages same = record {
+  record_on r q owner words words' id among nodes messages same = record {
     among = among;
     messages = messages;
     nodes = λ j l ne. nodes j;
-    tops = λ j m l ne t w a. ⊎_elim (λ (e : w ≡ last q). let f = ap (λ (z : World). (z.nodes j).watermark) e ∙ ap (λ (x : Node). x.watermark) (nodes j) in let low = t (last r) (last_is_of n r) in omega arith) (λ (b : IsOf w r). t w b) (cases w a);
     same = λ j l ne. same j;
     rises = λ j l. let f = same j in omega arith;
   }
+
+module _ {o : Opening} where
+  -- A step keeps the rule: the one lemma under all kinds.
+  pub keeps_rule : (s : State ℕ View) (d : Ruled o s) (q : Run o.count) (words' : List ℕ) (id : ℕ) (w : View) → Later d.run q d.owner s.words words' id → length words' ≡ length s.words
+      → get_or words' 0 0 ≡ packed (last q).controller → ((k : ℕ) → k < o.count → WasWatermark q k (get_or words' (mark_word k) 0)) → Fits q d.owner words' id w
+      → (v : View) → get_elem? s.views id ≡ some v → Counts v w (last d.run).controller.version (last q).controller.version → Ruled o record { words = words'; homes = s.homes; views = set s.views id w }
+  keeps_rule s d q words' id w later as_wide record_is marks fits v at counts = record {
+    small = d.small;
+    old = d.old;
+    opening = d.opening;
+    run = q;
+    goes_on = λ w a. later.among w (d.goes_on w a);
+    owner = d.owner;
+    wide = as_wide ∙ d.wide;
+    record_is = record_is;
+    marks = marks;
+    seats = views_fit q d.owner words' s.views id w fits (λ j v apart e. others_fit d.run q d.owner s.words words' id later j v apart (d.seats j v e));
+    counted = counts_on s.views id v w o.controller.version (last d.run).controller.version (last q).controller.version at counts d.counted;
+  }
+
+  -- a load that tells the seat something
+  pub looks_on : (s : State ℕ View) (d : Ruled o s) (i id : ℕ) (w : View) → Fits d.run d.owner s.words id w
+      → (v : View) → get_elem? s.views id ≡ some v → Counts v w (last d.run).controller.version (last d.run).controller.version
+      → Ruled o record { words = set s.words i (get_or s.words i 0); homes = s.homes; views = set s.views id w }
+  looks_on s d i id w fits v at counts = subst (λ (ws : List ℕ). Ruled o record { words = ws; homes = s.homes; views = set s.views id w }) (sym (set-get_or s.words i 0))
+      (keeps_rule s d d.run s.words id w (stays d.run d.owner s.words id) refl d.record_is d.marks fits v at counts)

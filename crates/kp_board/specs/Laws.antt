@@ -4,6 +4,7 @@ use mathlib.Core.Option.{some}
 use lib.ListN.{get_elem?}
 use Rattle.atomic_table.specs.Table.{State}
 use Rattle.kp_model.specs.Beginning.{Agree}
+use Rattle.kp_model.specs.Left.{Opening}
 use Rattle.kp_board.specs.Views.{CallerView, View, of_caller}
 use Rattle.kp_board.specs.Rule.{Ruled}
 
@@ -11,5 +12,5 @@ use Rattle.kp_board.specs.Rule.{Ruled}
 -- also where they never met (Kafka replication design).
 abbrev pub CallersAgree : Type 0
 CallersAgree =
-    (n : ℕ) (s : State ℕ View) → Ruled n s → (one other : ℕ) (c d : CallerView)
+    (o : Opening) (s : State ℕ View) → Ruled o s → (one other : ℕ) (c d : CallerView)
     → get_elem? s.views one ≡ some (of_caller c) → get_elem? s.views other ≡ some (of_caller d) → Agree c.seen d.seen

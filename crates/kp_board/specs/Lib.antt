@@ -1,3 +1,4 @@
+pub mod Opening
 pub mod Views
 pub mod Rule
 pub mod Premises

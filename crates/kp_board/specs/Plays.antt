@@ -74,6 +74,16 @@ pub record Learned (c d : CallerView) (k mark : ℕ) : Type 0 where
   pub agrees : (x : KeptReceipt) (b : Batch) → Contains c.receipts x → Contains c.told.log b → x.batch.base ≡ b.base → x.batch.epoch ≡ b.epoch → x.batch ≡ b
   pub of_run : ShowsARun d
 
+-- What a caller's pass c, which is d then, has seen goes on from what it had seen before, and from this list.
+pub record Recalls (promised : List Batch) (c d : CallerView) : Type 0 where
+  pub seen : Begins c.seen d.seen
+  pub promised_is : Begins promised d.seen
+  pub others : d ≡ record c { seen = d.seen }
+  pub of_run : ShowsARun d
+
+abbrev pub Recalled : List Batch → Step ℕ → Seated → ℕ → Seated → Type 0
+Recalled promised st m found m' = (c : CallerView) → m.0 ≡ of_caller c → (d : CallerView) × (m' ≡ (of_caller d, m.1)) × Recalls promised c d
+
 abbrev pub MarkShown : Step ℕ → Seated → ℕ → Seated → Type 0
 MarkShown st m found m' = (c : CallerView) (k : ℕ) → m.0 ≡ of_caller c → st.word ≡ mark_word k → (d : CallerView) × (m' ≡ (of_caller d, m.1)) × Learned c d k found
 

@@ -1,16 +1,16 @@
 -- The rule of the board (own rule): some run of the definitions ends in just the world that the words and the passes show.
 -- It holds between any two steps of any threads.
-use Rattle.std.specs.Prelude.{◌≡◌, ℕ, ◌+◌, ◌*◌, ◌<◌, ◌≤◌, max, List, [], ◌∷◌, length, slice_index, sum_by}
+use Rattle.std.specs.Prelude.{◌≡◌, ℕ, ◌+◌, ◌*◌, ◌<◌, ◌≤◌, List, [], ◌∷◌, length, slice_index, sum_by}
 use mathlib.Core.Option.{some}
 use lib.ListN.{get_elem?}
 use Rattle.atomic_table.specs.Table.{State}
 use Rattle.kp_control.specs.Word.{packed}
-use Rattle.kp_model.specs.Beginning.{Begins}
 use Rattle.kp_model.specs.Log.{Batch}
-use Rattle.kp_model.specs.World.{LeaderAndIsr, Message, World, fresh, IsSent}
+use Rattle.kp_model.specs.World.{LeaderAndIsr, Message, World, IsSent}
 use Rattle.kp_model.specs.Event.{Outcome, Elect}
 use Rattle.kp_model.specs.Step.{Step}
-use Rattle.kp_model.specs.Run.{Run, IsOf, last, extend, held, WasAppended}
+use Rattle.kp_model.specs.Run.{Run, BeginsHeld, IsOf, last, extend, WasAppended}
+use Rattle.kp_model.specs.Left.{IsOpening, Opening, node_in}
 use Rattle.kp_board.specs.Views.{NodeView, CallerView, Note, KeptReceipt, View, founder, of_node, of_caller, of_message, of_note, spent, made_by, one_if_founder, one_if_caller, changes_by}
 
 -- The words: word 0 is the controller's record, packed; then for each node its log end offset and its watermark. Of an end
@@ -31,17 +31,9 @@ module _ {n : ℕ} (r : Run n) where
   abbrev pub WasWatermark : (k mark : ℕ) → Type 0
   WasWatermark k mark = (w : World) × IsOf w r × ((w.nodes k).watermark ≡ mark)
 
-  -- node k never had a higher watermark in the run
-  abbrev pub NoWatermarkAbove : (k mark : ℕ) → Type 0
-  NoWatermarkAbove k mark = (w : World) → IsOf w r → (w.nodes k).watermark ≤ mark
-
   -- it was the record in a world of the run
   abbrev pub WasRecord : LeaderAndIsr → Type 0
   WasRecord c = (w : World) × IsOf w r × (w.controller ≡ c)
-
-  -- the list begins what a node held in a world of the run
-  abbrev pub BeginsHeld : List Batch → Type 0
-  BeginsHeld xs = (w : World) × (k : ℕ) × IsOf w r × Begins xs (held (w.nodes k))
 
   -- the list was a node's log in a world of the run
   abbrev pub WasLog : List Batch → Type 0
@@ -60,7 +52,7 @@ module _ {n : ℕ} (r : Run n) where
   -- all that a caller's pass shows is of this run
   pub record IsOfRun (c : CallerView) : Type 0 where
     pub wide : length c.marks ≡ n
-    pub seen : BeginsHeld c.seen
+    pub seen : BeginsHeld r c.seen
     pub shown : WasRecord c.shown
     pub marks : (k : ℕ) → k < n → WasWatermark k (slice_index c.marks k)
     pub receipts : AreAppended c.receipts
@@ -70,13 +62,12 @@ module _ {n : ℕ} (r : Run n) where
   -- ---- what the rule says of each sort of pass, by these words
 
   pub record FitsNote (words : List ℕ) (x : Note) : Type 0 where
-    pub list : BeginsHeld x.list
+    pub list : BeginsHeld r x.list
     pub mark : x.node < n → x.mark ≤ slice_index words (mark_word x.node)
     pub log : WasLog x.log
     pub receipts : AreAppended x.receipts
 
-  -- The node in the run's last world is just what the pass shows, and its mark word too. Only one pass is its own. The mark
-  -- word, or where it doesn't yet follow the node's watermark, is the greatest watermark that the node had.
+  -- The node in the run's last world is just what the pass shows, and its mark word too. Only one pass is its own.
   pub record FitsNode (owner : ℕ → ℕ) (words : List ℕ) (id : ℕ) (p : NodeView) : Type 0 where
     pub count : p.count ≡ n
     pub inside : p.number < n
@@ -84,7 +75,6 @@ module _ {n : ℕ} (r : Run n) where
     pub state : (last r).nodes p.number ≡ p.state
     pub shown : WasRecord p.shown
     pub word : slice_index words (mark_word p.number) ≡ p.published
-    pub top : NoWatermarkAbove p.number (max p.published p.state.watermark)
     pub told : AreSent (last r).messages p.told
 
   -- all that it shows is of the run, and no watermark shown is above the node's mark word
@@ -93,16 +83,16 @@ module _ {n : ℕ} (r : Run n) where
     pub told : FitsNote words c.told
     pub reached : (k : ℕ) → k < n → slice_index c.marks k ≤ slice_index words (mark_word k)
 
-  -- the nodes from j on have no pass yet, and are as at the start
-  pub record FitsFounder (owner : ℕ → ℕ) (words : List ℕ) (id j m : ℕ) : Type 0 where
-    pub count : m ≡ n
+  -- the nodes from j on have no pass yet, and are as the board opened with them
+  pub record FitsFounder (owner : ℕ → ℕ) (words : List ℕ) (id j : ℕ) (o : Opening) : Type 0 where
+    pub count : o.count ≡ n
+    pub shown : WasRecord o.controller
     pub own : (k : ℕ) → j ≤ k → k < n → owner k ≡ id
-    pub state : (k : ℕ) → j ≤ k → k < n → (last r).nodes k ≡ fresh
-    pub word : (k : ℕ) → j ≤ k → k < n → slice_index words (mark_word k) ≡ 0
-    pub top : (k : ℕ) → j ≤ k → k < n → NoWatermarkAbove k 0
+    pub state : (k : ℕ) → j ≤ k → k < n → (last r).nodes k ≡ node_in o k
+    pub word : (k : ℕ) → j ≤ k → k < n → slice_index words (mark_word k) ≡ (node_in o k).watermark
 
   abbrev pub Fits : (owner : ℕ → ℕ) (words : List ℕ) (id : ℕ) → View → Type 0
-  Fits owner words id (founder j m made) = FitsFounder owner words id j m
+  Fits owner words id (founder j o made) = FitsFounder owner words id j o
   Fits owner words id (of_node p) = FitsNode owner words id p
   Fits owner words id (of_caller c) = FitsCaller words c
   Fits owner words id (of_message l) = IsSent (last r).messages l
@@ -110,24 +100,28 @@ module _ {n : ℕ} (r : Run n) where
   Fits owner words id spent = Unit {0}
 
 -- What the passes of a board count between them: there is one founder; it has made each caller's pass; and each change of the
--- controller's record, which raises its version by one, is one that a caller's pass has made. So nobody elects or decides but
--- by a pass that shows it, and nobody comes by such a pass but from the founder.
-pub record AreCounted (views : List View) (version : ℕ) : Type 0 where
+-- controller's record since its first version, which raises the version by one, is one that a caller's pass has made. So nobody
+-- elects or decides but by a pass that shows it, and nobody comes by such a pass but from the founder.
+pub record AreCounted (views : List View) (first version : ℕ) : Type 0 where
   pub founders : sum_by one_if_founder views ≡ 1
   pub callers : sum_by one_if_caller views ≡ sum_by made_by views
-  pub changes : sum_by changes_by views ≡ version
+  pub changes : first + sum_by changes_by views ≡ version
 
--- The rule, of a board of n nodes: word 0 is the record of the last world of a run; each mark word is a watermark that its
--- node had; each pass fits, and the passes are counted. `owner` says which pass is each node's own.
-pub record Ruled (n : ℕ) (s : State ℕ View) : Type 0 where
-  pub small : n ≤ 7
-  pub run : Run n
+-- The rule, of a board that opened with this: word 0 is the record of the last world of a run, which goes on from one that ended
+-- with the opening; each mark word is a watermark that its node had; each pass fits, and the passes are counted. `owner` says which
+-- pass is each node's own.
+pub record Ruled (o : Opening) (s : State ℕ View) : Type 0 where
+  pub small : o.count ≤ 7
+  pub old : Run o.count
+  pub opening : IsOpening o old
+  pub run : Run o.count
+  pub goes_on : (w : World) → IsOf w old → IsOf w run
   pub owner : ℕ → ℕ
-  pub wide : length s.words ≡ 2 * n + 1
+  pub wide : length s.words ≡ 2 * o.count + 1
   pub record_is : slice_index s.words 0 ≡ packed (last run).controller
-  pub marks : (k : ℕ) → k < n → WasWatermark run k (slice_index s.words (mark_word k))
+  pub marks : (k : ℕ) → k < o.count → WasWatermark run k (slice_index s.words (mark_word k))
   pub seats : (id : ℕ) (v : View) → get_elem? s.views id ≡ some v → Fits run owner s.words id v
-  pub counted : AreCounted s.views (last run).controller.version
+  pub counted : AreCounted s.views o.controller.version (last run).controller.version
 
 -- ---- what a call can say of that run, which it can't name
 

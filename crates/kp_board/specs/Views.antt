@@ -1,7 +1,8 @@
 -- What the passes of a board show (own rule). A pass has no bytes: what it shows stands in the proof alone.
 use Rattle.std.specs.Prelude.{ℕ, ◌+◌, List, [], ◌∷◌, ◌++◌, length, replicate}
 use Rattle.kp_model.specs.Log.{Batch}
-use Rattle.kp_model.specs.World.{LeaderAndIsr, Node, Message, Asks, fresh, initial}
+use Rattle.kp_model.specs.World.{LeaderAndIsr, Node, Message, Asks, initial}
+use Rattle.kp_model.specs.Left.{Opening, beginning, node_in}
 use Rattle.kp_model.specs.Run.{held}
 
 -- A node's pass: how many nodes the board has, the node's number and its state now, the record that the node was last
@@ -40,10 +41,11 @@ pub record CallerView : Type 0 where
   pub receipts : List KeptReceipt
   pub changes : List LeaderAndIsr
 
--- All passes: the founder, which makes the passes of the nodes from j to n - 1, and has made those of so many callers; a
--- node's; a caller's; that of a message that was sent; a note on its way from one pass to another; and one that is used up.
+-- All passes: the founder, which makes the passes of the nodes from j on, as the board opened with them, and has made those of so
+-- many callers; a node's; a caller's; that of a message that was sent; a note on its way from one pass to another; and one that is
+-- used up.
 pub data View : Type 0 where
-  founder : (j n made : ℕ) → View
+  founder : (j : ℕ) (o : Opening) (made : ℕ) → View
   of_node : NodeView → View
   of_caller : CallerView → View
   of_message : Message → View
@@ -52,9 +54,14 @@ pub data View : Type 0 where
 
 -- ---- new passes
 
--- node k's, on a board of n nodes
+-- node k's: the node as the board opened with it, the record then, and a mark word at the watermark that the node had
+abbrev pub opened_node : (o : Opening) (k : ℕ) → NodeView
+opened_node o k =
+    record { count = o.count; number = k; state = node_in o k; shown = o.controller; published = (node_in o k).watermark; told = [] }
+
+-- the same at the start of a run of n nodes
 abbrev pub new_node : (n k : ℕ) → NodeView
-new_node n k = record { count = n; number = k; state = fresh; shown = initial n; published = 0; told = [] }
+new_node n k = opened_node (beginning n) k
 
 abbrev pub no_note : Note
 no_note = record { list = []; node = 0; mark = 0; log = []; receipts = [] }
@@ -80,19 +87,19 @@ abbrev pub message_view : View → Message
 message_view (of_message l) = l
 message_view _ = no_message
 
-abbrev pub founder_count : View → ℕ
-founder_count (founder j n made) = n
-founder_count _ = 0
+abbrev pub opening_of : View → Opening
+opening_of (founder j o made) = o
+opening_of _ = beginning 0
 
 -- ---- what the rule counts
 
 -- how many callers' passes a pass has made, which is one that has, and which is one of them
 abbrev pub made_by : View → ℕ
-made_by (founder j n made) = made
+made_by (founder j o made) = made
 made_by _ = 0
 
 abbrev pub one_if_founder : View → ℕ
-one_if_founder (founder j n made) = 1
+one_if_founder (founder j o made) = 1
 one_if_founder _ = 0
 
 abbrev pub one_if_caller : View → ℕ
@@ -108,20 +115,20 @@ changes_by _ = 0
 
 -- the founder makes one node's pass, and goes on with the next node
 abbrev pub next_founder : View → View
-next_founder (founder j n made) = founder (j + 1) n made
+next_founder (founder j o made) = founder (j + 1) o made
 next_founder v = v
 
 abbrev pub founded_node : View → View
-founded_node (founder j n made) = of_node (new_node n j)
+founded_node (founder j o made) = of_node (opened_node o j)
 founded_node v = spent
 
 -- or makes one caller's pass
 abbrev pub admitting : View → View
-admitting (founder j n made) = founder j n (made + 1)
+admitting (founder j o made) = founder j o (made + 1)
 admitting v = v
 
 abbrev pub admitted : View → View
-admitted (founder j n made) = of_caller (new_caller n)
+admitted (founder j o made) = of_caller (new_caller o.count)
 admitted v = spent
 
 -- a node tells what it holds, its mark word's value and its log

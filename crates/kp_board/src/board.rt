@@ -1,18 +1,23 @@
 //! The board, and a caller's steps.
-ghost use Rattle.std.specs.Prelude.{◌≡◌, ℕ, ◌+◌, ◌*◌, ◌<◌, ◌≤◌, ◌∷◌, length, slice_get, Some, Ok, Err, IfOk, IfErr, MatchBool, None, map, [], Contains};
+ghost use Rattle.std.specs.Prelude.{◌≡◌, ℕ, ◌+◌, ◌*◌, ◌<◌, ◌≤◌, ◌∷◌, length, slice_get, slice_index, Some, Ok, Err, IfOk, IfErr, MatchBool, None, map, [], Contains};
 ghost use Rattle.kp_types.specs.declared.refusal.Refusal.TheVariants.{Memory};
 ghost use Rattle.kp_model.specs.World.{LeaderAndIsr as ModelRecord, most_nodes};
 ghost use Rattle.kp_model.specs.Controller.{elected};
+ghost use Rattle.kp_model.specs.Left.{IsOpening, node_in};
+ghost use Rattle.kp_model.specs.Run.{Run};
 ghost use Rattle.kp_model.specs.Step.{elect_cause};
 ghost use Rattle.kp_model.specs.Set.{record_of};
 ghost use Rattle.kp_control.specs.Word.{packed};
-ghost use Rattle.kp_board.specs.Views.{KeptReceipt, new_node, new_caller};
-ghost use Rattle.kp_board.specs.Rule.{ShowsLastRecord, ShowsElection};
-ghost use Rattle.kp_board.specs.Plays.{Finds, Learned, electing};
+ghost use Rattle.kp_board.specs.Views.{KeptReceipt, new_caller, new_node, opened_node};
+ghost use Rattle.kp_board.specs.Rule.{mark_word, ShowsLastRecord, ShowsElection};
+ghost use Rattle.kp_board.specs.Plays.{Finds, Learned, Recalls, electing};
 ghost use Rattle.kp_board.specs.Calls.{Elects, Looks};
 
-use crate::passes::{BoardName, Callers, FreshPass, NodePass, Pass};
-use crate::plays::{self, Admits, Election, Founds, KeepsReceipt, LooksAtMark, ReceiptFiling};
+use crate::opening::{BoardKey, Left};
+use crate::passes::{BoardName, Callers, FreshPass, LeftPass, NodePass, Pass};
+use crate::plays::{
+    self, Admits, Election, Founds, KeepsReceipt, LooksAtMark, ReceiptFiling, SeesPromised,
+};
 use crate::rule::{BoardSeat, BoardTable};
 use crate::word::record_of_word;
 use kp_control::{elected, pack};
@@ -34,16 +39,35 @@ pub struct Opened {
 
 impl Model for Opened {
     ghost use Rattle.std.specs.Prelude.{◌≡◌, ℕ, ◌+◌, ◌*◌, ◌≤◌, []};
-    ghost use Rattle.atomic_table.specs.Seated.{TableId, table_id_coded};
+    ghost use Rattle.kp_board.specs.Opening.{BoardId};
+    ghost use Rattle.kp_board.specs.Views.{founder};
+    ghost use Rattle.kp_model.specs.Left.{beginning};
+
+    ghost Value = { BoardId };
+
+    ghost view = { λ o. record { words = o.table.shared.table_id.words; id = o.table.shared.table_id; opening = o.table.shared.key } };
+
+    ghost invariant = { λ o. (o.first.table_id ≡ o.table.shared.table_id) × (o.first.me ≡ (founder 0 o.table.shared.key 0, [])) × (o.table.shared.key ≡ beginning o.nodes) × (o.table.shared.table_id.words ≡ 2 * o.nodes + 1) × (o.nodes ≤ 7) };
+}
+
+/// The same of a board that opens with what a run has left. (Own rule.)
+#[derive(Drop)]
+pub struct OpenedAgain {
+    table: BoardTable,
+    first: BoardSeat,
+    nodes: NodeId,
+}
+
+impl Model for OpenedAgain {
+    ghost use Rattle.std.specs.Prelude.{◌≡◌, ℕ, ◌+◌, ◌*◌, ◌≤◌, []};
+    ghost use Rattle.kp_board.specs.Opening.{BoardId};
     ghost use Rattle.kp_board.specs.Views.{founder};
 
-    ghost Value = { TableId };
+    ghost Value = { BoardId };
 
-    ghost coded = { table_id_coded };
+    ghost view = { λ o. record { words = o.table.shared.table_id.words; id = o.table.shared.table_id; opening = o.table.shared.key } };
 
-    ghost view = { λ o. o.table.shared.table_id };
-
-    ghost invariant = { λ o. (o.first.table_id ≡ o.table.shared.table_id) × (o.first.me ≡ (founder 0 o.nodes 0, [])) × (o.table.shared.key ≡ o.nodes) × (o.table.shared.table_id.words ≡ 2 * o.nodes + 1) × (o.nodes ≤ 7) };
+    ghost invariant = { λ o. (o.first.table_id ≡ o.table.shared.table_id) × (o.first.me ≡ (founder 0 o.table.shared.key 0, [])) × (o.table.shared.key.count ≡ o.nodes) × (o.table.shared.table_id.words ≡ 2 * o.nodes + 1) × (o.nodes ≤ 7) };
 }
 
 /// The words that all threads share: word 0 is the controller's record, then each node has an end word and a mark word. A clause
@@ -72,7 +96,7 @@ impl<B: BoardName> Model for Board<B> {
 
     ghost view = { λ b. b.nodes };
 
-    ghost invariant = { λ b. (b.table.shared.table_id ≡ B.table) × (b.table.shared.key ≡ b.nodes) × (B.table.words ≡ 2 * b.nodes + 1) × (b.nodes ≤ 7) };
+    ghost invariant = { λ b. (b.table.shared.table_id ≡ B.table.id) × (b.table.shared.key.count ≡ b.nodes) × (B.table.words ≡ 2 * b.nodes + 1) × (b.nodes ≤ 7) × (B.table.id.words ≡ B.table.words) × (b.table.shared.key ≡ B.table.opening) };
 }
 
 impl Opened {
@@ -86,11 +110,59 @@ impl Opened {
         let mut words = [0u64; MOST_WORDS];
         words[0] = pack(&LeaderAndIsr::initial(nodes));
         let count = 2 * nodes as usize + 1;
-        let (table, first) = BoardTable::of_words(alloc, &words[..count], &u64::from(nodes))?;
+        let key = BoardKey::beginning(nodes);
+        let (table, first) = BoardTable::of_words(alloc, &words[..count], &key)?;
         Ok(Opened {
             table,
             first,
             nodes,
+        })
+    }
+}
+
+// The words of a board: the record's, and those of the nodes of these watermarks.
+fn words_of(controller: &LeaderAndIsr, marks: &[Offset]) -> [u64; MOST_WORDS]
+    requires { length marks.now ≤ most_nodes }
+    ensures word { slice_index result 0 ≡ packed (record_of controller.now) }
+    ensures marks { (k : ℕ) → k < length marks.now → slice_index result (mark_word k) ≡ slice_index marks.now k }
+{
+    let mut words = [0u64; MOST_WORDS];
+    words[0] = pack(controller);
+    let mut number = 0;
+    while number < marks.len() {
+        words[2 * number + 2] = marks[number];
+        number += 1;
+    }
+    words
+}
+
+impl OpenedAgain {
+    /// The words of a board of 0 to 7 nodes that opens with what a run has left: this record, and each node with its watermark, as
+    /// the run's last world has them. A list that a node of the run held is promised: each caller's pass can be shown it
+    /// (`Board::recall`). F33 is the only refusal. It takes two blocks of memory, of which one is let go at once. `_said` is read by
+    /// nobody: a caller names what was left by what it hands in there. (Own rule.)
+    pub fn new<E: Left, T>(
+        alloc: Global,
+        controller: &LeaderAndIsr,
+        marks: &[Offset],
+        _said: &T,
+    ) -> Result<OpenedAgain, Refusal>
+        requires small { length marks.now ≤ most_nodes }
+        requires count { E.opening.count ≡ length marks.now }
+        requires left { (r : Run E.opening.count) × IsOpening E.opening r }
+        requires controller { record_of controller.now ≡ E.opening.controller }
+        requires marks { (k : ℕ) → k < length marks.now → slice_index marks.now k ≡ (node_in E.opening k).watermark }
+        ensures made { IfOk result (λ o. (o.words ≡ 2 * E.opening.count + 1) × (o.opening ≡ E.opening)) }
+        ensures only { IfErr result (λ refusal. refusal ≡ Memory) }
+    {
+        let words = words_of(controller, marks);
+        let count = 2 * marks.len() + 1;
+        let key = BoardKey::of::<E>(alloc)?;
+        let (table, first) = BoardTable::of_words(alloc, &words[..count], &key)?;
+        Ok(OpenedAgain {
+            table,
+            first,
+            nodes: marks.len() as NodeId,
         })
     }
 }
@@ -123,6 +195,46 @@ impl<B: BoardName> Board<B> {
                 name: PhantomData,
             };
             passes.push(FreshPass { pass })?;
+        }
+        let board = Board {
+            table,
+            nodes,
+            name: PhantomData,
+        };
+        let callers = Callers {
+            seat: first,
+            name: PhantomData,
+        };
+        Ok((board, passes, callers))
+    }
+
+    /// The same of a board that opens with what a run has left: each node's pass shows the node as it was left, down. F33 is the only
+    /// refusal, of the list of passes. (Own rule.)
+    pub fn again(
+        alloc: Global,
+        opened: OpenedAgain,
+    ) -> Result<(Board<B>, Vec<LeftPass<B>>, Callers<B>), Refusal>
+        requires { opened ≡ B.table }
+        ensures nodes { IfOk result (λ r. (2 * r.0 + 1 ≡ opened.words) × (r.0 ≡ opened.opening.count)) }
+        ensures passes { IfOk result (λ r. (length r.1.items ≡ r.0)
+            × ((k : ℕ) → k < r.0 → slice_get (map (λ f. f.pass) r.1.items) k ≡ Some (opened_node opened.opening k))) }
+        ensures callers { IfOk result (λ r. r.2 ≡ 0) }
+        ensures only { IfErr result (λ refusal. refusal ≡ Memory) }
+    {
+        let OpenedAgain {
+            table,
+            mut first,
+            nodes,
+        } = opened;
+        let mut passes = Vec::with_capacity(alloc, nodes as usize)?;
+        for node in 0..nodes {
+            let seat = table.shared.split_seat::<Founds>(&mut first);
+            let pass = NodePass {
+                seat,
+                number: node,
+                name: PhantomData,
+            };
+            passes.push(LeftPass { pass })?;
         }
         let board = Board {
             table,
@@ -196,6 +308,15 @@ impl<B: BoardName> Board<B> {
         let _nodes = self.nodes;
         let word = 2 * node as usize + 2;
         self.table.shared.load::<LooksAtMark>(&mut pass.seat, word)
+    }
+
+    /// Makes what is promised a part of what the pass has seen: all that it sees later goes on from that. Of a board that opened at
+    /// the start of a run nothing is promised. One load, without memory or waiting. (Own rule.)
+    pub fn recall(&self, pass: &mut Pass<B>)
+        ensures { Recalls B.table.opening.promised pass.old pass.new }
+    {
+        let _nodes = self.nodes;
+        self.table.shared.load::<SeesPromised<B>>(&mut pass.seat, 0);
     }
 
     // One try to elect a node under the record that the pass was shown.

@@ -1,6 +1,6 @@
 //! The passes of a board: what a step on its words is made with. None of them has any bytes.
 ghost use Rattle.std.specs.Prelude.{◌≡◌, ◌+◌, ◌*◌, ◌/◌, ◌<◌};
-ghost use Rattle.kp_board.specs.Views.{new_node};
+ghost use Rattle.kp_board.specs.Views.{new_node, opened_node};
 
 use crate::rule::BoardSeat;
 use kp_types::NodeId;
@@ -9,15 +9,16 @@ use std::marker::{Brand, Model, PhantomData};
 /// Names one board in types: the passes, nodes and messages of a board have it as a parameter. So a pass of one board can't be
 /// used at another. (Own rule.)
 pub trait BoardName {
-    ghost use Rattle.atomic_table.specs.Seated.{TableId};
+    ghost use Rattle.kp_board.specs.Opening.{BoardId};
 
-    ghost table: { TableId };
+    ghost table: { BoardId };
 }
 
 impl BoardName for Brand {
     ghost use Rattle.std.specs.Prelude.{[]};
+    ghost use Rattle.kp_model.specs.Left.{beginning};
 
-    ghost table = { record { words = 0; slots = 0; views_name = 0; atom = 0; block = 0; offset = 0; slot_names = [] } };
+    ghost table = { record { words = 0; id = record { words = 0; slots = 0; views_name = 0; atom = 0; block = 0; offset = 0; slot_names = [] }; opening = beginning 0 } };
 }
 
 /// A node's own pass. A clause sees what it shows (`NodeView`): the node's number, its state, the record that it was last
@@ -47,7 +48,7 @@ impl<B: BoardName> Model for NodePass<B> {
 
     ghost view = { λ p. node_view p.seat.me.0 };
 
-    ghost invariant = { λ p. (p.seat.table_id ≡ B.table) × (p.seat.me ≡ (of_node (node_view p.seat.me.0), [])) × ((node_view p.seat.me.0).number ≡ p.number) × (2 * p.number + 2 < B.table.words) × (p.number < 7) };
+    ghost invariant = { λ p. (p.seat.table_id ≡ B.table.id) × (p.seat.me ≡ (of_node (node_view p.seat.me.0), [])) × ((node_view p.seat.me.0).number ≡ p.number) × (2 * p.number + 2 < B.table.words) × (p.number < 7) };
 }
 
 /// A node's pass that nobody has used: its node is as at the start. `Board::new` gives each node's once.
@@ -56,6 +57,16 @@ pub struct FreshPass<B: BoardName> {
     /// The pass of a node that is idle, with an empty log.
     pub pass: NodePass<B>,
     pub ghost fresh: { pass ≡ new_node (B.table.words / 2) pass.number },
+    pub ghost inside: { 2 * pass.number + 2 < B.table.words },
+}
+
+/// A node's pass that nobody has used, of a board that opened with what a run has left: its node is as it was left. `Board::again`
+/// gives each node's once.
+#[derive(Drop)]
+pub struct LeftPass<B: BoardName> {
+    /// The pass of a node that is down.
+    pub pass: NodePass<B>,
+    pub ghost left: { pass ≡ opened_node B.table.opening pass.number },
     pub ghost inside: { 2 * pass.number + 2 < B.table.words },
 }
 
@@ -85,13 +96,13 @@ impl<B: BoardName> Drop for Callers<B> {
 
 impl<B: BoardName> Model for Callers<B> {
     ghost use Rattle.std.specs.Prelude.{◌≡◌, ◌+◌, ◌*◌, ℕ, []};
-    ghost use Rattle.kp_board.specs.Views.{founder, founder_count, made_by};
+    ghost use Rattle.kp_board.specs.Views.{founder, made_by};
 
     ghost Value = { ℕ };
 
     ghost view = { λ c. made_by c.seat.me.0 };
 
-    ghost invariant = { λ c. (c.seat.table_id ≡ B.table) × (c.seat.me ≡ (founder (founder_count c.seat.me.0) (founder_count c.seat.me.0) (made_by c.seat.me.0), [])) × (B.table.words ≡ 2 * founder_count c.seat.me.0 + 1) };
+    ghost invariant = { λ c. (c.seat.table_id ≡ B.table.id) × (c.seat.me ≡ (founder B.table.opening.count B.table.opening (made_by c.seat.me.0), [])) × (B.table.words ≡ 2 * B.table.opening.count + 1) };
 }
 
 /// A caller's pass. A clause sees what it shows (`CallerView`): the committed list that it has seen, the record and the
@@ -117,7 +128,7 @@ impl<B: BoardName> Model for Pass<B> {
 
     ghost view = { λ p. caller_view p.seat.me.0 };
 
-    ghost invariant = { λ p. (p.seat.table_id ≡ B.table) × (p.seat.me ≡ (of_caller (caller_view p.seat.me.0), [])) };
+    ghost invariant = { λ p. (p.seat.table_id ≡ B.table.id) × (p.seat.me ≡ (of_caller (caller_view p.seat.me.0), [])) };
 }
 
 /// A message's pass. A clause sees the message, which was sent in the board's run. It goes with the message's body. A decision makes a
@@ -137,5 +148,5 @@ impl<B: BoardName> Model for MessagePass<B> {
 
     ghost view = { λ p. message_view p.seat.me.0 };
 
-    ghost invariant = { λ p. (p.seat.table_id ≡ B.table) × (p.seat.me ≡ (of_message (message_view p.seat.me.0), [])) };
+    ghost invariant = { λ p. (p.seat.table_id ≡ B.table.id) × (p.seat.me ≡ (of_message (message_view p.seat.me.0), [])) };
 }

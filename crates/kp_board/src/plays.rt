@@ -1,6 +1,7 @@
 //! What each step on a word tells, and what a caller names for one.
 //!
 //! A step's event stands in no argument: a caller names it by the ghost members of these traits, at `Brand`.
+use crate::passes::BoardName;
 use crate::views::SeatView;
 use atomic_table::{Join, Play, Split};
 use std::marker::{Brand, PhantomData};
@@ -160,6 +161,17 @@ impl Play<u8, SeatView> for LooksAtMark {
     ghost use Rattle.kp_board.specs.Plays.{MarkShown};
 
     ghost then = { MarkShown };
+}
+
+// A caller is shown what is promised.
+pub(crate) struct SeesPromised<B> {
+    what: PhantomData<B>,
+}
+
+impl<B: BoardName> Play<u8, SeatView> for SeesPromised<B> {
+    ghost use Rattle.kp_board.specs.Plays.{Recalled};
+
+    ghost then = { Recalled B.table.opening.promised };
 }
 
 // A caller keeps a receipt.

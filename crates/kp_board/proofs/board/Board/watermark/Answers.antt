@@ -10,7 +10,7 @@ load-requires g c =
     let i = c.self.invariant in
     let p = c.pass.invariant in
     let same = ap (λ z. z.words) i.0 in
-    let inside : c.args.node < c.self.inside.table.shared.key = (let k = i.1 in let r = c.requires in let w = i.2 in omega arith) in
+    let inside : c.args.node < c.self.inside.table.shared.key.count = (let k = i.1 in let r = c.requires in let w = i.2 in omega arith) in
     (p.0 ∙ sym i.0, (let w = i.2 in let k = i.1 in omega arith), marks_seen c.self.inside.table.shared.key c.self.inside.table.shared.table_id.slots c.pass.inside.seat.id c.pass.inside.seat.me (caller_view c.pass.inside.seat.me.0) c.args.node (ap (λ m. m.0) p.1) inside)
 
 pub invariant_of-pass : goal.invariant_of-pass
