@@ -123,7 +123,7 @@ module _ (begun : Opening) (id : ℕ) (m : Me ℕ View) (x : CallerView) (p : Pr
       let words' : List ℕ = set s.words 0 word in
       let there : 0 < length s.words = (let a = d.wide in omega arith) in
       let others = λ (j : ℕ). get_or-set_other s.words 0 (mark_word j) word 0 (λ e. omega arith) in
-      let later = record_on d.run q d.owner s.words words' id (λ w a. inr a) (λ j. refl) (λ z t. sent_before (last d.run).messages (l ∷ []) z t) others in
+      let later = record_on d.run q d.owner s.words words' id (λ w a. inr a) (λ w a. a) (λ j. refl) (λ z t. sent_before (last d.run).messages (l ∷ []) z t) others in
       let g = caller_later d.run q d.owner s.words words' id later x fits in
       let is_now : WasRecord q (decided_on now p) = (last q, inl refl, refl) in
       let of_run : IsOfRun q y = record {

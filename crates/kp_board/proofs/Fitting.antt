@@ -83,7 +83,7 @@ module _ (o : Opening) where
       let q : Run n = acted d.run k act e f.inside given local' in
       let here : (last q).nodes k ≡ y = node_moved (last d.run) k e ∙ sym as_effect in
       let was = f.word in
-      let later = acts_on d.run d.owner s.words words' id k act e f.inside given local' f.own others (omega arith) in
+      let later = acts_on d.run d.owner s.words words' id k act e f.inside given local' f.own others (omega arith) (let a = ap (λ (x : Node). x.watermark) f.state in let b = ap (λ (x : Node). x.watermark) as_effect in omega arith) in
       let carried_over = λ (j : ℕ) (m : ℕ) (b : WasWatermark d.run j m). let c : WasWatermark q j m = (b.0, inr b.1, b.2) in c in
       keeps_rule s d q words' id (of_node p') later wide zero_word
       (λ j l. dite (ℕ_discrete j k)

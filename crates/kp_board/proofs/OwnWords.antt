@@ -57,6 +57,8 @@ module _ (o : Opening) where
               among = λ w a. a;
               messages = λ l t. t;
               nodes = λ j l ne. refl;
+              cases = λ w a. inr a;
+              lows = λ j l. omega arith;
               same = λ j l ne. marks j;
               rises = λ j l. let g = marks j in omega arith;
             }
@@ -136,6 +138,8 @@ module _ (o : Opening) where
               among = λ w a. a;
               messages = λ l t. t;
               nodes = λ j l ne. refl;
+              cases = λ w a. inr a;
+              lows = λ j l. omega arith;
               same = λ j l ne. mark_words s.words k j x (λ e. ne (ap d.owner e ∙ f.own));
               rises = λ j l. dite (ℕ_discrete j k) (λ e. subst (λ (z : ℕ). get_or s.words (mark_word z) 0 ≤ get_or (set s.words i x) (mark_word z) 0) (sym e) (omega arith)) (λ ne. let g = mark_words s.words k j x ne in omega arith);
             }

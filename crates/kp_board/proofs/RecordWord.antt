@@ -136,7 +136,7 @@ module _ (o : Opening) where
       let q : Run n = elected_run d.run k free_now in
       let words' : List ℕ = set s.words 0 new in
       let others = λ (j : ℕ). get_or-set_other s.words 0 (mark_word j) new 0 (λ e. omega arith) in
-      let later = record_on d.run q d.owner s.words words' id (λ w a. inr a) (λ j. refl) (λ l t. t) others in
+      let later = record_on d.run q d.owner s.words words' id (λ w a. inr a) (λ w a. a) (λ j. refl) (λ l t. t) others in
       let c' : CallerView = electing (elected c.shown k) c in
       let g = caller_later d.run q d.owner s.words words' id later c f in
       let of_run : IsOfRun q c' = record { wide = g.of_run.wide; seen = g.of_run.seen; shown = (last q, inl refl, ap (λ (x : LeaderAndIsr). elected x k) same); marks = g.of_run.marks; receipts = g.of_run.receipts; sent = g.of_run.sent; changes = ((last q, inl refl, ap (λ (x : LeaderAndIsr). elected x k) same), g.of_run.changes) } in (

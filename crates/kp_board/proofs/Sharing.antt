@@ -61,6 +61,7 @@ module _ (o : Opening) where
     wide = d.wide;
     record_is = d.record_is;
     marks = d.marks;
+    tops = d.tops;
     seats = one_more s d (set s.views id v) w d.owner (λ j u e. d.seats j u (subst (λ l. get_elem? l j ≡ some u) (set_again s.views id v at) e)) (gives s d (d.seats id v at) (length (set s.views id v)));
     counted = let version : ℕ = (last d.run).controller.version in
         counts_more (set s.views id v) w o.controller.version version a b c e (counts_on s.views id v v o.controller.version version version at (counts_same v version) d.counted);
@@ -104,6 +105,7 @@ module _ (o : Opening) where
         wide = d.wide;
         record_is = d.record_is;
         marks = d.marks;
+        tops = d.tops;
         seats = views_fit d.run d.owner s.words (set s.views id both) other spent tt (λ j u _ e. views_fit d.run d.owner s.words s.views id both fits (λ i x _ e'. d.seats i x e') j u e);
         counted = counts_on (set s.views id both) other w spent o.controller.version version version there (none_left version) (counts_on s.views id v both o.controller.version version version at (same version) d.counted);
       }
@@ -156,6 +158,7 @@ module _ (o : Opening) where
         wide = d.wide;
         record_is = d.record_is;
         marks = d.marks;
+        tops = d.tops;
         seats = one_more s d views' (of_node (opened_node o j)) owner'
             (views_fit d.run owner' s.words s.views id (founder (j + 1) o made)
             record {
@@ -206,6 +209,7 @@ module _ (o : Opening) where
         wide = d.wide;
         record_is = d.record_is;
         marks = d.marks;
+        tops = d.tops;
         seats = one_more s d views' right d.owner
             (views_fit d.run d.owner s.words s.views id left record { count = f.count; shown = f.shown; own = f.own; state = f.state; word = f.word } (λ i v ne e. d.seats i v e))
             (fresh_fits s d);
@@ -266,6 +270,7 @@ module _ (o : Opening) where
     wide = wide;
     record_is = record_is ∙ ap packed (sym was.record_is);
     marks = λ k l. (last r, last_is_of n r, ap (λ (x : Node). x.watermark) (was.nodes k l) ∙ sym (same k l));
+    tops = λ k l w a. inl a;
     seats = λ j v e. first words r was same j v e;
     counted = record { founders = refl; callers = refl; changes = (let e = ap (λ (c : LeaderAndIsr). c.version) was.record_is in omega arith) };
   }

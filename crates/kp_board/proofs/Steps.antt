@@ -1,5 +1,5 @@
 -- Each step keeps the rule.
-use Rattle.std.proofs.Common.{◌≡◌, ◌≢◌, ℕ, ◌<◌, ◌≤◌, List, [], ◌∷◌, ◌++◌, length, get_or, set, inr, ⊎_elim, refl, sym, ap, ◌∙◌, subst, arith}
+use Rattle.std.proofs.Common.{◌≡◌, ◌≢◌, ◌⊎◌, ℕ, ◌<◌, ◌≤◌, max, List, [], ◌∷◌, ◌++◌, length, get_or, set, inl, inr, ⊎_elim, refl, sym, ap, ◌∙◌, subst, arith}
 use mathlib.Core.Logic.{dite}
 use mathlib.Core.Option.{some}
 use native.Mathlib.Decide.{ℕ_discrete}
@@ -16,6 +16,7 @@ use Rattle.kp_model.specs.Step.{IsGiven, moved}
 use Rattle.kp_model.specs.Run.{Run, BeginsHeld, IsOf, last, WasAppended}
 use Rattle.kp_model.specs.Left.{Opening}
 use Rattle.kp_model.proofs.InRuns.Longer.{acted, moved_other, sent_before}
+use Rattle.kp_model.proofs.Marks.Raised.{node_moved}
 use Rattle.kp_control.specs.Word.{packed}
 use Rattle.kp_board.specs.Views.{CallerView, Note, KeptReceipt, View, founder, of_node, of_caller, of_message, of_note, spent}
 use Rattle.kp_board.proofs.Counting.{Counts, counts_on}
@@ -31,6 +32,8 @@ module _ {n : ℕ} where
     pub among : (w : World) → IsOf w r → IsOf w q
     pub messages : (l : Message) → IsSent (last r).messages l → IsSent (last q).messages l
     pub nodes : (k : ℕ) → k < n → owner k ≢ id → (last q).nodes k ≡ (last r).nodes k
+    pub cases : (w : World) → IsOf w q → (w ≡ last q) ⊎ IsOf w r
+    pub lows : (k : ℕ) → k < n → ((last r).nodes k).watermark ≤ max (get_or words' (mark_word k) 0) ((last q).nodes k).watermark
     pub same : (k : ℕ) → k < n → owner k ≢ id → get_or words' (mark_word k) 0 ≡ get_or words (mark_word k) 0
     pub rises : (k : ℕ) → k < n → get_or words (mark_word k) 0 ≤ get_or words' (mark_word k) 0
 
@@ -109,30 +112,37 @@ module _ {n : ℕ} where
 
   -- nothing happens in the model
   pub stays : (r : Run n) (owner : ℕ → ℕ) (words : List ℕ) (id : ℕ) → Later r r owner words words id
-  stays r owner words id = record { among = λ w a. a; messages = λ l s. s; nodes = λ k l ne. refl; same = λ k l ne. refl; rises = λ k l. omega arith }
+  stays r owner words id = record { among = λ w a. a; messages = λ l s. s; nodes = λ k l ne. refl; cases = λ w a. inr a; lows = λ k l. omega arith; same = λ k l ne. refl; rises = λ k l. omega arith }
 
   -- what the others know stays true over a step of the node k, whose pass is id
   pub acts_on : (r : Run n) (owner : ℕ → ℕ) (words words' : List ℕ) (id k : ℕ) (act : Act) (e : Effect) (inside : k < n) (given : IsGiven (last r).messages act) (local : Local (last r).controller k ((last r).nodes k) act e)
       → owner k ≡ id → ((j : ℕ) → j < n → j ≢ k → get_or words' (mark_word j) 0 ≡ get_or words (mark_word j) 0) → get_or words (mark_word k) 0 ≤ get_or words' (mark_word k) 0
-      → Later r (acted r k act e inside given local) owner words words' id
-  acts_on r owner words words' id k act e inside given local own same rise =
+      → ((last r).nodes k).watermark ≤ max (get_or words' (mark_word k) 0) e.node.watermark → Later r (acted r k act e inside given local) owner words words' id
+  acts_on r owner words words' id k act e inside given local own same rise low =
       let other = λ (j : ℕ) (ne : j ≢ k). moved_other (last r) k j e ne in record {
         among = λ w a. inr a;
         messages = λ l s. sent_before (last r).messages e.sent l s;
         nodes = λ j l ne. other j (λ g. ne (ap owner g ∙ own));
+        cases = λ w a. a;
+        lows = λ j l. dite (ℕ_discrete j k)
+            (λ g. subst (λ (z : ℕ). ((last r).nodes z).watermark ≤ max (get_or words' (mark_word z) 0) ((moved (last r) k e).nodes z).watermark) (sym g)
+            (let f = ap (λ (x : Node). x.watermark) (node_moved (last r) k e) in omega arith))
+            (λ ne. let f = ap (λ (x : Node). x.watermark) (other j ne) in omega arith);
         same = λ j l ne. same j l (λ g. ne (ap owner g ∙ own));
         rises = λ j l. dite (ℕ_discrete j k) (λ g. subst (λ (z : ℕ). get_or words (mark_word z) 0 ≤ get_or words' (mark_word z) 0) (sym g) rise) (λ ne. let f = same j l ne in omega arith);
       }
 
   -- the run after another event that changes the record alone
   pub record_on : (r q : Run n) (owner : ℕ → ℕ) (words words' : List ℕ) (id : ℕ)
-      → ((w : World) → IsOf w r → IsOf w q)
+      → ((w : World) → IsOf w r → IsOf w q) → ((w : World) → IsOf w q → (w ≡ last q) ⊎ IsOf w r)
       → ((k : ℕ) → (last q).nodes k ≡ (last r).nodes k) → ((l : Message) → IsSent (last r).messages l → IsSent (last q).messages l)
       → ((j : ℕ) → get_or words' (mark_word j) 0 ≡ get_or words (mark_word j) 0) → Later r q owner words words' id
-  record_on r q owner words words' id among nodes messages same = record {
+  record_on r q owner words words' id among cases nodes messages same = record {
     among = among;
     messages = messages;
     nodes = λ j l ne. nodes j;
+    cases = cases;
+    lows = λ j l. let f = ap (λ (x : Node). x.watermark) (nodes j) in omega arith;
     same = λ j l ne. same j;
     rises = λ j l. let f = same j in omega arith;
   }
@@ -152,6 +162,10 @@ module _ {o : Opening} where
     wide = as_wide ∙ d.wide;
     record_is = record_is;
     marks = marks;
+    tops = λ k l w a. let rise = later.rises k l in let low = later.lows k l in ⊎_elim
+        (λ (e : w ≡ last q). let f = ap (λ (z : World). (z.nodes k).watermark) e in inr (omega arith))
+        (λ (b : IsOf w d.run). ⊎_elim (λ (before : IsOf w d.old). inl before) (λ (g : (w.nodes k).watermark ≤ max (get_or s.words (mark_word k) 0) ((last d.run).nodes k).watermark). inr (omega arith)) (d.tops k l w b))
+        (later.cases w a);
     seats = views_fit q d.owner words' s.views id w fits (λ j v apart e. others_fit d.run q d.owner s.words words' id later j v apart (d.seats j v e));
     counted = counts_on s.views id v w o.controller.version (last d.run).controller.version (last q).controller.version at counts d.counted;
   }

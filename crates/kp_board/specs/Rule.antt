@@ -1,6 +1,6 @@
 -- The rule of the board (own rule): some run of the definitions ends in just the world that the words and the passes show.
 -- It holds between any two steps of any threads.
-use Rattle.std.specs.Prelude.{◌≡◌, ℕ, ◌+◌, ◌*◌, ◌<◌, ◌≤◌, List, [], ◌∷◌, length, slice_index, sum_by}
+use Rattle.std.specs.Prelude.{◌≡◌, ◌⊎◌, ℕ, ◌+◌, ◌*◌, ◌<◌, ◌≤◌, max, List, [], ◌∷◌, length, slice_index, sum_by}
 use mathlib.Core.Option.{some}
 use lib.ListN.{get_elem?}
 use Rattle.atomic_table.specs.Table.{State}
@@ -30,6 +30,10 @@ module _ {n : ℕ} (r : Run n) where
   -- node k had this watermark in a world of the run
   abbrev pub WasWatermark : (k mark : ℕ) → Type 0
   WasWatermark k mark = (w : World) × IsOf w r × ((w.nodes k).watermark ≡ mark)
+
+  -- since the run's opening, up to which it was the old one, node k had no higher watermark
+  abbrev pub NoWatermarkAbove : (old : Run n) (k mark : ℕ) → Type 0
+  NoWatermarkAbove old k mark = (w : World) → IsOf w r → IsOf w old ⊎ ((w.nodes k).watermark ≤ mark)
 
   -- it was the record in a world of the run
   abbrev pub WasRecord : LeaderAndIsr → Type 0
@@ -109,7 +113,8 @@ pub record AreCounted (views : List View) (first version : ℕ) : Type 0 where
 
 -- The rule, of a board that opened with this: word 0 is the record of the last world of a run, which goes on from one that ended
 -- with the opening; each mark word is a watermark that its node had; each pass fits, and the passes are counted. `owner` says which
--- pass is each node's own.
+-- pass is each node's own. The mark word, or where it doesn't yet follow the node's watermark this, is the greatest watermark that the
+-- node had since the opening.
 pub record Ruled (o : Opening) (s : State ℕ View) : Type 0 where
   pub small : o.count ≤ 7
   pub old : Run o.count
@@ -120,6 +125,7 @@ pub record Ruled (o : Opening) (s : State ℕ View) : Type 0 where
   pub wide : length s.words ≡ 2 * o.count + 1
   pub record_is : slice_index s.words 0 ≡ packed (last run).controller
   pub marks : (k : ℕ) → k < o.count → WasWatermark run k (slice_index s.words (mark_word k))
+  pub tops : (k : ℕ) → k < o.count → NoWatermarkAbove run old k (max (slice_index s.words (mark_word k)) ((last run).nodes k).watermark)
   pub seats : (id : ℕ) (v : View) → get_elem? s.views id ≡ some v → Fits run owner s.words id v
   pub counted : AreCounted s.views o.controller.version (last run).controller.version
 
