@@ -15,6 +15,7 @@ pub mod TakingFacts
 pub mod CuttingFacts
 pub mod HearingFacts
 pub mod AlteringFacts
+pub mod ReadingBack
 pub mod ReadingFacts
 pub mod Downs
 pub mod Acting

@@ -1,6 +1,7 @@
 pub mod NumberedNode
 pub mod Modes
 pub mod Kept
+pub mod ReadBack
 pub mod Replies
 pub mod Offers
 pub mod Sending

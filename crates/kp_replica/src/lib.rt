@@ -16,6 +16,7 @@ mod kept;
 mod producing;
 mod raising;
 mod reading;
+mod reading_back;
 mod replica;
 mod restarting;
 mod serving;
