@@ -9,3 +9,4 @@ pub mod Pieces
 pub mod Callers
 pub mod Changing
 pub mod Deciding
+pub mod SeatFacts

@@ -1,4 +1,6 @@
 pub mod Seated
+pub mod Again
+pub mod Seats
 pub mod Calls
 pub mod Acks
 pub mod NodeCalls

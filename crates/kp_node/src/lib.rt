@@ -6,6 +6,7 @@
 ghost use Rattle.kp_node.specs.Laws.{SeenBatchesStay};
 
 mod ack;
+mod again;
 mod altering;
 mod asking;
 mod describing;
@@ -16,14 +17,17 @@ mod node;
 mod producing;
 mod raising;
 mod reading;
+mod seating;
 mod stepping;
 mod stopping;
 mod telling;
 
 pub use ack::Ack;
+pub use again::{Promise, open_again};
 pub use describing::ProducerInLog;
 pub use fetched::{Fetched, Isolation};
 pub use node::Node;
+pub use seating::{Seats, seat, seat_again};
 pub use telling::NodeState;
 
 /// A batch that a caller's pass has seen at its offset stands there in each list that the pass sees later. It costs nothing.

@@ -5,9 +5,9 @@ ghost use Rattle.kp_model.specs.Log.{IsBoundary};
 ghost use Rattle.kp_model.specs.World.{fresh};
 ghost use Rattle.kp_node.specs.Seated.{SeatedNode};
 
-use kp_board::{Board, BoardName, FreshPass, NodePass};
+use kp_board::{Board, BoardName, FreshPass, LeftPass, NodePass};
 use kp_log::PartitionLog;
-use kp_replica::{Broker, Replica};
+use kp_replica::{Broker, KeptNode, Replica};
 use kp_types::Limits;
 use std::alloc::Global;
 use std::marker::Model;
@@ -62,6 +62,27 @@ impl<B: BoardName> Node<B> {
             alloc,
             board,
             broker: Broker::Up(replica),
+            pass,
+        }
+    }
+
+    /// A node that is down, as it was left: the one whose pass this is. Restart it, and it goes on. It takes no memory. (Own rule.)
+    pub fn again(
+        alloc: Global,
+        board: Arc<Board<B>, Global>,
+        pass: LeftPass<B>,
+        kept: KeptNode,
+    ) -> Node<B>
+        requires number { kept.number ≡ pass.pass.number }
+        requires state { kept.state ≡ pass.pass.state }
+        ensures node { result.node ≡ kept }
+        ensures pass { result.pass ≡ pass.pass }
+    {
+        let LeftPass { pass } = pass;
+        Node {
+            alloc,
+            board,
+            broker: Broker::Down(kept),
             pass,
         }
     }

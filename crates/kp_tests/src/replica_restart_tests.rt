@@ -1,5 +1,6 @@
 //! Nodes that stop, start again, and ask for other in-sync replicas, over the calls of a node alone.
 
+use crate::logs::log_of;
 use crate::replica_played::{Call, played};
 use crate::replica_tests::is_one_of;
 use crate::shown::is;
@@ -183,5 +184,46 @@ fn a_node_stays_down_after_its_last_life(rt: HostRuntime) {
         &rt,
         restarted_twice(rt.alloc(), u64::MAX - 1),
         "life 18446744073709551615, F24 RecordFull in life 18446744073709551615, ",
+    );
+}
+
+// A log's batches that are read back, without the first ones, and the checkpoint.
+static READ_BACK: [(usize, u64); 4] = [(0, 2), (1, 2), (0, 3), (0, 5)];
+
+// What a node is that is read back from these batches.
+fn read_back(
+    alloc: Global,
+    log: &PartitionLog,
+    (passed, checkpoint): (usize, u64),
+) -> Result<KeptNode, Refusal> {
+    let all = log.batches();
+    let (_, batches) = all.split_at(passed.min(all.len()));
+    KeptNode::read_back(alloc, 0, &LIMITS, batches, checkpoint, 4, Some(2))
+}
+
+fn all_read_back(alloc: Global) -> Result<String, Refusal> {
+    let log = log_of(alloc, &LIMITS, "p10 p20 d9.0.0.3")?;
+    let mut text = String::new(alloc);
+    for tried in READ_BACK {
+        match read_back(alloc, &log, tried) {
+            Ok(kept) => writeln!(
+                text,
+                "end {} mark {} life {}",
+                kept.log().end_offset(),
+                kept.watermark(),
+                kept.life()
+            )?,
+            Err(refusal) => writeln!(text, "{refusal}")?,
+        }
+    }
+    Ok(text)
+}
+
+#[test]
+fn a_log_is_read_back(rt: HostRuntime) {
+    is(
+        &rt,
+        all_read_back(rt.alloc()),
+        "end 5 mark 2 life 4\nF26 NotNext\nF19 NotBoundary\nend 5 mark 5 life 4\n",
     );
 }
