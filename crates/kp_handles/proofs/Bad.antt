@@ -12,16 +12,19 @@ use Rattle.kp_types.specs.declared.limits.Limits.{Limits}
 use Rattle.kp_types.specs.declared.refusal.Refusal.{Refusal}
 use Rattle.kp_board.specs.Views.{NodeView}
 use Rattle.kp_replica.specs.declared.producing.Receipt.{Receipt}
+use Rattle.kp_handles.specs.Again.{BadKeep, HoldsNoneLeft, KeepCalled}
+use Rattle.kp_handles.specs.Left.{LeftView}
 use Rattle.kp_handles.specs.CallerCalls.{BadCallers, ReceiptsTold}
 use Rattle.kp_handles.specs.Called.{BadCaller, BadNode, BadPair, BadRoom, PairCalled}
 use Rattle.kp_handles.specs.Handing.{BadHand, BadHanded, BadShare, HandedCalled, IsFree}
 use Rattle.kp_handles.specs.Holding.{BadCount, BadFetched, BadLetter, BadPart, BadPartOf, segments_in}
 use Rattle.kp_handles.specs.Messages.{BadDecide, BadRepeat, BadStep}
-use Rattle.kp_handles.specs.Objects.{ObjectView, caller, cluster, handed, is_open, message, node, segments}
+use Rattle.kp_handles.specs.Objects.{ObjectView, caller, cluster, handed, is_open, left, message, node, segments}
 use Rattle.kp_handles.specs.Opening.{BadCallerOpening, BadNodeOpening}
 use Rattle.kp_node.specs.CallerCalls.{Produces}
 use Rattle.kp_handles.specs.PairCalls.{BadBytes, FitsBatch}
 use Rattle.kp_handles.specs.Segments.{BadName, BadSegment}
+use Rattle.kp_handles.specs.declared.left.KeptIn.{KeptIn}
 use Rattle.kp_handles.specs.declared.misuse.Misuse.{Misuse}
 use Rattle.kp_handles.specs.declared.misuse.Misuse.TheVariants.{Closed, OtherKind, InUse, NoRoom, OutOfRange, BadLength}
 
@@ -208,8 +211,8 @@ module _ (old out : Option ObjectView) (why : Misuse) where
   pub caller_opening_closed : why ≡ Closed → old ≡ None → BadCallerOpening old out why
   caller_opening_closed e none = subst (BadCallerOpening old out) (sym e) none
 
-  pub caller_room : (n : ℕ) (waiting : List NodeView) (callers : ℕ) (limits : Limits) → why ≡ NoRoom → old ≡ Some (cluster n waiting callers limits) → out ≡ None → BadCallerOpening old out why
-  caller_room n waiting callers limits e is none = subst (BadCallerOpening old out) (sym e) (n, waiting, callers, limits, is, none)
+  pub caller_room : (n : ℕ) (waiting : List SeatedNode) (callers : ℕ) → why ≡ NoRoom → old ≡ Some (cluster n waiting callers) → out ≡ None → BadCallerOpening old out why
+  caller_room n waiting callers e is none = subst (BadCallerOpening old out) (sym e) (n, waiting, callers, is, none)
 
 -- ---- of what stands in a handle
 
@@ -254,3 +257,16 @@ pub told_called : (o o' l l' : ObjectView) (n n' m m' : Option ObjectView) (r : 
 told_called o o' l l' n n' m m' r told en en' em em' =
     subst (λ (x : Option ObjectView × Option ObjectView × Option ObjectView × Option ObjectView). ReceiptsTold x.0 x.1 x.2 x.3 r)
     (λ i. (sym en i, sym en' i, sym em i, sym em' i)) told
+
+-- ---- of nodes that were read back
+
+module _ (bytes : List ℕ) (k : KeptIn) (old : Option ObjectView) where
+  pub keep_closed : (why : Misuse) → why ≡ Closed → old ≡ None → BadKeep old why
+  keep_closed why e none = subst (BadKeep old) (sym e) none
+
+  pub keep_called : (new : Option ObjectView) (o p : ObjectView) (answer : Result (Result (Unit {0}) Refusal) Misuse) → old ≡ Some o → new ≡ Some p
+      → KeepCalled bytes k (Some o) (Some p) answer → KeepCalled bytes k old new answer
+  keep_called new o p answer e f called = subst (λ (x : Option ObjectView × Option ObjectView). KeepCalled bytes k x.0 x.1 answer) (λ i. (sym e i, sym f i)) called
+
+pub no_left : (old : Option ObjectView) (o : ObjectView) (why : Misuse) → why ≡ OtherKind → old ≡ Some o → ((x : LeftView) → o ≡ left x → ⊥) → HoldsNoneLeft old why
+no_left old o why is e never = subst (HoldsNoneLeft old) (sym is) (ap is_open e, λ x f. never x (same_object o (left x) old e f))

@@ -12,7 +12,7 @@ use denote.Steps.{nothing, owned}
 use denote.Struct.Struct.{within}
 use denote.Struct.Owning.{shape}
 use Rattle.std.specs.Prelude.{Option}
-use Rattle.atomic_table.specs.Seated.{TableId}
+use Rattle.kp_board.specs.Opening.{BoardId}
 use Rattle.kp_handles.specs.Objects.{ObjectView, word_of}
 use Rattle.kp_handles.specs.Rows.{object_owns}
 use Rattle.kp_handles.specs.contracts.handle.Handle as handle
@@ -20,7 +20,7 @@ use Rattle.kp_handles.specs.declared.handle.Handle.{Handle}
 use Rattle.kp_handles.proofs.Values.{both}
 
 module _ {M : Type 1} {𝓤 : Ura M} {𝓛 : Logic 𝓤} {K : Type 0} {Γ : List (Item 𝓤)} {G : Goal 𝓤 𝓛.H} where
-  pub handle_in : K → (p : Ptr) (n : ℕ) (t : TableId) (x : Option ObjectView) (tied : n ≡ word_of x) → n < 2 ^ 64
+  pub handle_in : K → (p : Ptr) (n : ℕ) (t : BoardId) (x : Option ObjectView) (tied : n ≡ word_of x) → n < 2 ^ 64
       → Step K 𝓛 (‵ (handle.the_row.own_val (record { at = p; state = n; table = t; object = x; tied = tied }) (both (ptr_val p) (vint w64 n) ∷ [])) ∷ Γ) G (‵ (object_owns t p x) ∷ Γ) G
   handle_in k p n t x tied fits = step (λ s. let v : Val = both (ptr_val p) (vint w64 n) in
       nothing k $ owned k u64 _ (uint_Makes 𝓛 w64) n (vint w64 n ∷ []) (refl, fits) $ fjoin k $ feq_i k (List Val) (ptr_val p ∷ []) (ptr_val p ∷ []) refl $ fjoin k $ feq_i k (List Val) (v ∷ []) (v ∷ []) refl $ fjoin k $

@@ -9,3 +9,5 @@ pub mod RecordParts
 pub mod Values
 pub mod Waiting
 pub mod Words
+pub mod Elected
+pub mod LeftFacts

@@ -5,7 +5,7 @@ use base.Stored.{Coded}
 use denote.RattleType.{RattleType}
 use denote.RawPtr.{Ptr}
 use denote.Param.{param}
-use Rattle.atomic_table.specs.Seated.{TableId}
+use Rattle.kp_board.specs.Opening.{BoardId}
 use Rattle.core.specs.contracts.marker.Brand as Brand
 use Rattle.core.specs.declared.marker.Brand as declared
 use Rattle.kp_board.specs.declared.passes.BoardName.{Ghosts}
@@ -28,7 +28,7 @@ only_values X c = record {
   shr_at = λ x b o l. ffalse;
 }
 
-abbrev pub owned_as : RattleType → TableId → Ptr → ObjectView → Fml
+abbrev pub owned_as : RattleType → BoardId → Ptr → ObjectView → Fml
 owned_as R t p x = box_owns chunk (object_row R t) p x
 
 module _ (B : RattleType) (g : Ghosts B.Denot) (p : Ptr) (x : ObjectView) where

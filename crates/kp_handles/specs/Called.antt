@@ -1,7 +1,7 @@
 -- What a call of handles does (own rule).
 use Rattle.std.specs.Prelude.{◌≡◌, ◌⊎◌, ℕ, true, Option, Some, None, Result, Ok, Err}
 use Rattle.std.specs.Global.{Box}
-use Rattle.atomic_table.specs.Seated.{TableId}
+use Rattle.kp_board.specs.Opening.{BoardId}
 use Rattle.kp_types.specs.declared.refusal.Refusal.{Refusal}
 use Rattle.kp_board.specs.Views.{CallerView}
 use Rattle.kp_node.specs.Seated.{SeatedNode}
@@ -111,11 +111,11 @@ done_of (Ok (Err refusal)) = Ok (Err refusal)
 done_of (Err why) = Err why
 
 -- The handles' two objects are of one cluster, where both are open.
-abbrev pub AreOfOne : Option ObjectView → TableId → Option ObjectView → TableId → Type 0
+abbrev pub AreOfOne : Option ObjectView → BoardId → Option ObjectView → BoardId → Type 0
 AreOfOne (Some x) t (Some y) u = t ≡ u
 AreOfOne _ t _ u = Unit {0}
 
 -- and whose it is
-abbrev pub table_of : Option ObjectView → TableId → TableId → TableId
+abbrev pub table_of : Option ObjectView → BoardId → BoardId → BoardId
 table_of (Some x) t u = t
 table_of None t u = u

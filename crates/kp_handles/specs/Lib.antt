@@ -1,9 +1,11 @@
+pub mod Again
 pub mod Called
 pub mod Calling
 pub mod CallerCalls
 pub mod Describing
 pub mod Handing
 pub mod Holding
+pub mod Left
 pub mod Messages
 pub mod Numbers
 pub mod Objects

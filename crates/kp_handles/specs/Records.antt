@@ -5,7 +5,7 @@ use Rattle.std.specs.Option.{option_and_then, option_map, option_map_or}
 use Rattle.kp_record.specs.Record.{Header, Record}
 use Rattle.kp_batch.specs.Batch.{Written, count_of}
 use Rattle.kp_batch.specs.Producer.{producer_epoch_of, producer_of}
-use Rattle.kp_batch.specs.RecordPlaces.{records_from}
+use Rattle.kp_batch.specs.RecordPlaces.{behind, records_from}
 use Rattle.kp_batch.specs.declared.record_place.RecordPlace.{RecordPlace}
 use Rattle.kp_model.specs.Log.{logged}
 use Rattle.kp_model.specs.Transactions.{Aborted}
@@ -41,6 +41,10 @@ moved batch next count =
     if nat_lt next.number count then record { batch = batch; number = next.number; byte = next.byte }
     else record { batch = batch + 1; number = 0; byte = 0 }
 
+-- where the next one stands, in this batch or behind it
+abbrev pub next_record : RecordAt → Written → Record → RecordAt
+next_record at w r = moved at.batch (behind w.body.base_time (place_of at) r) (count_of w.body)
+
 -- what it hasn't got has all bits set, as Kafka's -1; a log's batches end below 2 ^ 62
 abbrev pub record_out : List Aborted → RecordAt → Written → Record → (next : RecordAt) → RecordOut
 record_out aborted at w r next =
@@ -53,12 +57,12 @@ record_out aborted at w r next =
       shown = is_clear aborted (logged w);
     }
 
--- The record stands at the place, and behind it those that stand from the next place on.
+-- The record stands at the place, and behind it those that stand from the place behind it on.
 abbrev pub HasRecordAt : Option ObjectView → RecordAt → RecordOut → Type 0
 HasRecordAt object at found =
-    (o : ObjectView) × (w : Written) × (r : Record) × (next : RecordPlace) × (object ≡ Some o) × (batch_at at o ≡ Some w)
-    × (records_from (place_of at) w.body ≡ r ∷ records_from next w.body)
-    × (found ≡ record_out (named_in o) at w r (moved at.batch next (count_of w.body)))
+    (o : ObjectView) × (w : Written) × (r : Record) × (object ≡ Some o) × (batch_at at o ≡ Some w)
+    × (records_from (place_of at) w.body ≡ r ∷ records_from (behind w.body.base_time (place_of at) r) w.body)
+    × (found ≡ record_out (named_in o) at w r (next_record at w r))
 
 -- why none was found
 abbrev pub NoRecordAt : RecordAt → Option ObjectView → Misuse → Type 0

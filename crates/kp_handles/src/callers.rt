@@ -2,6 +2,7 @@
 
 ghost use Rattle.std.specs.Prelude.{◌≡◌, IfSome, Some};
 ghost use Rattle.kp_board.specs.Calls.{Elects, Looks};
+ghost use Rattle.kp_board.specs.Plays.{Recalls};
 ghost use Rattle.kp_handles.specs.Called.{CallerCalled};
 ghost use Rattle.kp_handles.specs.CallerCalls.{Answers, LearnsMark, ReceiptsTold};
 
@@ -66,6 +67,24 @@ pub fn watermark<B: BoardName + Unnamed>(
             Ok(None)
         }
     })
+}
+
+/// Makes what a process that ended had promised a part of what the pass has seen, as by `Board::recall`. Closed, OtherKind.
+pub fn recall<B: BoardName + Unnamed>(alloc: Global, handle: &mut Handle) -> Called<()>
+    requires { IfSome handle.old.object (λ _. handle.old.table ≡ B.table) }
+    ensures called { CallerCalled handle.old.object handle.new.object result (λ _ c d. Answers (λ _. Recalls B.table.opening.promised c d)) }
+    ensures cluster { handle.new.table ≡ handle.old.table }
+{
+    with_pass::<B, _, _>(
+        alloc,
+        handle,
+        |board: &Board<B>, pass: &mut Pass<B>|
+            ensures { Answers (λ _. Recalls B.table.opening.promised pass.old pass.new) result }
+        {
+            board.recall(pass);
+            Ok(())
+        },
+    )
 }
 
 fn tell_objects<B: BoardName>(one: &mut Object<B>, other: &mut Object<B>) -> Result<(), Misuse>

@@ -18,6 +18,26 @@ use std::alloc::Global;
 /// call. (Own rule.)
 pub type Called<T> = Result<Result<T, Refusal>, Misuse>;
 
+/// Puts what was made, if it was, into a closed handle; what is left is the answer. O(1).
+pub(crate) fn put_made<B: BoardName + Unnamed>(
+    out: &mut Handle,
+    answer: Called<Box<Object<B>>>,
+) -> Called<()>
+    requires { out.old.object ≡ None }
+    ensures done { result ≡ done_of answer }
+    ensures made { out.new.object ≡ made_of answer }
+    ensures named { IfOk result (λ done. OnOk done (out.new.table ≡ B.table)) }
+{
+    match answer {
+        Ok(Ok(made)) => {
+            put(out, made);
+            Ok(Ok(()))
+        }
+        Ok(Err(refusal)) => Ok(Err(refusal)),
+        Err(misuse) => Err(misuse),
+    }
+}
+
 /// What a call does with one thing that a handle holds.
 pub(crate) trait Ask<N, T> {
     ghost use Rattle.std.specs.Prelude.{Result};
@@ -244,14 +264,7 @@ pub(crate) fn give_by_node<B: BoardName + Unnamed, T: Held<B>, Q: Ask<Node<B>, T
     let mut object = take::<B>(alloc, node)?;
     let answer = make_by_node(alloc, &mut object, call);
     put(node, object);
-    match answer {
-        Ok(Ok(made)) => {
-            put(out, made);
-            Ok(Ok(()))
-        }
-        Ok(Err(refusal)) => Ok(Err(refusal)),
-        Err(misuse) => Err(misuse),
-    }
+    put_made(out, answer)
 }
 
 // What the node and the pass make, in room of its own.
@@ -316,12 +329,5 @@ pub(crate) fn give_by_pair<
     let answer = make_by_pair(alloc, &mut first, &mut second, call);
     put(node, first);
     put(caller, second);
-    match answer {
-        Ok(Ok(made)) => {
-            put(out, made);
-            Ok(Ok(()))
-        }
-        Ok(Err(refusal)) => Ok(Err(refusal)),
-        Err(misuse) => Err(misuse),
-    }
+    put_made(out, answer)
 }

@@ -1,8 +1,8 @@
 //! How a cluster, its nodes and passes are opened, and how a handle is closed.
 
-ghost use Rattle.std.specs.Prelude.{◌≡◌, ◌<◌, ◌+◌, ◌*◌, ℕ, IfSome, IfOk, IfErr, OnOk, OnErr, None, Some, length, map, ◌∷◌};
+ghost use Rattle.std.specs.Prelude.{◌≡◌, ◌<◌, ◌+◌, ◌*◌, ℕ, IfSome, IfOk, IfErr, OnOk, OnErr, None, Some, length, ◌∷◌};
 ghost use Rattle.kp_board.specs.Views.{new_caller};
-ghost use Rattle.kp_handles.specs.Objects.{caller, cluster_view};
+ghost use Rattle.kp_handles.specs.Objects.{caller, cluster, cluster_view};
 ghost use Rattle.kp_handles.specs.declared.misuse.Misuse.TheVariants.{Closed, NoRoom};
 ghost use Rattle.kp_handles.specs.Opening.{BadCallerOpening, BadNodeOpening, IsCluster, OpensNode, OpensCaller};
 
@@ -10,11 +10,29 @@ use crate::handle::{Handle, Unnamed, is_open, put, take};
 use crate::misuse::Misuse;
 use crate::object::{Caller, Cluster, Kind, Object, filled, room};
 use bytes::BytesMut;
-use kp_board::{Board, BoardName, FreshPass, Opened};
-use kp_node::Node;
+use kp_board::{BoardName, Opened};
+use kp_node::{Node, Seats, seat};
 use kp_types::Limits;
 use std::alloc::Global;
 use std::sync::Arc;
+
+// The cluster of a board's nodes.
+pub(crate) fn of_seats<B: BoardName>(seats: Seats<B>) -> Object<B>
+    ensures { result ≡ cluster seats.board.value seats.nodes.items seats.callers }
+{
+    let Seats {
+        board,
+        nodes,
+        callers,
+    } = seats;
+    Object {
+        kind: Kind::Cluster(Cluster {
+            board,
+            waiting: nodes,
+            callers,
+        }),
+    }
+}
 
 fn cluster_of<B: BoardName>(
     alloc: Global,
@@ -25,18 +43,8 @@ fn cluster_of<B: BoardName>(
     ensures made { IfOk result (λ o. (n : ℕ) × (2 * n + 1 ≡ opened.words) × IsCluster n limits.now (Some o)) }
     ensures only { IfErr result (λ why. why ≡ NoRoom) }
 {
-    let Ok((board, waiting, callers)) = Board::<B>::new(alloc, opened) else {
-        return Err(Misuse::NoRoom);
-    };
-    match Arc::new(alloc, board) {
-        Ok(board) => Ok(Object {
-            kind: Kind::Cluster(Cluster {
-                board,
-                waiting,
-                callers,
-                limits: *limits,
-            }),
-        }),
+    match seat::<B>(alloc, opened, limits) {
+        Ok(seats) => Ok(of_seats(seats)),
         Err(_) => Err(Misuse::NoRoom),
     }
 }
@@ -62,14 +70,14 @@ pub fn open<B: BoardName + Unnamed>(
 }
 
 #[tactic(auto, using(crate::proofs::Waiting::first_waiting))]
-fn next_pass<B: BoardName>(waiting: &mut Vec<FreshPass<B>>) -> FreshPass<B>
+fn next_waiting<B: BoardName>(waiting: &mut Vec<Node<B>>) -> Node<B>
     requires { 0 < length waiting.old.items }
-    ensures { map (λ w. w.pass) waiting.old.items ≡ result.pass ∷ map (λ w. w.pass) waiting.new.items }
+    ensures { waiting.old.items ≡ result ∷ waiting.new.items }
 {
     waiting.remove(0)
 }
 
-// Room is taken once a node is known to wait, and the pass once there is room.
+// Room is taken once a node is known to wait.
 #[tactic(auto, using(crate::proofs::Waiting::some_left, crate::proofs::Waiting::none_left))]
 fn node_of<B: BoardName>(alloc: Global, cluster: &mut Cluster<B>) -> Result<Box<Object<B>>, Misuse>
     ensures opened { IfOk result (λ made. OpensNode (Some (cluster_view cluster.old)) (Some (cluster_view cluster.new)) (Some made.value)) }
@@ -80,11 +88,7 @@ fn node_of<B: BoardName>(alloc: Global, cluster: &mut Cluster<B>) -> Result<Box<
         return Err(Misuse::OutOfRange);
     }
     let made = room::<B>(alloc)?;
-    let Ok(board) = Arc::try_clone(&cluster.board) else {
-        return Err(Misuse::NoRoom);
-    };
-    let pass = next_pass(&mut cluster.waiting);
-    let kind = Kind::Node(Node::new(alloc, board, pass, &cluster.limits));
+    let kind = Kind::Node(next_waiting(&mut cluster.waiting));
     Ok(filled(made, Object { kind }))
 }
 

@@ -1,6 +1,6 @@
 //! A handle.
 ghost use Rattle.std.specs.Prelude.{◌≡◌, ◌⊎◌, Option, Some, None, IfSome, IfOk, IfErr, OnErr, true};
-ghost use Rattle.atomic_table.specs.Seated.{TableId, table_id_coded};
+ghost use Rattle.kp_board.specs.Opening.{BoardId};
 ghost use Rattle.kp_handles.specs.declared.misuse.Misuse.TheVariants.{Closed};
 ghost use Rattle.kp_handles.specs.Objects.{ObjectView, word_of, is_open};
 
@@ -31,7 +31,7 @@ impl Unnamed for Brand {
 pub struct Handle {
     at: *mut u8,
     state: u64,
-    pub ghost table: { TableId } by { table_id_coded },
+    pub ghost table: { BoardId },
     pub ghost object: { Option ObjectView },
     pub ghost tied: { state ≡ word_of object },
 }

@@ -3,6 +3,7 @@
 //! Its contracts say, of what the handles hold, what those of kp_node and kp_board say, whoever the board is.
 #![tactic(auto)]
 
+mod again;
 mod callers;
 mod calling;
 mod clusters;
@@ -10,6 +11,7 @@ mod describing;
 mod handing;
 mod handle;
 mod holding;
+mod left;
 mod loose;
 mod messages;
 mod misuse;
@@ -24,7 +26,8 @@ mod saying;
 mod segments;
 mod telling;
 
-pub use callers::{elect, leadership, tell_receipts, watermark};
+pub use again::{keep, leave, next_decided, next_elected, open_left, take_left};
+pub use callers::{elect, leadership, recall, tell_receipts, watermark};
 pub use calling::Called;
 pub use clusters::{close, open, open_caller, open_node};
 pub use describing::{KnownOut, ProducerOut, known, log_from, open_transactions, producer};
@@ -34,6 +37,7 @@ pub use holding::{
     aborted_at, addressee, batch_size, count, fetched_at, head_at, open_at, record_at, write_batch,
     write_value,
 };
+pub use left::{KeptIn, LeftNodes, PromiseIn};
 pub use messages::{decide, repeat, send, step};
 pub use misuse::Misuse;
 pub use nodes::{adopt, checkpoint, raise, restart, stop};

@@ -9,7 +9,7 @@ ghost use Rattle.kp_handles.specs.Called.{done_of, made_of};
 ghost use Rattle.kp_handles.specs.declared.misuse.Misuse.TheVariants.{NoRoom};
 ghost use Rattle.kp_handles.specs.Messages.{DecideCalled, DecideMet, IsRepeated, RepeatCalled, SendCalled, Sends, StepCalled, Decided, StepMet, Took, answer_of, handle_left, refusal_of};
 
-use crate::calling::{Called, give_by_node};
+use crate::calling::{Called, give_by_node, put_made};
 use crate::handle::{Handle, Unnamed, is_open, put, take_two};
 use crate::misuse::Misuse;
 use crate::object::{Kind, Object, filled, room};
@@ -287,12 +287,5 @@ pub fn repeat<B: BoardName + Unnamed>(
     let answer = repeat_objects(alloc, &first, &mut second);
     put(caller, first);
     put(letter, second);
-    match answer {
-        Ok(Ok(made)) => {
-            put(out, made);
-            Ok(Ok(()))
-        }
-        Ok(Err(refusal)) => Ok(Err(refusal)),
-        Err(misuse) => Err(misuse),
-    }
+    put_made(out, answer)
 }

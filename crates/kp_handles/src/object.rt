@@ -4,26 +4,25 @@ ghost use Rattle.std.specs.Prelude.{◌≡◌, IfOk, IfErr};
 ghost use Rattle.kp_handles.specs.Objects.{empty, object_view};
 ghost use Rattle.kp_handles.specs.declared.misuse.Misuse.TheVariants.{NoRoom};
 
+use crate::left::LeftNodes;
 use crate::misuse::Misuse;
 use crate::segments::SegmentShare;
 use bytes::BytesMut;
 use kp_batch::{Batch, Handed};
-use kp_board::{Board, BoardName, Callers, FreshPass, Message, Pass};
+use kp_board::{Board, BoardName, Callers, Message, Pass};
 use kp_node::{Fetched, Node};
 use kp_txns::OpenTransaction;
-use kp_types::Limits;
 use kp_visible::ReadRecords;
 use std::alloc::Global;
 use std::marker::Model;
 use std::sync::Arc;
 
-/// A board with the passes of the nodes that aren't open yet, what makes the passes of callers, and the sizes of the nodes' logs.
+/// A board with the nodes that aren't open yet, and what makes the passes of callers.
 #[derive(Drop)]
 pub struct Cluster<B: BoardName> {
     pub(crate) board: Arc<Board<B>, Global>,
-    pub(crate) waiting: Vec<FreshPass<B>>,
+    pub(crate) waiting: Vec<Node<B>>,
     pub(crate) callers: Callers<B>,
-    pub(crate) limits: Limits,
 }
 
 /// A caller's pass, with its board, and the block to which the bytes that it hands in are copied.
@@ -63,6 +62,7 @@ pub enum Kind<B: BoardName> {
     Transactions(Vec<OpenTransaction>),
     Segments(Vec<SegmentShare>),
     Handed(InHand),
+    Left(LeftNodes),
 }
 
 /// What a handle holds. A clause sees no name of a board.

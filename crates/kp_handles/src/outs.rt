@@ -1,16 +1,17 @@
 //! What calls read from their caller's memory, and write there.
-ghost use Rattle.std.specs.Prelude.{◌≡◌};
+ghost use Rattle.std.specs.Prelude.{◌≡◌, IfNone, IfSome};
+ghost use Rattle.kp_model.specs.declared.record.LeaderAndIsr.{LeaderAndIsr as ModelRecord};
 ghost use Rattle.kp_visible.specs.Lines.{line_of};
 ghost use Rattle.kp_handles.specs.Holding.{aborted_out, addressee_out, fetched_out, head_out, open_out, value_out};
 ghost use Rattle.kp_handles.specs.Outs.{ack_out, change_in, kind_in, limits_in, marker_in, receipt_in, receipt_out, leadership_out, restart_out, role_out};
 
 use kp_batch::Batch;
 use kp_marker::{Kind, Marker};
-use kp_model::{LeaderAndIsr, MessageBody};
+use kp_model::{Leader, LeaderAndIsr, MessageBody, NodeSet};
 use kp_node::{Ack, Fetched};
 use kp_replica::{Answer, IsrChange, Receipt, Role};
 use kp_txns::{AbortedTransaction, OpenTransaction};
-use kp_types::{Limits, NODE_PLACES};
+use kp_types::{Limits, MOST_NODES, NODE_PLACES};
 use kp_visible::ReadRecord;
 
 /// The sizes of the nodes' logs, in bytes.
@@ -110,6 +111,34 @@ impl LeadershipOut {
                 in_sync: known.isr.members,
             },
         }
+    }
+}
+
+impl LeadershipOut {
+    /// The record that it tells; none where it tells none: a version from 2^28 on, an epoch from 2^24 - 1 on, no such leader, or a leader
+    /// before the first election. O(1).
+    pub fn record(&self) -> Option<LeaderAndIsr>
+        ensures found { IfSome result (λ r. self.now ≡ leadership_out r) }
+        ensures none { IfNone result ((r : ModelRecord) → self.now ≡ leadership_out r → ⊥) }
+    {
+        let leader = match (self.elected, self.epoch, self.leader) {
+            (false, 0, 0) => None,
+            (true, epoch, node) if epoch < 0xff_ffff && node < MOST_NODES => Some(Leader {
+                node,
+                epoch,
+            }),
+            _ => return None,
+        };
+        if self.version >= 1 << 28 {
+            return None;
+        }
+        Some(LeaderAndIsr {
+            leader,
+            isr: NodeSet {
+                members: self.in_sync,
+            },
+            version: self.version,
+        })
     }
 }
 

@@ -5,7 +5,7 @@ ghost use Rattle.kp_types.specs.declared.refusal.Refusal.TheVariants.{Memory};
 ghost use Rattle.kp_segment.specs.Runs.{AreRunsOf};
 ghost use Rattle.kp_handles.specs.Segments.{GivesSegment, SegmentCalled, SegmentMet, SegmentsCalled};
 
-use crate::calling::{Called, give_by_node};
+use crate::calling::{Called, give_by_node, put_made};
 use crate::handle::{Handle, Unnamed, is_open, put, take};
 use crate::holding::copy_front;
 use crate::misuse::Misuse;
@@ -127,12 +127,5 @@ pub fn segment<B: BoardName + Unnamed>(
     let object = take::<B>(alloc, handle)?;
     let answer = segment_object(alloc, &object, index, to);
     put(handle, object);
-    match answer {
-        Ok(Ok(made)) => {
-            put(out, made);
-            Ok(Ok(()))
-        }
-        Ok(Err(refusal)) => Ok(Err(refusal)),
-        Err(misuse) => Err(misuse),
-    }
+    put_made(out, answer)
 }

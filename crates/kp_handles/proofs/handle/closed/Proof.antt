@@ -14,7 +14,8 @@ use denote.Steps.{nothing}
 use denote.Triple.Walked.{walk_of}
 use Rattle.std.specs.Prelude.{Option, None}
 use Rattle.std.proofs.raw_atomic.Walks.{proved_at, leaves}
-use Rattle.atomic_table.specs.Seated.{TableId}
+use Rattle.kp_board.specs.Opening.{BoardId}
+use Rattle.kp_model.specs.Left.{beginning}
 use Rattle.kp_handles.specs.Objects.{ObjectView}
 use Rattle.kp_handles.proofs.Values.{both}
 use Rattle.kp_handles.proofs.Handles.{handle_in}
@@ -28,7 +29,7 @@ closed_spec 𝓤 𝓛 𝓜 𝓡 wired =
     let H = 𝓛.H in let 𝓣 = tables 𝓤 H 𝓜 𝓡 𝓡.env in let c = clauses 𝓛 𝓜.mem 𝓡.returns in let fn = code.function in
     proved_at 𝓛 ended tt c 𝓜 𝓡 tt #self fn (code.unfolded 𝓤 H 𝓜 𝓡 wired) (λ z are.
     let Post : Val → SProp 𝓤 = (walk_of 𝓛 ended tt c).post z in
-    let z0 : TableId = record { words = 0; slots = 0; views_name = 0; atom = 0; block = 0; offset = 0; slot_names = [] } in
+    let z0 : BoardId = record { words = 0; id = record { words = 0; slots = 0; views_name = 0; atom = 0; block = 0; offset = 0; slot_names = [] }; opening = beginning 0 } in
     let none : Option ObjectView = None in
     qed 𝓛 ((‵ ftrue ⊛ ‵ ftrue) ∷ ‵ ftrue ∷ []) ∵ split ! $
     enter ! 𝓣.C 𝓣.Λ fn [] Post $ alloc_all ! (λ l. pass_all ! refl tt $

@@ -20,7 +20,7 @@ use denote.RattleType.{RattleType, owns}
 use types.Logic.{sem}
 use denote.Memory.{lone}
 use denote.RawPtr.{Ptr, block_ptr, null_ptr, ptr_val, in_a_block}
-use Rattle.atomic_table.specs.Seated.{TableId}
+use Rattle.kp_board.specs.Opening.{BoardId}
 use Rattle.core.specs.contracts.marker.Brand as Brand
 use denote.Signature.{types_at, plain}
 use denote.Steps.{nothing, heard}
@@ -57,7 +57,7 @@ into_loose_spec 𝓤 𝓛 𝓜 𝓡 wired B LB gB dB gU dU metB metU =
     split ! $ move ! (2 ∷ []) $ split3 ! $ drop ! $ heard ! _ (λ opened. heard ! _ (λ named.
     let x = (at_open v.object opened).0 in let held = (at_open v.object opened).1 in
     move ! (1 ∷ []) $ fsplit ! $ handle_tells (al R Z LZ g) ! a z.0.4.0 (λ h ea fits. move ! (1 ∷ []) $ fsplit ! $ handle_out ! v z.0.4.1.0 (λ ev.
-    rewrite ! 0 (λ (y : Option ObjectView). ‵ (object_owns v.table v.at y)) held refl $ rewrite ! 0 (λ (t : TableId). ‵ (owned_as Brand.the_row t v.at x)) named refl $
+    rewrite ! 0 (λ (y : Option ObjectView). ‵ (object_owns v.table v.at y)) held refl $ rewrite ! 0 (λ (t : BoardId). ‵ (owned_as Brand.the_row t v.at x)) named refl $
     in_a_block ! v.at (λ p. owned_as Brand.the_row gB.table p x) (fst∗ 𝓤 (never 𝓤) (sem 𝓛 (chunk (bare (lone (object_row Brand.the_row gB.table).mir)) null_ptr))) (λ b o e.
     rewrite ! 0 (λ (F : Fml). ‵ F) (sym (unnamed B gB (block_ptr b o) x gU.unnamed)) refl $
     -- [what lies there; nothing; the allocator; the tokens]

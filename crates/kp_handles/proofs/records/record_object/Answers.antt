@@ -2,11 +2,10 @@ use Rattle.std.proofs.Common.{◌≡◌, ◌∷◌, ◌∙◌, ℕ, List, refl, 
 use Rattle.std.proofs.lemmas.Option.{slice_get_read}
 use Rattle.std.specs.Prelude.{length}
 use Rattle.kp_record.specs.Lent.{lent}
-use Rattle.kp_batch.specs.RecordPlaces.{records_from}
+use Rattle.kp_batch.specs.Batch.{count_of}
+use Rattle.kp_batch.specs.RecordPlaces.{behind, records_from}
 use Rattle.kp_batch.specs.declared.record_place.RecordPlace.{RecordPlace}
-use Rattle.kp_model.specs.Transactions.{Aborted}
-use Rattle.kp_handles.specs.Records.{moved, named_in, record_out}
-use Rattle.kp_handles.specs.declared.records.RecordAt.{RecordAt}
+use Rattle.kp_handles.specs.Records.{moved, named_in, next_record, place_of, record_out}
 use Rattle.kp_handles.proofs.RecordParts.{batch_is}
 use Rattle.kp_handles.proofs.records.record_object.Goals as goal
 
@@ -18,14 +17,17 @@ returns-clause-found g c =
     let w = c.in-Some.batch.now in
     let r = lent c.in-Some-record_at.record in
     let next = c.in-Some-record_at.next in
-    let there = slice_get_read ws (length ws) at.batch w refl c.in-Some.ensures.lookup.3.0 c.in-Some.ensures.lookup.1 in (
+    let is : next ≡ behind w.body.base_time (place_of at) r =
+    c.in-Some-record_at.ensures.next ∙ ap (λ (p : RecordPlace). behind w.body.base_time p r) c.place.ensures in
+    let there = slice_get_read ws (length ws) at.batch w refl c.in-Some.ensures.lookup.3.0 c.in-Some.ensures.lookup.1 in
+    let moves : c.moved-next.result ≡ next_record at w r =
+    c.moved-next.ensures ∙ ap (λ (n : ℕ). moved at.batch next n) c.count.ensures.value
+    ∙ ap (λ (p : RecordPlace). moved at.batch p (count_of w.body)) is in (
       o,
       w,
       r,
-      next,
       refl,
       batch_is at o ws c.in_ok-batches.ensures.found w there,
-      subst (λ (p : RecordPlace). records_from p w.body ≡ r ∷ records_from next w.body) c.place.ensures c.in-Some-record_at.ensures.found,
-      c.told.ensures ∙ ap (λ (aborted : List Aborted). record_out aborted at w r c.moved-next.result) c.aborted_of.ensures
-          ∙ ap (λ (n : RecordAt). record_out (named_in o) at w r n) (c.moved-next.ensures ∙ ap (λ (n : ℕ). moved at.batch next n) c.count.ensures.value),
+      subst (λ (p : RecordPlace × RecordPlace). records_from p.0 w.body ≡ r ∷ records_from p.1 w.body) (λ i. (c.place.ensures i, is i)) c.in-Some-record_at.ensures.found,
+      c.told.ensures ∙ (λ i. record_out (c.aborted_of.ensures i) at w r (moves i)),
     )

@@ -2,7 +2,7 @@
 use base.Shift.{Keyless}
 use denote.RawPtr.{Ptr}
 use denote.Param.Send.{IsSend}
-use Rattle.atomic_table.specs.Seated.{TableId}
+use Rattle.kp_board.specs.Opening.{BoardId}
 use Rattle.core.specs.contracts.marker.Brand as Brand
 use Rattle.std.proofs.Crossing.{frees}
 use Rattle.std.specs.Prelude.{Option, None, Some}
@@ -12,7 +12,7 @@ use Rattle.kp_handles.specs.Objects.{ObjectView}
 use Rattle.kp_handles.specs.Rows.{object_owns, object_row, the_heap}
 use Rattle.kp_handles.specs.contracts.handle.Handle.{the_row}
 
-owns_keyless : (t : TableId) (p : Ptr) (x : Option ObjectView) → Keyless (object_owns t p x)
+owns_keyless : (t : BoardId) (p : Ptr) (x : Option ObjectView) → Keyless (object_owns t p x)
 owns_keyless t p None = tt
 owns_keyless t p (Some o) = (lies (object_row Brand.the_row t) (the_send Brand.the_row (record { table = t })) p o, frees.frees the_heap _ p)
 
