@@ -247,6 +247,55 @@ typedef struct {
 /* Starts a stopped node again, idle. 24, 28, 33. Proved: `NodeCalled`, `Restarts` (`Node::restart`). */
 uint32_t kp_restart(kp_handle *node, kp_restarted *restarted);
 
+/* ---- opening again what a process has left: logs that outlive it
+ *
+ * A host keeps of each node its log (the bytes of its batches, in their order: kp_log_from, kp_batch) and its state (checkpoint, life
+ * and kept epoch of kp_show), and the controller's record. A new process reads them back and goes on. Which write has to be on the disk
+ * before which call is the host's duty: no code can see that a process left just this (docs/DURABLE.md).
+ * Not kept, as a restart begins without it: high watermarks, passes, receipts, messages. */
+
+typedef struct {
+    uint64_t checkpoint; /* the high watermark from which a restart begins */
+    uint64_t life;       /* how often it was restarted */
+    uint32_t kept_epoch; /* the leader epoch that it last took up */
+    bool adopted;        /* whether it has ever taken up one */
+} kp_kept;
+
+/* What the process that ended had promised: the batches of this node's log below the offset. They are what kp_acked had said Yes of. At
+ * offset 0 nothing is promised. */
+typedef struct {
+    uint64_t offset;
+    uint8_t node;
+} kp_promise;
+
+/* Opens a place for nodes that are read back; it has none yet. KP_IN_USE, KP_NO_ROOM (`BadLeave`). Proved: its limits, and no nodes. */
+uint32_t kp_left(kp_handle *left, const kp_limits *limits);
+
+/* Reads back a node's log from its bytes, which are copied once: node 0 first. It is down then, in the life behind the one that was kept.
+ * 24 where there is none; 1 to 10, the bytes' first fault; 26, 27 or 25 by the first batch that doesn't stand behind those before it; 19
+ * where the checkpoint is no boundary of the log; 33. KP_OUT_OF_RANGE where 7 nodes are there.
+ * Proved: `KeepCalled` (`KeptNode::read_back`). */
+uint32_t kp_keep(kp_handle *left, const uint8_t *bytes, size_t length, const kp_kept *kept);
+
+/* Opens a cluster with these nodes, which kp_open_node gives, each down: kp_restart, and it goes on. The place is closed then. At 33 it is
+ * closed, too: read back again.
+ * DUTY: some process has left these nodes and this record, with no call under way that was not on the disk, and a node of it had held what
+ * is promised (`MayOpenAgain`). KP_OUT_OF_RANGE where `known` is no record; KP_IN_USE of an open cluster (`BadAgain`).
+ * Proved: `AgainCalled`: the run goes on from the one that left them (kp_node's `open_again`, `seat_again`). */
+uint32_t kp_open_again(kp_handle *left, const kp_leadership_out *known, const kp_promise *promise, kp_handle *cluster);
+
+/* Makes what was promised a part of what the pass has seen, so that all that it sees later goes on from that.
+ * Proved: `CallerCalled`, `Recalls` (`Board::recall`). */
+uint32_t kp_recall(kp_handle *pass);
+
+/* What a record becomes by a node's election, so that it can be kept before kp_elect: 21, 24; KP_OUT_OF_RANGE where `known` is no record.
+ * Memory: none. Proved: `NextElected`. */
+uint32_t kp_elected(const kp_leadership_out *known, uint8_t node, kp_leadership_out *next);
+
+/* What a record becomes by a decision on the proposal that a message is, so that it can be kept before kp_decide: 24; KP_OTHER_KIND of no
+ * proposal, KP_OUT_OF_RANGE where `known` is no record. Memory: none. Proved: `NextDecided`. */
+uint32_t kp_decided(kp_handle *message, const kp_leadership_out *known, kp_leadership_out *next);
+
 /* ---- a node, for a pass */
 
 typedef struct {

@@ -98,6 +98,29 @@ static void wants_record_misuses(world *w, kp_handle *node, kp_handle *message) 
     WANT(kp_close(&other), KP_CLOSED);
 }
 
+static void wants_again_misuses(world *w, kp_handle *node, kp_handle *message) {
+    kp_handle closed = {0}, other = {0};
+    kp_kept kept = {0};
+    kp_promise nothing = {0};
+    kp_leadership_out known = {0}, none = {.leader = 1}, next;
+    WANT(kp_left(&w->pass, &roomy), KP_IN_USE);
+    WANT(kp_keep(&closed, one_record.bytes, one_record.size, &kept), KP_CLOSED);
+    WANT(kp_keep(node, one_record.bytes, one_record.size, &kept), KP_OTHER_KIND);
+    WANT(kp_open_again(&closed, &known, &nothing, &other), KP_CLOSED);
+    WANT(kp_open_again(node, &known, &nothing, &other), KP_OTHER_KIND);
+    WANT(kp_open_again(node, &none, &nothing, &other), KP_OUT_OF_RANGE);
+    WANT(kp_open_again(node, &known, &nothing, &w->cluster), KP_IN_USE);
+    WANT(kp_recall(&closed), KP_CLOSED);
+    WANT(kp_recall(&w->cluster), KP_OTHER_KIND);
+    WANT(kp_elected(&none, 0, &next), KP_OUT_OF_RANGE);
+    WANT(kp_decided(&closed, &known, &next), KP_CLOSED);
+    WANT(kp_decided(node, &known, &next), KP_OTHER_KIND);
+    WANT(kp_decided(message, &known, &next), KP_OTHER_KIND); /* a request */
+    WANT(kp_decided(message, &none, &next), KP_OUT_OF_RANGE);
+    WANT(kp_close(&closed), KP_CLOSED);
+    WANT(kp_close(&other), KP_CLOSED);
+}
+
 static void wants_receipts_misuses(world *w, kp_handle *node) {
     kp_handle closed = {0};
     WANT(kp_tell_receipts(&closed, &w->pass), KP_CLOSED);
@@ -130,6 +153,7 @@ static void wants_no_room(world *w, kp_handle *node, kp_handle *handed, kp_handl
     kp_receipt receipt = {.base = 1, .last = 2, .place = 3, .epoch = 4, .duplicate = true};
     WANT(kp_open(&closed, 7, &roomy), KP_NO_ROOM);
     WANT(kp_open_pass(&w->cluster, &closed), KP_NO_ROOM);
+    WANT(kp_left(&closed, &roomy), KP_NO_ROOM);
     WANT(kp_read(node, &w->pass, 0, &closed), KP_NO_ROOM);
     WANT(kp_read_committed(node, &w->pass, 0, &closed), KP_NO_ROOM);
     WANT(kp_fetch(node, &w->pass, 0, 1, true, &closed), KP_NO_ROOM);
@@ -179,6 +203,7 @@ static void misuses_have_their_numbers(void) {
         wants_pair_misuses(&w, &w.nodes[LEADER]);
         wants_description_misuses(&w, &w.nodes[LEADER]);
         wants_record_misuses(&w, &w.nodes[LEADER], &message);
+        wants_again_misuses(&w, &w.nodes[LEADER], &message);
         wants_receipts_misuses(&w, &w.nodes[LEADER]);
         wants_node_misuses(&w, &w.nodes[LEADER], &segments);
         WANT(blocks, held);

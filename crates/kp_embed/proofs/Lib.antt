@@ -1,1 +1,2 @@
 pub mod OneCluster
+pub mod OpenedAgain

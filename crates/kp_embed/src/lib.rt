@@ -3,6 +3,7 @@
 //! Its contracts say of the handles what those of kp_handles say.
 #![tactic(auto)]
 
+mod again;
 mod answers;
 mod callers;
 mod clusters;
