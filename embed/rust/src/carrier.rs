@@ -1,7 +1,7 @@
 //! What carries messages from node to node: the thread that has a node ask, and where a link holds something back the workers' channels.
 
 use crate::cluster::{Cluster, Pass, lock};
-use crate::error::{Error, Refusal};
+use crate::error::Error;
 use crate::inbox::{Letter, Parcel};
 use crate::links::{Fate, Links, Place};
 use crate::message::{Addressee, Message, Said};
@@ -273,7 +273,7 @@ impl Carrier {
             Ok(None) if brings => node.ask().ok(),
             Ok(None) => None,
             Err(error) => {
-                is_down = node.checkpoint() == Err(Refusal::Down.into());
+                is_down = node.is_down();
                 // It has fallen also where something else comes before its next turn, and is refused since it is down.
                 if is_down && error.is_memory() {
                     desk.set_fallen(true);

@@ -4,7 +4,8 @@ use crate::error::Error;
 use crate::ffi::{Limits, RawCluster, RawMessage, RawNode, RawPass, RestartOut, RoleOut};
 use crate::message::Message;
 use crate::node::Node;
-use crate::values::{Ack, Leadership, Receipt, Role};
+use crate::store::{Keeper, RecordKeeper};
+use crate::values::{Ack, Leadership, NodeState, Receipt, Role};
 use std::mem::replace;
 use std::ops::{Deref, DerefMut};
 use std::sync::atomic::{AtomicU64, AtomicUsize, Ordering};
@@ -105,12 +106,24 @@ pub(crate) struct Past {
     pub role: Option<Role>,
 }
 
+// What keeps a cluster in a store's folder.
+#[derive(Debug)]
+pub(crate) struct Keeping {
+    // Of each node.
+    pub keepers: Vec<Keeper>,
+    pub record: Arc<RecordKeeper>,
+    // Whether something was promised that each pass recalls.
+    pub recalls: bool,
+}
+
 #[derive(Debug)]
 struct Kept {
     raw: RawNode,
     past: Past,
     // A high watermark that it had in this life; where nobody waits it may have a higher one.
     mark: u64,
+    // Of a node in a store.
+    keeper: Option<Keeper>,
 }
 
 #[derive(Debug)]
@@ -120,9 +133,11 @@ struct Room {
 }
 
 impl Room {
-    fn new(raw: RawNode) -> Room {
-        let kept = Kept { raw, past: Past::default(), mark: 0 };
-        Room { kept: Mutex::new(kept), bell: Bell::default() }
+    fn new(mut raw: RawNode, keeper: Option<Keeper>) -> Result<Room, Error> {
+        let state = raw.show()?;
+        let past = Past { life: state.life, ..Past::default() };
+        let kept = Kept { raw, past, mark: state.watermark, keeper };
+        Ok(Room { kept: Mutex::new(kept), bell: Bell::default() })
     }
 }
 
@@ -152,23 +167,57 @@ impl Held<'_> {
         self.kept.past
     }
 
+    // Has the keeper do its part, where a store keeps the node. A node whose files can't be written is stopped.
+    fn keeps(&mut self, part: impl FnOnce(&mut Keeper, &mut RawNode, &NodeState) -> Result<(), Error>) -> Result<(), Error> {
+        let Kept { raw, past, keeper: Some(keeper), .. } = &mut *self.kept else { return Ok(()) };
+        let state = NodeState::from(raw.show()?);
+        let done = part(keeper, raw, &state);
+        if matches!(done, Err(Error::Store(_))) && raw.stop().is_ok() {
+            past.role = None;
+            self.bell.ring();
+        }
+        done
+    }
+
     pub(crate) fn adopt(&mut self) -> Result<RoleOut, Error> {
+        self.keeps(Keeper::before_sending)?;
         let role = self.kept.raw.adopt()?;
         let past = &mut self.kept.past;
         (past.records, past.role) = (past.records + 1, Some(Role::from(role)));
         self.bell.ring();
+        self.keeps(Keeper::after_change)?;
         Ok(role)
     }
 
     pub(crate) fn raise(&mut self) -> Result<u64, Error> {
+        self.keeps(Keeper::before_sending)?;
         let mark = self.kept.raw.raise()?;
         if self.has_moved(mark) {
+            if let Some(keeper) = &mut self.kept.keeper {
+                keeper.note_mark(mark);
+            }
             self.bell.ring();
         }
         Ok(mark)
     }
 
+    pub(crate) fn checkpoint(&mut self) -> Result<u64, Error> {
+        self.keeps(Keeper::before_checkpoint)?;
+        self.kept.raw.checkpoint()
+    }
+
+    // A checkpoint at a node's own turn, which a store notes more rarely; the high watermark in any case.
+    pub(crate) fn note(&mut self) -> Result<u64, Error> {
+        match &self.kept.keeper {
+            Some(keeper) if !keeper.is_due() => self.kept.raw.show().map(|it| it.watermark),
+            _ => self.checkpoint(),
+        }
+    }
+
     pub(crate) fn stop(&mut self) -> Result<(), Error> {
+        if let Err(error @ Error::Store(_)) = self.keeps(Keeper::before_stop) {
+            return Err(error); // it is stopped all the same
+        }
         self.kept.raw.stop()?;
         self.kept.past.role = None;
         self.bell.ring();
@@ -176,14 +225,27 @@ impl Held<'_> {
     }
 
     pub(crate) fn restart(&mut self) -> Result<RestartOut, Error> {
+        self.keeps(Keeper::before_start)?;
         let restarted = self.kept.raw.restart()?;
         (self.kept.past.life, self.kept.past.role) = (restarted.life, None);
         self.kept.mark = restarted.watermark;
         self.bell.ring();
+        self.keeps(Keeper::after_change)?;
         Ok(restarted)
     }
 
+    pub(crate) fn ask(&mut self) -> Result<RawMessage, Error> {
+        self.keeps(Keeper::before_sending)?;
+        self.kept.raw.ask()
+    }
+
+    pub(crate) fn alter(&mut self, joins: bool, which: u8) -> Result<RawMessage, Error> {
+        self.keeps(Keeper::before_sending)?;
+        self.kept.raw.alter(joins, which)
+    }
+
     pub(crate) fn step(&mut self, message: RawMessage) -> Result<Option<RawMessage>, Error> {
+        self.keeps(Keeper::before_sending)?;
         let stepped = self.kept.raw.step(message);
         match &stepped {
             Ok(_) => {
@@ -193,6 +255,9 @@ impl Held<'_> {
             }
             Err(error) if error.is_memory() => self.bell.ring(), // it may be down
             Err(_) => {}                                         // it is as before
+        }
+        if matches!(stepped, Ok(None)) {
+            self.keeps(Keeper::after_step)?;
         }
         stepped
     }
@@ -216,11 +281,17 @@ struct Shared {
     number: u64,
     board: Mutex<RawCluster>,
     nodes: Vec<Room>,
+    // Of a cluster in a store.
+    record: Option<Arc<RecordKeeper>>,
+    recalls: bool,
 }
 
 /// One to seven nodes that replicate one log, and the controller's record of who leads. A clone is the same cluster; its memory is
-/// freed with the last clone and the last [`Pass`]. The logs lie in memory alone. It may be shared among threads; what is called of a
-/// node waits for that node's lock alone.
+/// freed with the last clone and the last [`Pass`]. The logs lie in memory alone, unless a [`Store`](crate::Store) has opened it. It may be
+/// shared among threads; what is called of a node waits for that node's lock alone.
+///
+/// Of a cluster in a store, what a node's calls rest on is on the disk first: they wait for the disk, may be refused by F33, and give
+/// [`Error::Store`] where it fails.
 ///
 /// ```
 /// use kpart::{Ack, Cluster, Limits, Role};
@@ -248,9 +319,18 @@ impl Cluster {
     /// Opens so many nodes, with empty logs: all in sync, and nobody leads. [`Error::OutOfRange`] above seven nodes,
     /// [`Error::NoRoom`]. O(n) in the nodes.
     pub fn open(nodes: u8, limits: Limits) -> Result<Cluster, Error> {
-        let mut board = RawCluster::open(nodes, &limits)?;
-        let opened: Result<Vec<Room>, Error> = (0..nodes).map(|_| board.node().map(Room::new)).collect();
-        let shared = Shared { number: board.cluster(), nodes: opened?, board: Mutex::new(board) };
+        Cluster::of(RawCluster::open(nodes, &limits)?, nodes, None)
+    }
+
+    // The board's nodes, of which none is open yet.
+    pub(crate) fn of(mut board: RawCluster, nodes: u8, keeping: Option<Keeping>) -> Result<Cluster, Error> {
+        let (keepers, record, recalls) = match keeping {
+            Some(it) => (it.keepers, Some(it.record), it.recalls),
+            None => (Vec::new(), None, false),
+        };
+        let mut keepers = keepers.into_iter();
+        let opened: Result<Vec<Room>, Error> = (0..nodes).map(|_| Room::new(board.node()?, keepers.next())).collect();
+        let shared = Shared { number: board.cluster(), nodes: opened?, board: Mutex::new(board), record, recalls };
         Ok(Cluster { shared: Arc::new(shared) })
     }
 
@@ -259,10 +339,13 @@ impl Cluster {
         self.shared.nodes.len() as u8
     }
 
-    /// A new caller's pass. [`Error::NoRoom`]. O(1).
+    /// A new caller's pass; of a cluster in a store it has recalled what was promised ([`Pass::recall`]). [`Error::NoRoom`]. O(1).
     pub fn pass(&self) -> Result<Pass, Error> {
-        let raw = lock(&self.shared.board).pass()?;
-        Ok(Pass { raw })
+        let mut raw = lock(&self.shared.board).pass()?;
+        if self.shared.recalls {
+            raw.recall()?;
+        }
+        Ok(Pass { raw, record: self.shared.record.clone() })
     }
 
     /// Waits for a node's lock, and takes it. Let go of it before you ask for another node's, as two threads that hold one node
@@ -364,13 +447,19 @@ impl Cluster {
 #[derive(Debug)]
 pub struct Pass {
     pub(crate) raw: RawPass,
+    // Of a cluster in a store.
+    record: Option<Arc<RecordKeeper>>,
 }
 
 impl Pass {
     /// Elects a node, which has to be in sync (F21), by one exchange at the controller's record; F22 where another change came
-    /// between. Nodes learn it by [`Node::adopt`]. F24 where epochs are used up. O(1), takes no lock, and waits for nobody.
+    /// between. Nodes learn it by [`Node::adopt`]. F24 where epochs are used up. O(1), takes no lock, and waits for nobody; but of a cluster
+    /// in a store elections and decisions come one by one, each once its record is on the disk, so F22 doesn't come.
     pub fn elect(&mut self, node: u8) -> Result<Leadership, Error> {
-        self.raw.elect(node).map(Leadership::from)
+        match &self.record {
+            Some(record) => record.elect(&mut self.raw, node),
+            None => self.raw.elect(node).map(Leadership::from),
+        }
     }
 
     /// The controller's record as it is now. O(1), and no lock.
@@ -409,9 +498,18 @@ impl Pass {
     }
 
     /// What the controller decides on a proposal ([`Node::alter`]): hand it to the node that it goes to. F24 where versions are used
-    /// up; F29 where the message is no proposal. The message is spent in any case. O(1), and no lock.
+    /// up; F29 where the message is no proposal. The message is spent in any case. O(1), and no lock but in a store, as [`Pass::elect`].
     pub fn decide(&mut self, proposal: Message) -> Result<Message, Error> {
-        Message::new(self.raw.decide(proposal.raw)?)
+        match &self.record {
+            Some(record) => record.decide(&mut self.raw, proposal),
+            None => Message::new(self.raw.decide(proposal.raw)?),
+        }
+    }
+
+    /// Makes what the process had promised that left the cluster ([`Cluster::open_again`]) a part of what this pass has seen, so that all that
+    /// it sees later, at any node, goes on from that. Of any other cluster nothing was promised. O(1), and no lock.
+    pub fn recall(&mut self) -> Result<(), Error> {
+        self.raw.recall()
     }
 }
 

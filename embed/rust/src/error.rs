@@ -4,6 +4,7 @@ use std::fmt;
 use std::sync::OnceLock;
 
 use crate::ffi::Text;
+use crate::store::StoreFault;
 
 /// What the rules say of a call that they refuse, by the numbers F1 to F34 of `docs/RULES.md`. The node or the record is as before
 /// but at [`Refusal::Memory`], where a node that took batches is down.
@@ -190,6 +191,8 @@ pub enum Error {
     OtherCluster,
     /// The system gave no thread for a worker; those that were started have ended.
     NoThread,
+    /// A file of a store ([`Store`](crate::Store)) could not be written, and what rests on it wasn't done.
+    Store(StoreFault),
     /// The library says that a handle is closed, or of another kind, which these types exclude: its number.
     Misuse(u32),
 }
@@ -217,6 +220,12 @@ impl From<Refusal> for Error {
     }
 }
 
+impl From<StoreFault> for Error {
+    fn from(fault: StoreFault) -> Error {
+        Error::Store(fault)
+    }
+}
+
 impl fmt::Display for Refusal {
     fn fmt(&self, out: &mut fmt::Formatter<'_>) -> fmt::Result {
         write!(out, "F{} {}", self.number(), self.name())?;
@@ -236,6 +245,7 @@ impl fmt::Display for Error {
             Error::BadLength => out.write_str("too many bytes, or too few places"),
             Error::NoThread => out.write_str("the system gave no thread"),
             Error::OtherCluster => out.write_str("the pass or the message is of another cluster"),
+            Error::Store(fault) => fault.fmt(out),
             Error::Misuse(number) => write!(out, "misuse {number}"),
         }
     }

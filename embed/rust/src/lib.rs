@@ -14,6 +14,7 @@
 //! | to read records, none of an aborted transaction | [`Node::read_committed`] |
 //! | to answer a Kafka consumer's fetch, of one moment | [`Node::fetch`] |
 //! | to know what a node is, and where it stands | [`Node::show`], [`Node::end_for`], [`Node::offset_for_time`] |
+//! | logs that outlive the process | [`Store::open`]; with files of your own [`Left`], [`Cluster::open_again`] |
 //! | to keep a node's log as files | [`Node::segments`] |
 //! | to wait until something is committed, without a loop | [`Cluster::wait_acked`], [`Cluster::wait_mark`] |
 //! | followers to replicate | [`Workers`], or [`Node::ask`] and [`Node::step`] by hand |
@@ -85,12 +86,14 @@ mod fetched;
 #[allow(unsafe_code)]
 mod ffi;
 mod inbox;
+mod left;
 mod links;
 mod message;
 mod node;
 mod record;
 mod records;
 mod segments;
+mod store;
 mod teller;
 mod values;
 mod workers;
@@ -101,15 +104,17 @@ pub use cluster::{Cluster, Pass};
 pub use error::{Error, Refusal};
 pub use fetched::{AbortedTransaction, Fetched, Isolation};
 pub use ffi::Limits;
+pub use left::Left;
 pub use links::{Link, Place};
 pub use message::{Addressee, Message, Said};
 pub use node::Node;
 pub use record::{Header, Record, ShownRecords};
 pub use records::{CommittedRecord, Records};
 pub use segments::{Segment, Segments};
+pub use store::{Store, StoreError, StoreFault, StoreFile, TornTail};
 pub use teller::Event;
 pub use values::{
-    Ack, BatchHead, Change, EpochEnd, Known, Leadership, Marker, NodeState, OpenTransaction, ProducerState, Receipt, Restarted, Role,
-    Status, TimeOffset,
+    Ack, BatchHead, Change, EpochEnd, Kept, Known, Leadership, Marker, NodeState, OpenTransaction, ProducerState, Promise, Receipt,
+    Restarted, Role, Status, TimeOffset,
 };
 pub use workers::Workers;

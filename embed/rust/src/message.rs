@@ -1,9 +1,9 @@
 //! Messages between nodes, or between a leader and the controller.
 
 use crate::cluster::Pass;
-use crate::error::Error;
+use crate::error::{Error, Refusal};
 use crate::ffi::{RawMessage, SaidOut};
-use crate::values::EpochEnd;
+use crate::values::{EpochEnd, Leadership};
 
 /// Whom a message goes to, or comes from.
 #[derive(Clone, Copy, Debug, PartialEq, Eq)]
@@ -141,5 +141,31 @@ impl Message {
     /// ```
     pub fn repeat(&mut self, pass: &mut Pass) -> Result<Message, Error> {
         Message::new(self.raw.repeat(&mut pass.raw)?)
+    }
+
+    /// What a record becomes by a decision on the proposal that this is ([`Node::alter`](crate::Node::alter)), so that a host can keep it
+    /// before [`Pass::decide`](crate::Pass::decide): the same again where the proposal names another record. F24; F29 where the message is
+    /// no proposal; [`Error::OutOfRange`] where `leadership` is no record. No memory; O(1).
+    ///
+    /// ```
+    /// use kpart::{Change, Cluster, Limits};
+    ///
+    /// # fn main() -> Result<(), kpart::Error> {
+    /// let cluster = Cluster::open(2, Limits::default())?;
+    /// let mut pass = cluster.pass()?;
+    /// let elected = pass.elect(0)?;
+    /// cluster.node(0)?.adopt()?;
+    /// let mut proposal = cluster.node(0)?.alter(Change::Leave(1))?;
+    /// let next = proposal.decided(&elected)?;
+    /// assert!(!next.has_in_sync(1));
+    /// pass.decide(proposal)?;
+    /// assert_eq!(pass.leadership()?, next);
+    /// # Ok(()) }
+    /// ```
+    pub fn decided(&mut self, leadership: &Leadership) -> Result<Leadership, Error> {
+        match self.to {
+            Addressee::Controller => self.raw.decided(&leadership.into()).map(Leadership::from),
+            Addressee::Node(_) => Err(Refusal::StaleAnswer.into()),
+        }
     }
 }

@@ -10,7 +10,7 @@ use crate::message::Message;
 use crate::records::Records;
 use crate::segments::Segments;
 use crate::values::{
-    Ack, Change, EpochEnd, Known, Marker, NodeState, OpenTransaction, ProducerState, Receipt, Restarted, Role, TimeOffset,
+    Ack, Change, EpochEnd, Known, Marker, NodeState, OpenTransaction, ProducerState, Receipt, Restarted, Role, Status, TimeOffset,
 };
 
 /// A node, as long as its lock is held: drop it to let others in. Each call is an event of the run, or none, as a read; a node that is
@@ -50,6 +50,15 @@ impl<'a> Node<'a> {
     /// Notes the high watermark: a restart begins there. O(1).
     pub fn checkpoint(&mut self) -> Result<u64, Error> {
         self.raw.checkpoint()
+    }
+
+    // At its own turn, and where that is.
+    pub(crate) fn note(&mut self) -> Result<u64, Error> {
+        self.raw.note()
+    }
+
+    pub(crate) fn is_down(&mut self) -> bool {
+        self.show().is_ok_and(|it| it.status == Status::Down)
     }
 
     /// Stops the node, which keeps its log and its checkpoint. O(1).

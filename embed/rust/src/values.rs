@@ -1,7 +1,9 @@
 //! Plain values that calls take and give.
 
+use crate::error::Error;
 use crate::ffi::{
-    EpochOut, HeadOut, KnownOut, LeadershipOut, MarkerIn, OpenOut, ProducerOut, ReceiptOut, RestartOut, RoleOut, StateOut, TimeOut,
+    EpochOut, HeadOut, KeptIn, KnownOut, LeadershipOut, MarkerIn, OpenOut, ProducerOut, PromiseIn, ReceiptOut, RestartOut, RoleOut,
+    StateOut, TimeOut,
 };
 
 /// What a node is under the controller's record that it took up.
@@ -146,6 +148,52 @@ impl Leadership {
     pub fn has_in_sync(&self, node: u8) -> bool {
         self.in_sync.get(usize::from(node)).is_some_and(|it| *it)
     }
+
+    /// What this record becomes by the node's election, so that a host can keep it before [`Pass::elect`](crate::Pass::elect). F21, F24;
+    /// [`Error::OutOfRange`] where it is no record: a leader, an epoch or a version that no cluster has. No memory; O(1).
+    ///
+    /// ```
+    /// use kpart::{Cluster, Limits, Refusal};
+    ///
+    /// # fn main() -> Result<(), kpart::Error> {
+    /// let cluster = Cluster::open(2, Limits::default())?;
+    /// let mut pass = cluster.pass()?;
+    /// let next = pass.leadership()?.elected(1)?;
+    /// assert_eq!(next.leader, Some((1, 0)));
+    /// assert_eq!(pass.elect(1)?, next);
+    /// assert_eq!(next.elected(2), Err(Refusal::NotInSync.into())); // there is no such node
+    /// # Ok(()) }
+    /// ```
+    pub fn elected(&self, node: u8) -> Result<Leadership, Error> {
+        LeadershipOut::from(self).elected(node).map(Leadership::from)
+    }
+}
+
+/// What a host keeps of a node beside its log, for a process that opens it again: of [`Node::show`](crate::Node::show).
+#[derive(Clone, Copy, Debug, Default, PartialEq, Eq)]
+pub struct Kept {
+    /// The high watermark from which a restart begins.
+    pub checkpoint: u64,
+    /// How often it was restarted; more than that does no harm.
+    pub life: u64,
+    /// The leader epoch that it last took up; none where it has taken up none.
+    pub kept_epoch: Option<u32>,
+}
+
+impl From<&NodeState> for Kept {
+    fn from(state: &NodeState) -> Kept {
+        Kept { checkpoint: state.checkpoint, life: state.life, kept_epoch: state.kept_epoch }
+    }
+}
+
+/// What a process had promised that has ended: the batches of a node's log below an offset, of which [`Node::acked`](crate::Node::acked)
+/// had said yes. At offset 0 nothing is promised.
+#[derive(Clone, Copy, Debug, Default, PartialEq, Eq)]
+pub struct Promise {
+    /// The node, which had a high watermark at or above the offset.
+    pub node: u8,
+    /// The offset.
+    pub offset: u64,
 }
 
 /// A node that started again.
@@ -301,6 +349,28 @@ impl From<LeadershipOut> for Leadership {
     fn from(record: LeadershipOut) -> Leadership {
         let leader = record.elected.then_some((record.leader, record.epoch));
         Leadership { version: record.version, leader, in_sync: record.in_sync }
+    }
+}
+
+impl From<&Leadership> for LeadershipOut {
+    fn from(record: &Leadership) -> LeadershipOut {
+        let Leadership { version, leader, in_sync } = *record;
+        let (node, epoch) = leader.unwrap_or_default();
+        LeadershipOut { version, epoch, leader: node, elected: leader.is_some(), in_sync }
+    }
+}
+
+impl From<Kept> for KeptIn {
+    fn from(kept: Kept) -> KeptIn {
+        let Kept { checkpoint, life, kept_epoch } = kept;
+        KeptIn { checkpoint, life, kept_epoch: kept_epoch.unwrap_or_default(), adopted: kept_epoch.is_some() }
+    }
+}
+
+impl From<Promise> for PromiseIn {
+    fn from(promise: Promise) -> PromiseIn {
+        let Promise { node, offset } = promise;
+        PromiseIn { offset, node }
     }
 }
 

@@ -24,8 +24,8 @@ const SLOWEST: u32 = 8;
 /// A worker for each node and one for the controller: each a thread, with a channel of std for what comes to it.
 ///
 /// At its turn, which comes again and again, a node takes up the controller's record; then it asks its leader, unless an answer is
-/// under way, or, where it leads, raises its high watermark; and it notes its high watermark as the checkpoint. A follower that
-/// took batches asks again at once. While a node's turns do nothing, as nothing changes or others were faster, they come more rarely, at last
+/// under way, or, where it leads, raises its high watermark; and it notes its high watermark as the checkpoint, in a store once a second at
+/// most. A follower that took batches asks again at once. While a node's turns do nothing, as nothing changes or others were faster, they come more rarely, at last
 /// eight times as late; [`Workers::turn`] ends that at once. A node that was stopped stays down until somebody restarts it; one that went down as memory
 /// was refused in a take is started again at its next turn. Dropping the workers stops them. [`Workers::start_with`] tells the host
 /// what becomes of the nodes; by [`Workers::link`] a test loses messages, holds them back, or doubles them.
@@ -321,7 +321,7 @@ impl Worker {
             desk.set_asked(None);
         }
         let leads = node.raise().is_ok();
-        let noted = node.checkpoint().unwrap_or(self.noted);
+        let noted = node.note().unwrap_or(self.noted);
         let has_moved = noted != replace(&mut self.noted, noted);
         desk.look(&node, adopted == Err(Refusal::Down.into()));
         Ok(adopted.is_ok() || leads && has_moved)
