@@ -222,6 +222,11 @@ fn check(image: &BTreeMap<String, Vec<u8>>, nodes: u8, told: usize, had_power: b
     let found = all_values(&cluster, chance).expect("it goes on");
     assert!(found.len() >= told, "{told} were told, and {} are there", found.len());
     assert!(found.iter().enumerate().all(|(number, it)| *it == value(number)), "{found:?}");
+    // Nothing of what was there before is in the way of what came behind it.
+    drop(cluster);
+    let (cluster, store) = Store::open(&folder.0, nodes, LIMITS).unwrap_or_else(|it| panic!("{it}"));
+    assert_eq!(store.torn, []);
+    assert!(all_values(&cluster, chance).expect("it goes on").len() >= told);
 }
 
 // How many operations were heard of, and what the client was told by then.
@@ -492,5 +497,25 @@ fn an_opening_that_fails_is_tried_again() -> Result<(), Error> {
         }
         assert!(fault > 10, "{fault} operations");
     }
+    Ok(())
+}
+
+// A record that was read when the store was opened is there for good: a process that was killed as it wrote it may not have come so far.
+#[test]
+fn a_record_that_was_read_stays() -> Result<(), Error> {
+    let (watch, folder) = (Watch::start(), Folder::new("crash-record"));
+    let (cluster, _) = Store::open(&folder.0, 2, LIMITS).unwrap_or_else(|it| panic!("{it}"));
+    let mut pass = cluster.pass()?;
+    let name_is_taken = watch.count() + 3;
+    watch.refuse(name_is_taken..usize::MAX);
+    assert!(matches!(pass.elect(1), Err(Error::Store(_))));
+    watch.refuse(0..0);
+    drop((cluster, pass));
+    let (cluster, _) = Store::open(&folder.0, 2, LIMITS).unwrap_or_else(|it| panic!("{it}"));
+    assert_eq!(cluster.pass()?.leadership()?.leader, Some((1, 0)));
+    cluster.node(0)?.adopt()?;
+    let mut wreck = Wreck::default();
+    watch.acts().iter().for_each(|(name, act)| wreck.hears(*name, act));
+    check(&wreck.least_of(), 2, 0, false, &mut Chance::new(3));
     Ok(())
 }
