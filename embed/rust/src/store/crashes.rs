@@ -468,6 +468,20 @@ fn a_cut_that_fails_is_ended() -> Result<(), Error> {
     Ok(())
 }
 
+// Wherever the power goes while a store is made: it is there, with its nodes, or is to be made.
+#[test]
+fn a_new_store_is_whole_or_none() -> Result<(), Error> {
+    let (watch, folder, mut chance) = (Watch::start(), Folder::new("crash-new"), Chance::new(4));
+    drop(Store::open(&folder.0, 2, LIMITS).unwrap_or_else(|it| panic!("{it}")));
+    let acts = watch.acts();
+    let mut wreck = Wreck::default();
+    for (name, act) in acts {
+        wreck.hears(name, &act);
+        (0..20).for_each(|_| check(&wreck.clone().some_of(&mut chance), 2, 0, false, &mut chance));
+    }
+    Ok(())
+}
+
 // Whichever operation of an opening fails, of a new store or one that is there: the next one finds all.
 #[test]
 fn an_opening_that_fails_is_tried_again() -> Result<(), Error> {
