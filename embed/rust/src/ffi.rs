@@ -21,7 +21,7 @@ pub(crate) use outs::{
     AbortedOut, EpochOut, FetchedOut, HeadOut, KeptIn, KnownOut, LeadershipOut, MarkerIn, OpenOut, PartOut, ProducerOut, PromiseIn,
     ReceiptOut, RecordOut, RecordPlace, RestartOut, RoleOut, SaidOut, StateOut, TimeOut, ValueOut,
 };
-pub(crate) use system::lock_alone;
+pub(crate) use system::{lock_alone, unlock};
 
 use crate::error::Error;
 use std::sync::atomic::{AtomicU64, Ordering};

@@ -5,9 +5,10 @@
 
 use kpart::{
     AbortedTransaction, Ack, Addressee, Change, Cluster, CommittedRecord, EpochEnd, Error, Event, Isolation, Limits, Marker, Message,
-    OpenTransaction, Pass, Receipt, Refusal, Role, Said, Workers,
+    OpenTransaction, Pass, Receipt, Refusal, Role, Said, Store, StoreError, Workers,
 };
 use std::alloc::{Layout, alloc, dealloc, realloc};
+use std::path::Path;
 use std::sync::Mutex;
 use std::sync::atomic::{AtomicU64, Ordering};
 use std::sync::mpsc::channel;
@@ -211,7 +212,48 @@ fn fetches(cluster: &Cluster, pass: &mut Pass) -> Result<(), Error> {
     Ok(())
 }
 
-fn counted() -> (u64, Vec<Vec<u8>>) {
+// Opens the store, again where memory was refused.
+fn opened(folder: &Path) -> Cluster {
+    let limits = Limits { segment_bytes: 300, index_interval: 0, max_batch: 1_048_576 };
+    let refused = match Store::open(folder, 2, limits) {
+        Ok((cluster, _)) => return cluster,
+        Err(refused) => refused,
+    };
+    assert!(matches!(refused, StoreError::Refused { error, .. } if error.is_memory()), "{refused}");
+    Store::open(folder, 2, limits).expect("there is room").0
+}
+
+// Two lives of a cluster in a store, in which a node's log is cut. What it read.
+fn keep() -> Result<Vec<Vec<u8>>, Error> {
+    let fast = Path::new("/dev/shm"); // where a sync costs nothing
+    let place = if fast.is_dir() { fast.to_path_buf() } else { std::env::temp_dir() };
+    let folder = place.join(format!("kpart-refused-{}", std::process::id()));
+    let _gone = std::fs::remove_dir_all(&folder);
+    let mut all = Vec::new();
+    for leader in [0, 1] {
+        let cluster = opened(&folder);
+        let mut pass = again(|| cluster.pass())?;
+        pass.elect(leader)?;
+        (0..2).try_for_each(|it| again(|| cluster.node(it)?.adopt()).map(drop))?;
+        for _ in 0..5 {
+            again(|| cluster.node(leader)?.produce(&mut pass, ONE_RECORD))?;
+        }
+        for _ in 0..4 {
+            let request = again(|| cluster.node(1 - leader)?.ask())?;
+            carry(&cluster, &mut pass, request)?;
+        }
+        again(|| cluster.node(leader)?.raise())?;
+        all = all_read(&cluster, &mut pass, leader)?;
+        for _ in 0..3 {
+            again(|| cluster.node(leader)?.produce(&mut pass, ONE_RECORD))?; // the next leader hasn't got them
+        }
+        again(|| cluster.node(leader)?.raise())?;
+    }
+    let _gone = std::fs::remove_dir_all(&folder);
+    Ok(all)
+}
+
+fn counted(serve: impl Fn() -> Result<Vec<Vec<u8>>, Error>) -> (u64, Vec<Vec<u8>>) {
     GROWTHS.store(0, Ordering::SeqCst);
     let read = serve().expect("the service serves");
     assert_eq!(HELD.load(Ordering::SeqCst), 0, "all memory came back");
@@ -223,15 +265,17 @@ static ONE_AT_A_TIME: Mutex<()> = Mutex::new(());
 #[test]
 fn each_growth_is_refused_in_turn() {
     let _alone = ONE_AT_A_TIME.lock().unwrap_or_else(|poisoned| poisoned.into_inner());
-    let (growths, wanted) = counted();
-    assert!(growths > 50 && wanted.len() == 21, "{growths} growths, {} batches", wanted.len());
-    for refused in 0..growths {
-        REFUSED.store(refused, Ordering::SeqCst);
-        let (_, read) = counted();
-        assert_eq!(read, wanted, "growth {refused} was refused");
+    for (serve, batches) in [(serve as fn() -> Result<_, _>, 21), (keep, 10)] {
+        let (growths, wanted) = counted(serve);
+        assert!(growths > 50 && wanted.len() == batches, "{growths} growths, {} batches", wanted.len());
+        for refused in 0..growths {
+            REFUSED.store(refused, Ordering::SeqCst);
+            let (_, read) = counted(serve);
+            assert_eq!(read, wanted, "growth {refused} was refused");
+        }
+        REFUSED.store(u64::MAX, Ordering::SeqCst);
+        println!("{growths} growths refused in turn");
     }
-    REFUSED.store(u64::MAX, Ordering::SeqCst);
-    println!("{growths} growths refused in turn");
 }
 
 // Hands batches in over and over while workers replicate them, until node 1 has committed so many.

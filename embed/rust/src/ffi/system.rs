@@ -7,6 +7,7 @@ use std::os::fd::AsRawFd;
 
 const LOCK_EX: c_int = 2;
 const LOCK_NB: c_int = 4;
+const LOCK_UN: c_int = 8;
 
 unsafe extern "C" {
     fn flock(descriptor: c_int, operation: c_int) -> c_int;
@@ -20,4 +21,10 @@ pub(crate) fn lock_alone(file: &File) -> io::Result<()> {
         0 => Ok(()),
         _ => Err(io::Error::last_os_error()),
     }
+}
+
+/// Ends that lock at once. To close the file isn't enough: a child that another thread has forked has it open, too, until it runs a program.
+pub(crate) fn unlock(file: &File) {
+    // SAFETY: as above. It can't fail: there is nothing to wait for.
+    unsafe { flock(file.as_raw_fd(), LOCK_UN) };
 }

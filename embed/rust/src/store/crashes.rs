@@ -5,7 +5,7 @@ use super::disk::Disk;
 use super::read_back::read_back;
 use super::tearing::Folder;
 use super::text::StateText;
-use super::watch::{Chance, Watch, Wreck, put, seeds};
+use super::watch::{Act, Chance, Watch, Wreck, put, seeds};
 use super::{Store, StoreError, StoreFile};
 use crate::cluster::{Cluster, Pass};
 use crate::error::{Error, Refusal};
@@ -326,6 +326,12 @@ fn a_full_disk_stops_a_node_and_loses_nothing() {
     assert!(faults > 0, "the disk was never full");
 }
 
+fn log_of(cluster: &Cluster, node: u8) -> Result<Vec<u8>, Error> {
+    let (mut batches, mut log) = (cluster.node(node)?.log_from(0, u32::MAX)?, Vec::new());
+    while batches.append_to(&mut log)? {}
+    Ok(log)
+}
+
 // Of a node: its state and its log's bytes as they are on the disk for good, and as it has them.
 struct Kept {
     state: StateText,
@@ -343,10 +349,8 @@ impl Kept {
         let text = disk.read(StoreFile::State(node)).expect("it can be read").expect("a state");
         let state = StateText::of(&text).expect("it is whole");
         let log = read_back(&disk, node, &state).expect("it is whole").log;
-        let (mut node, mut shown_log) = (cluster.node(node)?, Vec::new());
-        let mut batches = node.log_from(0, u32::MAX)?;
-        while batches.append_to(&mut shown_log)? {}
-        Ok(Kept { state, log, shown: node.show()?, shown_log })
+        let shown_log = log_of(cluster, node)?;
+        Ok(Kept { state, log, shown: cluster.node(node)?.show()?, shown_log })
     }
 
     fn is_all(&self) -> bool {
@@ -468,6 +472,65 @@ fn a_cut_that_fails_is_ended() -> Result<(), Error> {
     Ok(())
 }
 
+// What is there is opened, node 1 takes twelve batches more, and it is opened again.
+fn check_goes_on(image: &BTreeMap<String, Vec<u8>>) -> Result<(), Error> {
+    let (_, folder) = (Watch::start(), Folder::new("crash-on"));
+    put(image, &folder.0).expect("it is written");
+    let (cluster, _) = Store::open(&folder.0, 2, LIMITS).unwrap_or_else(|it| panic!("{it}"));
+    let mut pass = cluster.pass()?;
+    pass.elect(1)?;
+    (0..2).try_for_each(|it| cluster.node(it)?.adopt().map(drop))?;
+    (4..16).try_for_each(|it| handed_in(&cluster, &mut pass, 1, it).map(drop))?;
+    replicate(&cluster, 1, 0)?;
+    let logs = [log_of(&cluster, 0)?, log_of(&cluster, 1)?];
+    assert_eq!(logs[0], logs[1]);
+    drop((cluster, pass));
+    let (cluster, store) = Store::open(&folder.0, 2, LIMITS).unwrap_or_else(|it| panic!("{it}"));
+    assert_eq!([log_of(&cluster, 0)?, log_of(&cluster, 1)?], logs);
+    assert_eq!(store.torn, []);
+    Ok(())
+}
+
+// Wherever a cut ends as the process is killed, or the power goes, the log goes on from where it was to be cut, or from its end.
+#[test]
+fn a_cut_that_ends_half_way_is_ended() -> Result<(), Error> {
+    let (watch, folder) = (Watch::start(), Folder::new("crash-half"));
+    let (cluster, _pass) = diverged(&folder)?;
+    let request = cluster.node(0)?.ask()?;
+    let answer = cluster.node(1)?.step(request)?.expect("a leader answers");
+    let first = watch.count();
+    cluster.node(0)?.step(answer)?;
+    let (acts, mut wreck, mut chance) = (watch.acts(), Wreck::default(), Chance::new(3));
+    assert!(acts[first..].iter().filter(|it| matches!(it.1, Act::Remove)).count() > 1, "several segments go");
+    for (count, (name, act)) in (1..).zip(&acts) {
+        wreck.hears(*name, act);
+        if count >= first {
+            check_goes_on(&wreck.all_of())?;
+            (0..4).try_for_each(|_| check_goes_on(&wreck.clone().some_of(&mut chance)))?;
+        }
+    }
+    Ok(())
+}
+
+// A record that the next process finds is on the disk before a node of it adopts that.
+#[test]
+fn a_record_that_was_read_stays() -> Result<(), Error> {
+    let (watch, folder) = (Watch::start(), Folder::new("crash-record"));
+    let (cluster, _) = Store::open(&folder.0, 1, LIMITS).unwrap_or_else(|it| panic!("{it}"));
+    let first = watch.count();
+    cluster.pass()?.elect(0)?;
+    for end in first..=watch.count() {
+        let (mut wreck, next, folder) = (Wreck::default(), Watch::start(), Folder::new("crash-record"));
+        watch.acts()[..end].iter().for_each(|(name, act)| wreck.hears(*name, act));
+        put(&wreck.all_of(), &folder.0).expect("it is written");
+        let (cluster, _) = Store::open(&folder.0, 1, LIMITS).unwrap_or_else(|it| panic!("{it}"));
+        let _adopted = cluster.node(0)?.adopt(); // where it was elected
+        next.acts().iter().for_each(|(name, act)| wreck.hears(*name, act));
+        check(&wreck.least_of(), 1, 0, false, &mut Chance::new(4));
+    }
+    Ok(())
+}
+
 // Wherever the power goes while a store is made: it is there, with its nodes, or is to be made.
 #[test]
 fn a_new_store_is_whole_or_none() -> Result<(), Error> {
@@ -511,25 +574,5 @@ fn an_opening_that_fails_is_tried_again() -> Result<(), Error> {
         }
         assert!(fault > 10, "{fault} operations");
     }
-    Ok(())
-}
-
-// A record that was read when the store was opened is there for good: a process that was killed as it wrote it may not have come so far.
-#[test]
-fn a_record_that_was_read_stays() -> Result<(), Error> {
-    let (watch, folder) = (Watch::start(), Folder::new("crash-record"));
-    let (cluster, _) = Store::open(&folder.0, 2, LIMITS).unwrap_or_else(|it| panic!("{it}"));
-    let mut pass = cluster.pass()?;
-    let name_is_taken = watch.count() + 3;
-    watch.refuse(name_is_taken..usize::MAX);
-    assert!(matches!(pass.elect(1), Err(Error::Store(_))));
-    watch.refuse(0..0);
-    drop((cluster, pass));
-    let (cluster, _) = Store::open(&folder.0, 2, LIMITS).unwrap_or_else(|it| panic!("{it}"));
-    assert_eq!(cluster.pass()?.leadership()?.leader, Some((1, 0)));
-    cluster.node(0)?.adopt()?;
-    let mut wreck = Wreck::default();
-    watch.acts().iter().for_each(|(name, act)| wreck.hears(*name, act));
-    check(&wreck.least_of(), 2, 0, false, &mut Chance::new(3));
     Ok(())
 }

@@ -5,7 +5,7 @@
 use super::fault::{StoreFault, StoreFile};
 #[cfg(test)]
 use super::watch::{Act, Watch};
-use crate::ffi::lock_alone;
+use crate::ffi::{lock_alone, unlock};
 use std::fs::{self, File, OpenOptions};
 use std::io::{self, ErrorKind, Read};
 use std::os::unix::fs::FileExt;
@@ -29,9 +29,15 @@ macro_rules! told {
 #[derive(Debug)]
 pub(crate) struct Disk {
     path: PathBuf,
-    _lock: File,
+    lock: File,
     #[cfg(test)]
     watch: std::sync::Arc<Watch>,
+}
+
+impl Drop for Disk {
+    fn drop(&mut self) {
+        unlock(&self.lock);
+    }
 }
 
 /// A file that is open.
@@ -50,7 +56,7 @@ impl Disk {
         lock_alone(&lock).map_err(&fault)?;
         Ok(Disk {
             path: absolute(path).map_err(&fault)?, // also where the process goes to another folder
-            _lock: lock,
+            lock,
             #[cfg(test)]
             watch: Watch::of_thread(),
         })
