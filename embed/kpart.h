@@ -268,6 +268,23 @@ typedef struct {
     uint8_t node;
 } kp_promise;
 
+typedef struct {
+    size_t size;    /* how many bytes the batches take: the place of the first byte behind them */
+    uint64_t place; /* at fault 8: where the record begins in the batch that was to begin there; else 0 */
+    uint32_t fault; /* why no batch begins there, 1 to 10; KP_DONE where no byte is left */
+} kp_batches_found;
+
+/* Puts the batches that bytes begin with, one behind another, each of at most `max_batch` bytes, into a closed handle, up to the first
+ * fault, which is told: just those that kp_keep reads there. What follows the fault isn't looked at. Base offsets and leader epochs are
+ * those that the bytes have (kp_batch_head); whether the batches are a log kp_keep says. So a host knows how much of a file is whole.
+ * The bytes are copied once; O(n) in them: a pass for the checksums, and one over the records. 33. KP_IN_USE, KP_NO_ROOM (`BadFind`).
+ * Proved: `BatchesCalled` (kp_log's `batches_in`). */
+uint32_t kp_batches_in(const uint8_t *bytes, size_t length, uint32_t max_batch, kp_handle *batches, kp_batches_found *found);
+
+/* The CRC-32C of bytes, by which a batch is sealed from its attributes on, for what else a host seals; of no bytes it is 0. O(n). Memory:
+ * none. Proved: `crc` (kp_crc's `crc32c`): what a division of polynomials leaves. */
+uint32_t kp_crc32c(const uint8_t *bytes, size_t length);
+
 /* Opens a place for nodes that are read back; it has none yet. KP_IN_USE, KP_NO_ROOM (`BadLeave`). Proved: its limits, and no nodes. */
 uint32_t kp_left(kp_handle *left, const kp_limits *limits);
 

@@ -393,6 +393,103 @@ static void logs_are_described(void) {
     closes(&w);
 }
 
+/* What a batch of no producer behind the one of producer 12 is: whole, or faulty so. */
+static void wants_found(const batch *behind, size_t size, uint32_t max_batch, uint32_t fault, uint64_t place) {
+    kp_handle batches = {0};
+    kp_batches_found found = {.size = 1, .place = 2, .fault = 3};
+    uint8_t bytes[2 * sizeof behind->bytes];
+    size_t count = 0;
+    memcpy(bytes, transaction.bytes, transaction.size);
+    memcpy(bytes + transaction.size, behind->bytes, size);
+    WANT(kp_batches_in(bytes, transaction.size + size, max_batch, &batches, &found), KP_DONE);
+    WANT(found.size, transaction.size + (fault == 0 ? size : 0));
+    WANT(found.fault, fault);
+    WANT(found.place, place);
+    WANT(kp_count(&batches, &count), KP_DONE);
+    WANT(count, fault == 0 && size > 0 ? 2 : 1);
+    WANT(kp_close(&batches), KP_DONE);
+}
+
+static batch with(size_t place, uint8_t byte, bool is_summed) {
+    batch changed = one_record;
+    changed.bytes[place] = byte;
+    if (is_summed)
+        sums(&changed);
+    return changed;
+}
+
+static void bytes_are_read_as_batches(void) {
+    test = "bytes";
+    const uint32_t most = UINT32_MAX;
+    const size_t size = one_record.size;
+    kp_handle batches = {0};
+    kp_batches_found found = {0};
+    kp_batch_head_out head = {0};
+    uint8_t copy[sizeof one_record.bytes] = {0};
+    batch stamped = with(7, 9, false), changed;
+    wants_found(&one_record, 0, most, KP_DONE, 0);
+    wants_found(&one_record, size, most, KP_DONE, 0);
+    wants_found(&one_record, size, (uint32_t)transaction.size, KP_DONE, 0); /* which is the greater one */
+    for (size_t i = 1; i < size; i++)
+        wants_found(&one_record, i, most, KP_F1_TRUNCATED, 0);
+    changed = with(16, 1, false);
+    wants_found(&changed, size, most, KP_F2_BAD_MAGIC, 0);
+    changed = with(11, 48, false);
+    wants_found(&changed, size, most, KP_F3_BAD_LENGTH, 0);
+    changed = with(size - 1, 1, false);
+    wants_found(&changed, size, most, KP_F4_BAD_CRC, 0);
+    changed = with(22, 1, true);
+    wants_found(&changed, size, most, KP_F5_COMPRESSED, 0);
+    changed = with(22, 8, true);
+    wants_found(&changed, size, most, KP_F6_BAD_ATTRIBUTES, 0);
+    changed = with(12, 1, false); /* the leader epoch is too great */
+    wants_found(&changed, size, most, KP_F7_BAD_COUNT, 0);
+    wants_found(&broken, size, most, KP_F8_BAD_RECORD, 61);
+    changed = with(8, 1, false); /* it says that it has above 16,000,000 bytes */
+    wants_found(&changed, size, (uint32_t)transaction.size, KP_F9_TOO_LARGE, 0);
+    wants_found(&changed, size, most, KP_F1_TRUNCATED, 0);
+    changed = with(43, 0, true); /* a producer, and no epoch */
+    wants_found(&changed, size, most, KP_F10_BAD_PRODUCER_FIELDS, 0);
+    WANT(kp_batches_in(transaction.bytes, transaction.size, (uint32_t)transaction.size - 1, &batches, &found), KP_DONE);
+    WANT(found.size, 0);
+    WANT(found.fault, KP_F9_TOO_LARGE);
+    WANT(kp_close(&batches), KP_DONE);
+    WANT(kp_batches_in(stamped.bytes, 0, most, &batches, &found), KP_DONE);
+    WANT(found.size, 0);
+    WANT(found.fault, KP_DONE);
+    WANT(kp_batches_in(stamped.bytes, size, most, &batches, &found), KP_IN_USE);
+    WANT(kp_close(&batches), KP_DONE);
+    WANT(kp_batches_in(stamped.bytes, size, most, &batches, &found), KP_DONE);
+    WANT(found.size, size);
+    WANT(kp_batch_head(&batches, 0, &head), KP_DONE);
+    WANT(head.base, 9);
+    WANT(head.epoch, 0);
+    WANT(head.count, 1);
+    WANT(head.size, size);
+    WANT(head.producer_id, UINT64_MAX);
+    WANT(head.max_timestamp, 1700000000000);
+    WANT(kp_batch(&batches, 0, copy, sizeof copy), KP_DONE);
+    WANT(memcmp(copy, stamped.bytes, sizeof copy), 0);
+    WANT(kp_close(&batches), KP_DONE);
+    WANT(blocks, 0);
+}
+
+/* The vectors of docs/FORMATS.md, and the batches of clients. */
+static void checksums_are_crc_32c(void) {
+    test = "checksums";
+    const batch *batches[] = {&one_record, &transaction, &keyed};
+    const uint8_t zeros[32] = {0};
+    WANT(kp_crc32c(zeros, 0), 0);
+    WANT(kp_crc32c((const uint8_t *)"123456789", 9), 0xe3069283);
+    WANT(kp_crc32c(zeros, sizeof zeros), 0x8a9136aa);
+    for (size_t i = 0; i < sizeof batches / sizeof *batches; i++) {
+        const uint8_t *sum = batches[i]->bytes + 17;
+        WANT(kp_crc32c(sum + 4, batches[i]->size - 21), (uint32_t)sum[0] << 24 | (uint32_t)sum[1] << 16 | (uint32_t)sum[2] << 8 | sum[3]);
+    }
+    for (size_t length = 0; length <= keyed.size; length++)
+        WANT(kp_crc32c(keyed.bytes, length), checksum(keyed.bytes, length));
+}
+
 static void wants_said(kp_handle *message, uint8_t kind, uint8_t sender, uint64_t offset, uint32_t epoch) {
     kp_said_out said = {0};
     WANT(kp_said(message, &said), KP_DONE);
@@ -710,6 +807,8 @@ int main(int count, char **words) {
     fetches_are_in_order();
     states_are_in_order();
     logs_are_described();
+    bytes_are_read_as_batches();
+    checksums_are_crc_32c();
     messages_say_what_they_are();
     messages_come_twice();
     records_have_parts();

@@ -103,6 +103,8 @@ static void wants_again_misuses(world *w, kp_handle *node, kp_handle *message) {
     kp_kept kept = {0};
     kp_promise nothing = {0};
     kp_leadership_out known = {0}, none = {.leader = 1}, next;
+    kp_batches_found found;
+    WANT(kp_batches_in(one_record.bytes, one_record.size, 1, &w->pass, &found), KP_IN_USE);
     WANT(kp_left(&w->pass, &roomy), KP_IN_USE);
     WANT(kp_keep(&closed, one_record.bytes, one_record.size, &kept), KP_CLOSED);
     WANT(kp_keep(node, one_record.bytes, one_record.size, &kept), KP_OTHER_KIND);
@@ -151,7 +153,9 @@ static void wants_no_room(world *w, kp_handle *node, kp_handle *handed, kp_handl
     const size_t most = 2147483659;
     kp_handle closed = {0};
     kp_receipt receipt = {.base = 1, .last = 2, .place = 3, .epoch = 4, .duplicate = true};
+    kp_batches_found found;
     WANT(kp_open(&closed, 7, &roomy), KP_NO_ROOM);
+    WANT(kp_batches_in(one_record.bytes, one_record.size, 1, &closed, &found), KP_NO_ROOM);
     WANT(kp_open_pass(&w->cluster, &closed), KP_NO_ROOM);
     WANT(kp_left(&closed, &roomy), KP_NO_ROOM);
     WANT(kp_read(node, &w->pass, 0, &closed), KP_NO_ROOM);

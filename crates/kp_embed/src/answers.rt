@@ -4,8 +4,8 @@ ghost use Rattle.kp_handles.specs.Numbers.{answer_number, done_number};
 ghost use Rattle.kp_handles.specs.Outs.{WritesOut};
 
 use kp_handles::{
-    Called, EpochOut, KnownOut, LeadershipOut, Misuse, ProducerOut, RestartOut, RoleOut, StateOut,
-    TimeOut, ack_out, misuse_number, refusal_number,
+    Called, EpochOut, FoundOut, KnownOut, LeadershipOut, Misuse, ProducerOut, RestartOut, RoleOut,
+    StateOut, TimeOut, ack_out, misuse_number, refusal_number,
 };
 use kp_model::{EpochEnd, LeaderAndIsr};
 use kp_node::{Ack, NodeState, ProducerInLog};
@@ -98,6 +98,14 @@ impl Out<Option<ProducerInLog>> for ProducerOut {
 
     fn write(&mut self, found: Option<ProducerInLog>) {
         *self = ProducerOut::of(found);
+    }
+}
+
+impl Out<FoundOut> for FoundOut {
+    ghost out = { λ found. found };
+
+    fn write(&mut self, found: FoundOut) {
+        *self = found;
     }
 }
 

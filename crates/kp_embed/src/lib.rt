@@ -8,6 +8,7 @@ mod answers;
 mod callers;
 mod clusters;
 mod describing;
+mod finding;
 mod holding;
 mod messages;
 mod nodes;

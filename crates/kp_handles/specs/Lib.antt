@@ -3,6 +3,7 @@ pub mod Called
 pub mod Calling
 pub mod CallerCalls
 pub mod Describing
+pub mod Finding
 pub mod Handing
 pub mod Holding
 pub mod Left

@@ -8,9 +8,9 @@ ghost use Rattle.kp_node.specs.Again.{WereLeft, opening_of};
 ghost use Rattle.kp_node.specs.Seats.{AreNumbered};
 ghost use Rattle.kp_handles.specs.Left.{KeepsNode, KeepsNone, kept_epoch_in, promised_of};
 
-use bytes::Bytes;
+use crate::finding::found_in;
 use kp_board::OpenedAgain;
-use kp_log::{BatchesIn, batches_in};
+use kp_log::BatchesIn;
 use kp_model::LeaderAndIsr;
 use kp_node::open_again;
 use kp_replica::KeptNode;
@@ -87,9 +87,7 @@ impl LeftNodes {
         ensures found { IfOk result (λ found. AreBatchesIn self.now.limits.max_batch bytes.now found.batches.items found.size found.fault) }
         ensures only { IfErr result (λ refusal. refusal ≡ Memory) }
     {
-        let mut copy = Vec::new(alloc);
-        copy.extend_from_slice(bytes)?;
-        batches_in(alloc, &Bytes::from_vec(copy)?, &self.limits)
+        found_in(alloc, bytes, self.limits.max_batch)
     }
 
     // The next node, with the log that the bytes are.

@@ -8,6 +8,7 @@ mod callers;
 mod calling;
 mod clusters;
 mod describing;
+mod finding;
 mod handing;
 mod handle;
 mod holding;
@@ -31,6 +32,7 @@ pub use callers::{elect, leadership, recall, tell_receipts, watermark};
 pub use calling::Called;
 pub use clusters::{close, open, open_caller, open_node};
 pub use describing::{KnownOut, ProducerOut, known, log_from, open_transactions, producer};
+pub use finding::{FoundOut, find_batches};
 pub use handing::hand;
 pub use handle::{Handle, Unnamed, is_open};
 pub use holding::{
