@@ -80,7 +80,7 @@ pub enum Refusal {
 }
 
 impl Refusal {
-    fn of(number: u32, place: u64) -> Refusal {
+    pub(crate) fn of(number: u32, place: u64) -> Refusal {
         match NUMBERED.iter().find(|(it, _)| *it == number) {
             Some((_, Refusal::BadRecord(_))) => Refusal::BadRecord(place),
             Some((_, found)) => *found,

@@ -12,10 +12,12 @@
 //! No call is made from a signal handler or in the forked child of a process with threads unless other `unsafe` code does so.
 
 mod again;
+mod finding;
 mod outs;
 mod system;
 
 pub(crate) use again::{RawLeft, open_what_a_store_left};
+pub(crate) use finding::crc32c;
 pub use outs::Limits;
 pub(crate) use outs::{
     AbortedOut, EpochOut, FetchedOut, HeadOut, KeptIn, KnownOut, LeadershipOut, MarkerIn, OpenOut, PartOut, ProducerOut, PromiseIn,

@@ -15,7 +15,7 @@
 //! | to answer a Kafka consumer's fetch, of one moment | [`Node::fetch`] |
 //! | to know what a node is, and where it stands | [`Node::show`], [`Node::end_for`], [`Node::offset_for_time`] |
 //! | logs that outlive the process | [`Store::open`]; with files of your own [`Left`], [`Cluster::open_again`] |
-//! | to keep a node's log as files | [`Node::segments`] |
+//! | to keep a node's log as files | [`Node::segments`]; to know what of a file is whole [`BatchesIn::of`] |
 //! | to wait until something is committed, without a loop | [`Cluster::wait_acked`], [`Cluster::wait_mark`] |
 //! | followers to replicate | [`Workers`], or [`Node::ask`] and [`Node::step`] by hand |
 //! | to have them do so at once, in this thread | [`Workers::replicate`] |
@@ -85,6 +85,7 @@ mod error;
 mod fetched;
 #[allow(unsafe_code)]
 mod ffi;
+mod finding;
 mod inbox;
 mod left;
 mod links;
@@ -104,6 +105,7 @@ pub use cluster::{Cluster, Pass};
 pub use error::{Error, Refusal};
 pub use fetched::{AbortedTransaction, Fetched, Isolation};
 pub use ffi::Limits;
+pub use finding::{BatchesIn, crc32c};
 pub use left::Left;
 pub use links::{Link, Place};
 pub use message::{Addressee, Message, Said};

@@ -2,12 +2,13 @@
 
 #[cfg(test)]
 mod crashes;
-mod crc;
 mod disk;
 mod fault;
-mod frame;
 mod keeper;
 mod log_files;
+#[cfg(test)]
+#[path = "../tests/made/mod.rs"]
+mod made;
 mod read_back;
 mod record_keeper;
 #[cfg(test)]

@@ -114,6 +114,13 @@ pub struct BatchHead {
     pub control: bool,
 }
 
+impl BatchHead {
+    /// The offset behind its last record.
+    pub fn end(&self) -> u64 {
+        self.base.saturating_add(self.count.into())
+    }
+}
+
 /// Where a leader epoch ends in a leader's log.
 #[derive(Clone, Copy, Debug, PartialEq, Eq)]
 pub struct EpochEnd {

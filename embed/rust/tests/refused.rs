@@ -4,8 +4,8 @@
 //! each so many of the first ones.
 
 use kpart::{
-    AbortedTransaction, Ack, Addressee, Change, Cluster, CommittedRecord, EpochEnd, Error, Event, Isolation, Limits, Marker, Message,
-    OpenTransaction, Pass, Receipt, Refusal, Role, Said, Store, StoreError, Workers,
+    AbortedTransaction, Ack, Addressee, BatchesIn, Change, Cluster, CommittedRecord, EpochEnd, Error, Event, Isolation, Limits, Marker,
+    Message, OpenTransaction, Pass, Receipt, Refusal, Role, Said, Store, StoreError, Workers,
 };
 use std::alloc::{Layout, alloc, dealloc, realloc};
 use std::path::Path;
@@ -193,6 +193,9 @@ fn describes(cluster: &Cluster, pass: &mut Pass) -> Result<(), Error> {
     assert_eq!((request.sender()?, request.said()?), (Addressee::Node(1), Said::AsksFrom { offset: 21, last_epoch: Some(0) }));
     let mut once_more = again(|| request.repeat(pass))?;
     assert_eq!(once_more.said()?, request.said()?);
+    let file = [ONE_RECORD, TRANSACTION, &ABORTED[..70]].concat();
+    let found = again(|| BatchesIn::of(&file, u32::MAX))?;
+    assert_eq!((found.batches.len(), found.fault), (2, Some(Refusal::Truncated)));
     Ok(())
 }
 

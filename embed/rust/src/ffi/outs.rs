@@ -140,6 +140,14 @@ pub(crate) struct HeadOut {
     pub attributes: u16,
 }
 
+#[repr(C)]
+#[derive(Clone, Copy, Default)]
+pub(crate) struct FoundOut {
+    pub size: usize,
+    pub place: u64,
+    pub fault: u32,
+}
+
 /// Where a record stands among batches.
 #[repr(C)]
 #[derive(Clone, Copy, Debug, Default)]

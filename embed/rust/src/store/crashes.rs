@@ -6,7 +6,7 @@ use super::read_back::read_back;
 use super::tearing::Folder;
 use super::text::StateText;
 use super::watch::{Act, Chance, Watch, Wreck, put, seeds};
-use super::{Store, StoreError, StoreFile};
+use super::{Store, StoreError, StoreFile, made};
 use crate::cluster::{Cluster, Pass};
 use crate::error::{Error, Refusal};
 use crate::fetched::Isolation;
@@ -16,9 +16,6 @@ use crate::values::{self, Ack, Change, NodeState, Receipt, Status};
 use std::collections::BTreeMap;
 use std::path::Path;
 use std::sync::Arc;
-
-#[path = "../../tests/made/mod.rs"]
-mod made;
 
 const LIMITS: Limits = Limits { segment_bytes: 400, index_interval: 100, max_batch: 1_000 };
 const PRODUCER: u64 = 7;

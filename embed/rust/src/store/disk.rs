@@ -196,11 +196,6 @@ impl DiskFile {
     pub(crate) fn length(&self) -> Result<u64, StoreFault> {
         self.file.metadata().map(|it| it.len()).map_err(StoreFault::of(self.name))
     }
-
-    /// Fills the buffer with the bytes from a place of the file on.
-    pub(crate) fn read_at(&self, bytes: &mut [u8], place: u64) -> Result<(), StoreFault> {
-        self.file.read_exact_at(bytes, place).map_err(StoreFault::of(self.name))
-    }
 }
 
 fn or_is_there(made: io::Result<()>) -> io::Result<()> {

@@ -2,13 +2,12 @@
 
 use super::disk::{Disk, DiskFile};
 use super::fault::{StoreFault, StoreFile};
-use super::frame::Frame;
 use super::log_files::{Extent, LogFiles};
 use super::text::{StateText, mark_text};
 use crate::batches::Batches;
 use crate::error::Error;
 use crate::ffi::RawNode;
-use crate::values::{BatchHead, NodeState, Status};
+use crate::values::{NodeState, Status};
 use std::sync::Arc;
 use std::time::{Duration, Instant};
 
@@ -28,11 +27,6 @@ pub(crate) struct Keeper {
     mark: u64,
     mark_file: Option<DiskFile>,
     next_note: Instant,
-}
-
-fn framed(head: &BatchHead) -> Frame {
-    let BatchHead { base, epoch, count, size, .. } = *head;
-    Frame { base, epoch: epoch.unwrap_or_default(), count, size: size as usize }
 }
 
 impl Keeper {
@@ -110,9 +104,8 @@ impl Keeper {
     fn add(&mut self, batches: &mut Batches) -> Result<Option<u64>, Error> {
         let mut end = None;
         while let Some(head) = batches.head()? {
-            let frame = framed(&head);
-            batches.append_to(self.files.place(&frame)?)?;
-            end = Some(frame.end());
+            batches.append_to(self.files.place(&head)?)?;
+            end = Some(head.end());
         }
         Ok(end)
     }

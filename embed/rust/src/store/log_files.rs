@@ -2,8 +2,8 @@
 
 use super::disk::{Disk, DiskFile};
 use super::fault::{StoreFault, StoreFile};
-use super::frame::{Frame, STEP_BYTES, step};
 use super::text::EpochStart;
+use crate::values::BatchHead;
 use std::sync::Arc;
 
 /// A segment's file.
@@ -15,6 +15,15 @@ pub(crate) struct Segment {
     pub bytes: u64,
 }
 
+/// Where a batch begins.
+#[derive(Clone, Copy, Debug, PartialEq, Eq)]
+pub(crate) struct BatchStart {
+    /// Its base offset.
+    pub offset: u64,
+    /// The byte of its segment's file.
+    pub byte: u64,
+}
+
 /// What is on the disk of a log.
 #[derive(Clone, Debug, Default, PartialEq, Eq)]
 pub(crate) struct Extent {
@@ -22,6 +31,24 @@ pub(crate) struct Extent {
     /// The log end offset.
     pub end: u64,
     pub epochs: Vec<EpochStart>,
+    /// Of each batch, so that a cut reads no file.
+    pub starts: Vec<BatchStart>,
+}
+
+impl Extent {
+    /// Notes a batch that comes behind the others.
+    pub(crate) fn note(&mut self, base: u64, epoch: u32, byte: u64) {
+        if self.epochs.last().is_none_or(|it| it.epoch != epoch) {
+            self.epochs.push(EpochStart { epoch, start: base });
+        }
+        self.starts.push(BatchStart { offset: base, byte });
+    }
+
+    // The batches behind the log's end were lost, or cut.
+    fn forget_behind(&mut self) {
+        self.epochs.retain(|it| it.start < self.end);
+        self.starts.truncate(self.starts.partition_point(|it| it.offset < self.end));
+    }
 }
 
 /// The files of a log, to which batches are added, and by which it is cut.
@@ -72,17 +99,15 @@ impl LogFiles {
     }
 
     /// Where the bytes of the next batch are to be put, behind those that are there. Of the log's batches each comes just once, in order.
-    pub(crate) fn place(&mut self, batch: &Frame) -> Result<&mut Vec<u8>, StoreFault> {
+    pub(crate) fn place(&mut self, batch: &BatchHead) -> Result<&mut Vec<u8>, StoreFault> {
         debug_assert_eq!(batch.base, self.next_end);
         self.is_whole = false;
-        let fits = |held| held == 0 || held + batch.size as u64 <= self.most;
+        let fits = |held| held == 0 || held + u64::from(batch.size) <= self.most;
         if !self.held().is_some_and(fits) {
             self.roll(batch.base)?;
         }
-        let epochs = &mut self.extent.epochs;
-        if epochs.last().is_none_or(|it| it.epoch != batch.epoch) {
-            epochs.push(EpochStart { epoch: batch.epoch, start: batch.base });
-        }
+        let byte = self.held().unwrap_or_default();
+        self.extent.note(batch.base, batch.epoch.unwrap_or_default(), byte);
         self.next_end = batch.end();
         Ok(&mut self.waiting)
     }
@@ -134,21 +159,21 @@ impl LogFiles {
         let end = self.extent.end;
         (self.written, self.next_end, self.last) = (0, end, None);
         self.waiting.clear();
-        self.extent.epochs.retain(|it| it.start < end);
+        self.extent.forget_behind();
         if self.extent.segments.last().is_none_or(|it| it.base != end) {
             self.disk.remove(self.name(end))?; // that was to be the next one
         }
-        self.shorten(|_, segment| Ok(segment.bytes))?;
+        self.shorten(None)?;
         self.sync_folder()?;
         self.is_whole = true;
         Ok(())
     }
 
-    // Opens the last segment, and makes it so long.
-    fn shorten(&mut self, length: impl FnOnce(&DiskFile, &Segment) -> Result<u64, StoreFault>) -> Result<(), StoreFault> {
+    // Opens the last segment, and makes it so long, or as long as is known.
+    fn shorten(&mut self, length: Option<u64>) -> Result<(), StoreFault> {
         let Some(segment) = self.extent.segments.last() else { return Ok(()) };
         let file = self.disk.open_file(self.name(segment.base), false)?;
-        let bytes = length(&file, segment)?;
+        let bytes = length.unwrap_or(segment.bytes);
         self.disk.set_length(&file, bytes)?;
         self.disk.sync(&file)?;
         self.last = Some(file);
@@ -165,27 +190,13 @@ impl LogFiles {
             self.disk.remove(self.name(segment.base))?;
             self.extent.segments.pop();
         }
-        self.shorten(|file, segment| place_of(file, segment, end))?;
+        // A batch that begins a segment was the first one of those that are gone.
+        let next = self.extent.starts.partition_point(|it| it.offset < end);
+        self.shorten(self.extent.starts.get(next).map(|it| it.byte).filter(|it| *it > 0))?;
         self.sync_folder()?;
-        self.extent.epochs.retain(|it| it.start < end);
         (self.extent.end, self.next_end) = (end, end);
+        self.extent.forget_behind();
         (self.cuts_to, self.is_whole) = (None, true);
         Ok(())
     }
-}
-
-// Where in the segment's file the batch stands that begins at the offset; the file's end where none does, as it was cut there before. O(n) in
-// its batches.
-fn place_of(file: &DiskFile, segment: &Segment, offset: u64) -> Result<u64, StoreFault> {
-    let (mut place, end) = (0, segment.bytes.min(file.length()?));
-    while place < end {
-        let mut head = [0; STEP_BYTES];
-        file.read_at(&mut head, place)?;
-        let (base, size) = step(&head);
-        if base >= offset {
-            return Ok(place);
-        }
-        place += size;
-    }
-    Ok(end)
 }

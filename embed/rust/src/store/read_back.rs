@@ -2,13 +2,17 @@
 
 use super::disk::Disk;
 use super::fault::{StoreError, StoreFault, StoreFile};
-use super::frame::Frame;
 use super::log_files::{Extent, Segment};
 use super::text::{EpochStart, StateText};
+use crate::error::{Error, Refusal};
+use crate::finding::BatchesIn;
+use crate::values::BatchHead;
 
 const HOLE: &str = "the batches in front of this segment end elsewhere";
 const NO_BATCH: &str = "no whole batch with a right checksum begins here";
+const NOT_LAWFUL: &str = "the batch here has a right checksum, and isn't lawful";
 const OTHER_OFFSET: &str = "another batch was to begin here";
+const NO_EPOCH: &str = "the batch here has no leader epoch";
 const OTHER_EPOCH: &str = "the batch here was written with another leader epoch";
 const EPOCH_BACK: &str = "the leader epoch is below that of the batch before";
 const TOO_SHORT: &str = "the log went on here";
@@ -40,10 +44,26 @@ pub(crate) struct ReadBack {
     pub torn: Option<TornTail>,
 }
 
-// Why reading ends in a segment, and at which byte of the bytes that were read.
-struct Fault {
-    at: usize,
-    why: &'static str,
+// Why reading ends in a segment.
+enum Fault {
+    // What stands at this byte of those that were read.
+    Bytes { at: usize, why: &'static str },
+    // The library has no memory.
+    Library(Error),
+}
+
+impl From<Error> for Fault {
+    fn from(error: Error) -> Fault {
+        Fault::Library(error)
+    }
+}
+
+// What is wrong with bytes that have this first fault.
+fn why(fault: Refusal) -> &'static str {
+    match fault {
+        Refusal::Truncated | Refusal::BadMagic | Refusal::BadLength | Refusal::BadCrc => NO_BATCH,
+        _ => NOT_LAWFUL,
+    }
 }
 
 struct Reader<'a> {
@@ -58,35 +78,41 @@ impl Reader<'_> {
 
     // Takes the batches whose bytes begin there as far as they go on from those before them.
     fn take(&mut self, from: usize) -> Result<usize, Fault> {
+        // What is too large for the cluster's limits the library refuses with the whole log: it may not be cut as a torn tail.
+        let BatchesIn { mut batches, fault, .. } = BatchesIn::of(&self.found.log[from..], u32::MAX)?;
         let mut at = from;
-        while at < self.found.log.len() && !self.is_cut() {
-            let batch = Frame::first(&self.found.log[at..]).ok_or(Fault { at, why: NO_BATCH })?;
-            self.take_batch(&batch).map_err(|why| Fault { at, why })?;
-            at += batch.size;
+        while !self.is_cut() {
+            let Some(batch) = batches.head()? else { break };
+            self.take_batch(&batch, (at - from) as u64).map_err(|why| Fault::Bytes { at, why })?;
+            batches.skip_one();
+            at += batch.size as usize;
         }
-        Ok(at)
+        match fault {
+            Some(fault) if !self.is_cut() => Err(Fault::Bytes { at, why: why(fault) }),
+            _ => Ok(at),
+        }
     }
 
-    fn take_batch(&mut self, batch: &Frame) -> Result<(), &'static str> {
-        let Extent { end, epochs, .. } = &mut self.found.extent;
-        if batch.base != *end {
+    fn take_batch(&mut self, batch: &BatchHead, byte: u64) -> Result<(), &'static str> {
+        let extent = &mut self.found.extent;
+        if batch.base != extent.end {
             return Err(OTHER_OFFSET);
         }
-        if batch.base < self.state.end && Some(batch.epoch) != epoch_at(&self.state.epochs, batch.base) {
+        let epoch = batch.epoch.ok_or(NO_EPOCH)?;
+        if batch.base < self.state.end && Some(epoch) != epoch_at(&self.state.epochs, batch.base) {
             return Err(OTHER_EPOCH);
         }
-        match epochs.last() {
-            Some(last) if last.epoch > batch.epoch => return Err(EPOCH_BACK),
-            Some(last) if last.epoch == batch.epoch => {}
-            _ => epochs.push(EpochStart { epoch: batch.epoch, start: batch.base }),
+        if extent.epochs.last().is_some_and(|it| it.epoch > epoch) {
+            return Err(EPOCH_BACK);
         }
-        *end = batch.end();
+        extent.note(batch.base, epoch, byte);
+        extent.end = batch.end();
         Ok(())
     }
 
     // Whether the fault may be that of a tail that was being written: behind all that was known to be on the disk, in the last segment.
-    fn is_torn(&self, fault: &Fault, is_last: bool) -> bool {
-        is_last && [NO_BATCH, OTHER_OFFSET].contains(&fault.why) && self.found.extent.end >= self.state.end
+    fn is_torn(&self, why: &str, is_last: bool) -> bool {
+        is_last && [NO_BATCH, OTHER_OFFSET].contains(&why) && self.found.extent.end >= self.state.end
     }
 }
 
@@ -101,6 +127,7 @@ pub(crate) fn read_back(disk: &Disk, node: u8, state: &StateText) -> Result<Read
     let failed = |fault: StoreFault| StoreError::file(disk.path(), fault);
     let name = |base| StoreFile::Segment { node, base };
     let damaged = |base, byte: usize, why| StoreError::Damaged { path: name(base).path(disk.path()), byte: byte as u64, why };
+    let refused = |error| StoreError::Refused { folder: StoreFile::Node(node).path(disk.path()), error };
     let bases = disk.bases(node).map_err(failed)?;
     let mut reader = Reader { state, found: ReadBack::default() };
     for base in &bases {
@@ -115,12 +142,13 @@ pub(crate) fn read_back(disk: &Disk, node: u8, state: &StateText) -> Result<Read
         disk.read_behind(name(*base), &mut reader.found.log).map_err(failed)?;
         let end = match reader.take(from) {
             Ok(end) => end,
-            Err(fault) if reader.is_torn(&fault, Some(base) == bases.last()) => {
-                let bytes = (reader.found.log.len() - fault.at) as u64;
-                reader.found.torn = Some(TornTail { node, base: *base, byte: (fault.at - from) as u64, bytes });
-                fault.at
+            Err(Fault::Bytes { at, why }) if reader.is_torn(why, Some(base) == bases.last()) => {
+                let bytes = (reader.found.log.len() - at) as u64;
+                reader.found.torn = Some(TornTail { node, base: *base, byte: (at - from) as u64, bytes });
+                at
             }
-            Err(fault) => return Err(damaged(*base, fault.at - from, fault.why)),
+            Err(Fault::Bytes { at, why }) => return Err(damaged(*base, at - from, why)),
+            Err(Fault::Library(error)) => return Err(refused(error)),
         };
         reader.found.log.truncate(end);
         reader.found.extent.segments.push(Segment { base: *base, bytes: (end - from) as u64 });

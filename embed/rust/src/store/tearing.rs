@@ -1,14 +1,15 @@
-//! A log's files by themselves: what is read back wherever the power goes, and where the disk is full. No library is needed.
+//! A log's files by themselves: what is read back wherever the power goes, and where the disk is full. No node is needed.
 
 use super::disk::Disk;
 use super::fault::{StoreError, StoreFault, StoreFile};
-use super::frame::{Frame, tests::batch};
 use super::keeper::Keeper;
 use super::log_files::{Extent, LogFiles};
+use super::made;
 use super::read_back::{ReadBack, read_back};
 use super::text::{EpochStart, StateText};
 use super::watch::{Chance, Watch, Wreck, put, seeds};
-use crate::values::{NodeState, Status};
+use crate::finding::BatchesIn;
+use crate::values::{BatchHead, NodeState, Status};
 use std::fs;
 use std::path::{Path, PathBuf};
 use std::sync::Arc;
@@ -37,10 +38,19 @@ impl Drop for Folder {
     }
 }
 
+// A batch of so many records, of which the first one has this value, as a leader has stamped it.
+fn stamped(base: u64, epoch: u32, count: u32, value: &[u8]) -> Vec<u8> {
+    let values: Vec<&[u8]> = (0..count).map(|it| if it == 0 { value } else { b"" }).collect();
+    let mut bytes = made::batch(None, &values);
+    bytes[..8].copy_from_slice(&base.to_be_bytes());
+    bytes[12..16].copy_from_slice(&epoch.to_be_bytes());
+    bytes
+}
+
 // A log as a node has it, and its state.
 #[derive(Clone, Debug, Default, PartialEq, Eq)]
 struct Log {
-    batches: Vec<(Frame, Vec<u8>)>,
+    batches: Vec<(BatchHead, Vec<u8>)>,
     checkpoint: u64,
     kept_epoch: u32,
 }
@@ -51,9 +61,9 @@ impl Log {
     }
 
     fn add(&mut self, count: u32, value: &[u8]) {
-        let bytes = batch(self.end(), self.kept_epoch, count, value);
-        let frame = Frame::first(&bytes).expect("a batch");
-        self.batches.push((frame, bytes));
+        let bytes = stamped(self.end(), self.kept_epoch, count, value);
+        let found = BatchesIn::of(&bytes, u32::MAX).and_then(|mut it| it.batches.head());
+        self.batches.push((found.expect("there is memory").expect("a batch"), bytes));
     }
 
     fn cut(&mut self, end: u64) {
@@ -107,11 +117,11 @@ fn segments_roll_as_the_librarys_do() -> Result<(), StoreFault> {
     let folder = Folder::new("roll");
     let (disk, mut log) = (disk(&folder), Log::default());
     let mut keeper = keeper(&disk, 200, Extent::default())?;
-    for size in [71, 138, 62, 361, 62, 200, 61] {
-        log.add(2, &vec![7; size - 61]);
+    for value in [3, 61, 2, 291, 2, 130, 1] {
+        log.add(1, &vec![7; value]);
         add_all(keeper.files(), &log)?;
     }
-    let wanted = [(0, 71), (2, 138 + 62), (6, 361), (8, 62), (10, 200), (12, 61)];
+    let wanted = [(0, 71), (1, 130 + 70), (3, 361), (4, 70), (5, 200), (6, 69)];
     let sizes: Vec<(u64, u64)> = keeper.files().extent().segments.iter().map(|it| (it.base, it.bytes)).collect();
     assert_eq!(sizes, wanted);
     for (base, bytes) in wanted {
@@ -120,7 +130,7 @@ fn segments_roll_as_the_librarys_do() -> Result<(), StoreFault> {
     keeper.write_state(&log.state())?;
     drop((keeper, disk));
     let (_, found) = read_all(&folder.0).expect("it is whole");
-    assert_eq!((found.log, found.extent.end, found.torn), (log.bytes(), 14, None));
+    assert_eq!((found.log, found.extent.end, found.torn), (log.bytes(), 7, None));
     Ok(())
 }
 
@@ -134,7 +144,7 @@ fn seven() -> Result<(Folder, Segments), StoreFault> {
     let mut keeper = keeper(&disk, SEGMENT_BYTES, Extent::default())?;
     for number in 0..7 {
         log.kept_epoch = number / 3;
-        log.add(1, &[7; 39]);
+        log.add(1, &[7; 32]);
         add_all(keeper.files(), &log)?;
         if number == 4 {
             keeper.write_state(&log.state())?;
@@ -190,8 +200,8 @@ fn damage_is_named() -> Result<(), StoreFault> {
             write(&folder, *base, &other);
             let at = damage(&folder);
             let batch = place as u64 / 100 * 100;
-            // Of the sixth batch the leader epoch isn't known, but the next one's is lower then.
-            let is_known = base + batch / 100 < 5 || !(12..16).contains(&(place % 100));
+            // Of the sixth batch the leader epoch isn't known, but the next one's is lower then. The first byte of an epoch is 0.
+            let is_known = base + batch / 100 < 5 || !(13..16).contains(&(place % 100));
             assert_eq!(at, if is_known { (path.clone(), batch) } else { (name(6).path(&folder.0), 0) }, "byte {place}");
         }
         for length in 0..300 {

@@ -1,6 +1,6 @@
 //! The texts of a store: a header, lines of words, and at last the checksum of all bytes before it.
 
-use super::crc::crc32c;
+use crate::ffi::crc32c;
 use crate::values::{Kept, Leadership};
 use std::fmt::{Display, Write};
 
