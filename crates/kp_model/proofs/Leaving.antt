@@ -2,3 +2,5 @@
 pub mod Going
 pub mod Stopping
 pub mod Losing
+pub mod Tearing
+pub mod Noting

@@ -1,6 +1,6 @@
 -- What a process of nodes leaves that ended, and how a new one goes on from it (own rule; that a crash is a stop of all nodes at
 -- one moment, as 'a node that fails stops and keeps its log': Kafka replication design).
-use Rattle.std.specs.Prelude.{◌≡◌, ◌≢◌, ℕ, ◌+◌, ◌<◌, ◌≤◌, ◌^◌, List, [], ◌∷◌, ◌++◌, map, length, Option, Some, None, slice_get, slice_index_or}
+use Rattle.std.specs.Prelude.{◌≡◌, ◌≢◌, ◌⊎◌, ℕ, ◌+◌, ◌<◌, ◌≤◌, ◌^◌, List, [], ◌∷◌, ◌++◌, map, length, Option, Some, None, slice_get, slice_index_or}
 use Rattle.kp_model.specs.Log.{Batch}
 use Rattle.kp_model.specs.World.{LeaderAndIsr, Node, Down, Message, World, addressee, fresh, initial, IsSent}
 use Rattle.kp_model.specs.Event.{Event, Elect, Acts, Deliver}
@@ -138,3 +138,53 @@ TailsMayBeLost =
     → (q : Run count) × ((last q).controller ≡ (last r).controller) × ((k : ℕ) → (last q).nodes k ≡ x k)
     × ((m : Message) → IsSent (last r).messages m → IsSent (last q).messages m)
     × ((later past : List Moment) (k : ℕ) → r.moments ≡ later ++ past → length past ≤ stop k → (v : World) × IsOf v q × (v.nodes k ≡ (now count past).nodes k))
+
+-- ---- what was being written when the process ended
+
+-- Of what the node appended in one act a beginning is left: it is down, and all else is as it was before that act.
+pub record IsTorn (before after y : Node) : Type 0 where
+  pub left : List Batch
+  pub lost : List Batch
+  pub appended : after.log ≡ before.log ++ left ++ lost
+  pub is : y ≡ record before { log = before.log ++ left; mode = Down }
+
+-- The moment behind so many ones, counted from the oldest, is an act of node k, and was torn.
+pub record WasTorn (count stop k : ℕ) (y : Node) (moments : List Moment) : Type 0 where
+  pub later : List Moment
+  pub moment : Moment
+  pub past : List Moment
+  pub are : moments ≡ later ++ moment ∷ past
+  pub at : stop ≡ length past
+  pub of : node_of (now count past) moment.event ≡ Some k
+  pub torn : IsTorn ((now count past).nodes k) (moment.after.nodes k) y
+
+-- A take is one act of a follower, and appends all batches of a fetch. Where the process ended while they were being written, a beginning
+-- of them is on the disk: that is left by some run, too, since a take that lacks memory takes so much. It stands beside what a crash may
+-- take by `TailsMayBeLost`: some run ends with each node as it was after its moments, or down, with a beginning of what its next act appended.
+abbrev pub TornTakesMayBeLeft : Type 0
+TornTakesMayBeLeft =
+    (count : ℕ) (r : Run count) (stop : ℕ → ℕ) (x y : ℕ → Node) → AreSilent count stop r.moments → WereSo count stop x r.moments
+    → ((k : ℕ) → stop k ≤ length r.moments) → ((k : ℕ) → (y k ≡ x k) ⊎ WasTorn count (stop k) k (y k) r.moments)
+    → (q : Run count) × ((last q).controller ≡ (last r).controller) × ((k : ℕ) → (last q).nodes k ≡ y k)
+    × ((m : Message) → IsSent (last r).messages m → IsSent (last q).messages m)
+    × ((later past : List Moment) (k : ℕ) → r.moments ≡ later ++ past → length past ≤ stop k → (v : World) × IsOf v q × (v.nodes k ≡ (now count past).nodes k))
+
+-- ---- checkpoints that are kept late
+
+-- the node with another checkpoint
+abbrev pub with_checkpoint : Node → ℕ → Node
+with_checkpoint y c = record y { checkpoint = c }
+
+-- Node k had this checkpoint in a world of the run, and wasn't restarted since: it is still in the life that it had there.
+abbrev pub HadCheckpoint : {count : ℕ} → Run count → ℕ → ℕ → Type 0
+HadCheckpoint {count} r k c = (w : World) × IsOf w r × ((w.nodes k).life ≡ ((last r).nodes k).life) × ((w.nodes k).checkpoint ≡ c)
+
+-- A checkpoint that is older than the node's was left by some run, too, if the node wasn't restarted since; so it is of any number of nodes at
+-- once, each with an older checkpoint or its own. That run ends with the same record, messages and nodes, but for the checkpoints; and all that
+-- the nodes were in this run they were in it, but for checkpoints.
+abbrev pub OlderCheckpointsMayBeLeft : Type 0
+OlderCheckpointsMayBeLeft =
+    (count : ℕ) (r : Run count) (c : ℕ → ℕ) → ((k : ℕ) → HadCheckpoint r k (c k))
+    → (q : Run count) × ((last q).controller ≡ (last r).controller) × ((k : ℕ) → (last q).nodes k ≡ with_checkpoint ((last r).nodes k) (c k))
+    × ((last q).messages ≡ (last r).messages)
+    × ((w : World) → IsOf w r → (v : World) × IsOf v q × ((k : ℕ) → v.nodes k ≡ with_checkpoint (w.nodes k) (v.nodes k).checkpoint))

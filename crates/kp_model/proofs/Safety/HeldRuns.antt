@@ -209,7 +209,7 @@ not_undone w g t a new o P c n b p u =
     omega arith
 
 -- the run up to a moment
-run_until : (count : ℕ) (later past : List Moment) (m : Moment) → IsRun count (later ++ m ∷ past) → Step (now count past) m.event m.outcome m.after × IsRun count past
+pub run_until : (count : ℕ) (later past : List Moment) (m : Moment) → IsRun count (later ++ m ∷ past) → Step (now count past) m.event m.outcome m.after × IsRun count past
 run_until count [] past m r = r
 run_until count (x ∷ later) past m r = run_until count later past m r.1
 
