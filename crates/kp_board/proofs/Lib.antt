@@ -8,5 +8,6 @@ pub mod RecordWord
 mod Deciding
 pub mod MarkWord
 pub mod Sharing
+pub mod TakenBack
 pub mod Sits
 pub mod Refusals

@@ -12,8 +12,8 @@ use Rattle.kp_model.specs.Left.{IsOpening, Opening, beginning, node_in}
 use Rattle.kp_model.proofs.Plain.Beginnings.{Begins-refl}
 use Rattle.kp_model.proofs.InRuns.RunLaws.{start_is_of, last_is_of}
 use Rattle.kp_control.specs.Word.{packed}
-use Rattle.kp_board.specs.Views.{NodeView, CallerView, Note, KeptReceipt, View, node_note, caller_note, founder, of_node, of_caller, of_message, of_note, spent, opened_node, new_caller, next_founder, founded_node, admitting, admitted, noted, first_message, sent_message, told_of, with_receipts, receipts_of, made_by, one_if_founder, one_if_caller, changes_by}
-use Rattle.kp_board.specs.Rule.{mark_word, WasWatermark, AreAppended, AreSent, FitsCaller, FitsFounder, Fits, Ruled}
+use Rattle.kp_board.specs.Views.{NodeView, CallerView, Note, KeptReceipt, View, node_note, caller_note, founder, of_node, of_caller, of_message, of_note, of_closing, spent, opened_node, new_caller, next_founder, founded_node, admitting, admitted, noted, first_message, sent_message, told_of, with_receipts, receipts_of, made_by, one_if_founder, one_if_caller, changes_by}
+use Rattle.kp_board.specs.Rule.{mark_word, WasWatermark, AreAppended, AreSent, FitsNode, FitNodes, FitsCaller, FitsFounder, Fits, Ruled}
 use Rattle.kp_board.proofs.Counting.{Counts, counts_on, counts_same, counts_more, sum_set}
 use Rattle.kp_board.proofs.Steps.{views_fit}
 use Rattle.kp_board.proofs.Lists.{put, put_here, put_else, at_inside, at_end}
@@ -49,7 +49,7 @@ module _ (o : Opening) where
   one_more s d views w owner old fits j v e = ⊎_elim (λ (x : (get_elem? views j ≡ some v) × (j < length views)). old j v x.0) (λ (x : (j ≡ length views) × (w ≡ v)). subst (λ (z : ℕ × View). Fits d.run owner s.words z.0 z.1) (λ i. (sym x.0 i, x.1 i)) fits) (at_end views w v j e)
 
   -- a split that leaves the first view as it was, and gives a second one that fits by it
-  shares : (id : ℕ) (v w : View) → one_if_founder w ≡ 0 → one_if_caller w ≡ 0 → made_by w ≡ 0 → changes_by w ≡ 0
+  pub shares : (id : ℕ) (v w : View) → one_if_founder w ≡ 0 → one_if_caller w ≡ 0 → made_by w ≡ 0 → changes_by w ≡ 0
       → ((s : State ℕ View) (d : Ruled o s) → Fits d.run d.owner s.words id v → (j : ℕ) → Fits d.run d.owner s.words j w) → Splits (Ruled o) id v v w
   shares id v w a b c e gives s d at = record {
     small = d.small;
@@ -138,6 +138,23 @@ module _ (o : Opening) where
   pub receives : (id : ℕ) (p : NodeView) (other : ℕ) (l : Message) → Joins (Ruled o) id (of_node p) other (of_message l) (told_of (of_node p) (of_message l)) spent
   receives id p other l = joins_by id (of_node p) other (of_message l) (of_node (record p { told = l ∷ [] })) (λ m. record { founder = refl; caller = refl; made = refl; changes = refl }) (λ m. record { founder = refl; caller = refl; made = refl; changes = refl }) (λ s d f g. record { count = f.count; inside = f.inside; own = f.own; state = f.state; shown = f.shown; word = f.word; told = (g, tt) })
 
+  -- of a node that the pass id had, another pass is the owner now
+  node_moves : (r : Run n) (owner : ℕ → ℕ) (words : List ℕ) (id j new i : ℕ) (p : NodeView) → owner j ≡ id → i ≢ id → FitsNode r owner words i p → FitsNode r (put owner j new) words i p
+  node_moves r owner words id j new i p own ne f = record { count = f.count; inside = f.inside; own = put_else owner j new p.number (λ e. ne (sym f.own ∙ ap owner e ∙ own)) ∙ f.own; state = f.state; shown = f.shown; word = f.word; told = f.told }
+
+  nodes_move : (r : Run n) (owner : ℕ → ℕ) (words : List ℕ) (id j new i : ℕ) (ps : List NodeView) → owner j ≡ id → i ≢ id → FitNodes r owner words i ps → FitNodes r (put owner j new) words i ps
+  nodes_move r owner words id j new i [] own ne f = tt
+  nodes_move r owner words id j new i (p ∷ ps) own ne f = (node_moves r owner words id j new i p own ne f.0, nodes_move r owner words id j new i ps own ne f.1)
+
+  pub moves_owner : (r : Run n) (owner : ℕ → ℕ) (words : List ℕ) (id j new i : ℕ) (v : View) → owner j ≡ id → i ≢ id → Fits r owner words i v → Fits r (put owner j new) words i v
+  moves_owner r owner words id j new i (founder a p made) own ne f = record { count = f.count; shown = f.shown; own = λ k x l. put_else owner j new k (λ e. ne (sym (f.own k x l) ∙ ap owner e ∙ own)) ∙ f.own k x l; state = f.state; word = f.word }
+  moves_owner r owner words id j new i (of_node p) own ne f = node_moves r owner words id j new i p own ne f
+  moves_owner r owner words id j new i (of_caller c) own ne f = f
+  moves_owner r owner words id j new i (of_message l) own ne f = f
+  moves_owner r owner words id j new i (of_note x) own ne f = f
+  moves_owner r owner words id j new i (of_closing x) own ne f = (f.0, nodes_move r owner words id j new i x.nodes own ne f.1)
+  moves_owner r owner words id j new i spent own ne f = tt
+
   -- the next node's pass
   pub founds : (id j made : ℕ) → j < n → Splits (Ruled o) id (founder j o made) (next_founder (founder j o made)) (founded_node (founder j o made))
   founds id j made inside s d at =
@@ -181,14 +198,6 @@ module _ (o : Opening) where
         counted = counts_more views' (of_node (opened_node o j)) o.controller.version version refl refl refl refl
             (counts_on s.views id (founder j o made) (founder (j + 1) o made) o.controller.version version version at record { founder = refl; caller = refl; made = refl; changes = refl } d.counted);
       }
-    where
-      moves_owner : (r : Run n) (owner : ℕ → ℕ) (words : List ℕ) (id j new i : ℕ) (v : View) → owner j ≡ id → i ≢ id → Fits r owner words i v → Fits r (put owner j new) words i v
-      moves_owner r owner words id j new i (founder a p made) own ne f = record { count = f.count; shown = f.shown; own = λ k x l. put_else owner j new k (λ e. ne (sym (f.own k x l) ∙ ap owner e ∙ own)) ∙ f.own k x l; state = f.state; word = f.word }
-      moves_owner r owner words id j new i (of_node p) own ne f = record { count = f.count; inside = f.inside; own = put_else owner j new p.number (λ e. ne (sym f.own ∙ ap owner e ∙ own)) ∙ f.own; state = f.state; shown = f.shown; word = f.word; told = f.told }
-      moves_owner r owner words id j new i (of_caller c) own ne f = f
-      moves_owner r owner words id j new i (of_message l) own ne f = f
-      moves_owner r owner words id j new i (of_note x) own ne f = f
-      moves_owner r owner words id j new i spent own ne f = tt
 
   pub founds_as : (id j made : ℕ) (v : View) → v ≡ founder j o made → j < n → Splits (Ruled o) id v (next_founder v) (founded_node v)
   founds_as id j made v is inside = subst (λ (x : View). Splits (Ruled o) id x (next_founder x) (founded_node x)) (sym is) (founds id j made inside)

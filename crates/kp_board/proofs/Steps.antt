@@ -1,5 +1,5 @@
 -- Each step keeps the rule.
-use Rattle.std.proofs.Common.{◌≡◌, ◌≢◌, ◌⊎◌, ℕ, ◌<◌, ◌≤◌, max, List, [], ◌∷◌, ◌++◌, length, get_or, set, inl, inr, ⊎_elim, refl, sym, ap, ◌∙◌, subst, arith}
+use Rattle.std.proofs.Common.{◌≡◌, ◌≢◌, ◌⊎◌, ℕ, ◌<◌, ◌≤◌, max, List, [], ◌∷◌, length, get_or, set, inl, inr, ⊎_elim, refl, sym, ap, ◌∙◌, subst, arith}
 use mathlib.Core.Logic.{dite}
 use mathlib.Core.Option.{some}
 use native.Mathlib.Decide.{ℕ_discrete}
@@ -18,9 +18,9 @@ use Rattle.kp_model.specs.Left.{Opening}
 use Rattle.kp_model.proofs.InRuns.Longer.{acted, moved_other, sent_before}
 use Rattle.kp_model.proofs.Marks.Raised.{node_moved}
 use Rattle.kp_control.specs.Word.{packed}
-use Rattle.kp_board.specs.Views.{CallerView, Note, KeptReceipt, View, founder, of_node, of_caller, of_message, of_note, spent}
+use Rattle.kp_board.specs.Views.{NodeView, CallerView, Note, KeptReceipt, View, founder, of_node, of_caller, of_message, of_note, of_closing, spent}
 use Rattle.kp_board.proofs.Counting.{Counts, counts_on}
-use Rattle.kp_board.specs.Rule.{mark_word, WasWatermark, WasRecord, AreAppended, AreSent, WereRecords, IsOfRun, FitsNote, FitsCaller, Fits, Ruled}
+use Rattle.kp_board.specs.Rule.{mark_word, WasWatermark, WasRecord, AreAppended, AreSent, WereRecords, IsOfRun, FitsNote, FitsNode, FitNodes, FitsCaller, Fits, Ruled}
 
 pub told_later : (messages messages' : List Message) → ((l : Message) → IsSent messages l → IsSent messages' l) → (ls : List Message) → AreSent messages ls → AreSent messages' ls
 told_later messages messages' h [] t = tt
@@ -81,15 +81,8 @@ module _ {n : ℕ} where
       reached = λ k l. let rise = later.rises k l in let low = f.reached k l in omega arith;
     }
 
-    pub others_fit : (j : ℕ) (v : View) → j ≢ id → Fits r owner words j v → Fits q owner words' j v
-    others_fit j (founder i o made) apart f = record {
-      count = f.count;
-      shown = showed_later o.controller f.shown;
-      own = f.own;
-      state = λ k a l. later.nodes k l (λ e. apart (sym (f.own k a l) ∙ e)) ∙ f.state k a l;
-      word = λ k a l. later.same k l (λ e. apart (sym (f.own k a l) ∙ e)) ∙ f.word k a l;
-    }
-    others_fit j (of_node p) apart f = let ne : owner p.number ≢ id = λ e. apart (sym f.own ∙ e) in record {
+    node_later : (j : ℕ) (p : NodeView) → j ≢ id → FitsNode r owner words j p → FitsNode q owner words' j p
+    node_later j p apart f = let ne : owner p.number ≢ id = λ e. apart (sym f.own ∙ e) in record {
       count = f.count;
       inside = f.inside;
       own = f.own;
@@ -98,9 +91,24 @@ module _ {n : ℕ} where
       word = later.same p.number f.inside ne ∙ f.word;
       told = told_later (last r).messages (last q).messages later.messages p.told f.told;
     }
+
+    nodes_later : (j : ℕ) (ps : List NodeView) → j ≢ id → FitNodes r owner words j ps → FitNodes q owner words' j ps
+    nodes_later j [] apart f = tt
+    nodes_later j (p ∷ ps) apart f = (node_later j p apart f.0, nodes_later j ps apart f.1)
+
+    pub others_fit : (j : ℕ) (v : View) → j ≢ id → Fits r owner words j v → Fits q owner words' j v
+    others_fit j (founder i o made) apart f = record {
+      count = f.count;
+      shown = showed_later o.controller f.shown;
+      own = f.own;
+      state = λ k a l. later.nodes k l (λ e. apart (sym (f.own k a l) ∙ e)) ∙ f.state k a l;
+      word = λ k a l. later.same k l (λ e. apart (sym (f.own k a l) ∙ e)) ∙ f.word k a l;
+    }
+    others_fit j (of_node p) apart f = node_later j p apart f
     others_fit j (of_caller c) apart f = caller_later c f
     others_fit j (of_message l) apart f = later.messages l f
     others_fit j (of_note x) apart f = note_later x f
+    others_fit j (of_closing x) apart f = (begins_later x.seen f.0, nodes_later j x.nodes apart f.1)
     others_fit j spent apart f = tt
 
   -- the views, after one has changed

@@ -7,3 +7,4 @@ pub mod Decisions
 pub mod Posts
 pub mod Calls
 pub mod Laws
+pub mod Closing

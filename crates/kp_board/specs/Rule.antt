@@ -11,7 +11,7 @@ use Rattle.kp_model.specs.Event.{Outcome, Elect}
 use Rattle.kp_model.specs.Step.{Step}
 use Rattle.kp_model.specs.Run.{Run, BeginsHeld, IsOf, last, extend, WasAppended}
 use Rattle.kp_model.specs.Left.{IsOpening, Opening, node_in}
-use Rattle.kp_board.specs.Views.{NodeView, CallerView, Note, KeptReceipt, View, founder, of_node, of_caller, of_message, of_note, spent, made_by, one_if_founder, one_if_caller, changes_by}
+use Rattle.kp_board.specs.Views.{NodeView, CallerView, Note, KeptReceipt, View, founder, of_node, of_caller, of_message, of_note, of_closing, spent, made_by, one_if_founder, one_if_caller, changes_by}
 
 -- The words: word 0 is the controller's record, packed; then for each node its log end offset and its watermark. Of an end
 -- word the rule says nothing: it is for those who look and need no promise.
@@ -95,12 +95,18 @@ module _ {n : ℕ} (r : Run n) where
     pub state : (k : ℕ) → j ≤ k → k < n → (last r).nodes k ≡ node_in o k
     pub word : (k : ℕ) → j ≤ k → k < n → slice_index words (mark_word k) ≡ (node_in o k).watermark
 
+  -- each of these nodes is just what is shown of it, and is this pass's own
+  abbrev pub FitNodes : (owner : ℕ → ℕ) (words : List ℕ) (id : ℕ) → List NodeView → Type 0
+  FitNodes owner words id [] = Unit {0}
+  FitNodes owner words id (p ∷ ps) = FitsNode owner words id p × FitNodes owner words id ps
+
   abbrev pub Fits : (owner : ℕ → ℕ) (words : List ℕ) (id : ℕ) → View → Type 0
   Fits owner words id (founder j o made) = FitsFounder owner words id j o
   Fits owner words id (of_node p) = FitsNode owner words id p
   Fits owner words id (of_caller c) = FitsCaller words c
   Fits owner words id (of_message l) = IsSent (last r).messages l
   Fits owner words id (of_note x) = FitsNote words x
+  Fits owner words id (of_closing x) = BeginsHeld r x.seen × FitNodes owner words id x.nodes
   Fits owner words id spent = Unit {0}
 
 -- What the passes of a board count between them: there is one founder; it has made each caller's pass; and each change of the

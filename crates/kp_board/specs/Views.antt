@@ -41,15 +41,21 @@ pub record CallerView : Type 0 where
   pub receipts : List KeptReceipt
   pub changes : List LeaderAndIsr
 
+-- A pass that closes the board: the committed list that a caller has seen, and the nodes whose passes it has taken in.
+pub record ClosingView : Type 0 where
+  pub seen : List Batch
+  pub nodes : List NodeView
+
 -- All passes: the founder, which makes the passes of the nodes from j on, as the board opened with them, and has made those of so
--- many callers; a node's; a caller's; that of a message that was sent; a note on its way from one pass to another; and one that is
--- used up.
+-- many callers; a node's; a caller's; that of a message that was sent; a note on its way from one pass to another; one that closes the
+-- board; and one that is used up.
 pub data View : Type 0 where
   founder : (j : ℕ) (o : Opening) (made : ℕ) → View
   of_node : NodeView → View
   of_caller : CallerView → View
   of_message : Message → View
   of_note : Note → View
+  of_closing : ClosingView → View
   spent : View
 
 -- ---- new passes
@@ -86,6 +92,10 @@ caller_view _ = new_caller 0
 abbrev pub message_view : View → Message
 message_view (of_message l) = l
 message_view _ = no_message
+
+abbrev pub closing_view : View → ClosingView
+closing_view (of_closing x) = x
+closing_view _ = record { seen = []; nodes = [] }
 
 abbrev pub opening_of : View → Opening
 opening_of (founder j o made) = o
@@ -169,3 +179,12 @@ with_receipts c receipts = record c { receipts = receipts ++ c.receipts }
 abbrev pub receipts_of : View → View → View
 receipts_of (of_caller c) (of_note x) = of_caller (with_receipts c x.receipts)
 receipts_of v w = v
+
+-- a caller gives out a pass that closes the board, which takes in a node's pass
+abbrev pub closing_of : View → View
+closing_of (of_caller c) = of_closing (record { seen = c.seen; nodes = [] })
+closing_of _ = spent
+
+abbrev pub with_node_of : View → View → View
+with_node_of (of_closing x) (of_node p) = of_closing (record x { nodes = x.nodes ++ p ∷ [] })
+with_node_of v w = v

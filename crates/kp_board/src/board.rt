@@ -270,6 +270,20 @@ impl<B: BoardName> Board<B> {
         }
     }
 
+    // What its words lie in.
+    pub(crate) fn into_table(self) -> BoardTable
+        ensures id { (result.shared.table_id ≡ B.table.id) × (B.table.id.words ≡ 2 * self + 1) }
+        ensures key { (result.shared.key ≡ B.table.opening) × (B.table.opening.count ≡ self) }
+        ensures small { self ≤ most_nodes }
+    {
+        let Board {
+            table,
+            nodes: _,
+            name: _,
+        } = self;
+        table
+    }
+
     // The word of the record that is then the one shown.
     fn look(&self, pass: &mut Pass<B>) -> u64
         ensures { (s : ModelRecord) × Finds pass.old.shown s result × (pass.new ≡ record pass.old { shown = s })

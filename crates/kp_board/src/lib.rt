@@ -6,6 +6,7 @@
 ghost use Rattle.kp_board.specs.Laws.{CallersAgree};
 
 mod board;
+mod closing;
 mod decisions;
 mod message;
 mod node_steps;

@@ -1,6 +1,6 @@
 //! The passes of a board: what a step on its words is made with. None of them has any bytes.
-ghost use Rattle.std.specs.Prelude.{◌≡◌, ◌+◌, ◌*◌, ◌/◌, ◌<◌};
-ghost use Rattle.kp_board.specs.Views.{new_node, opened_node};
+ghost use Rattle.std.specs.Prelude.{◌≡◌, ◌+◌, ◌*◌, ◌/◌, ◌<◌, []};
+ghost use Rattle.kp_board.specs.Views.{new_node, of_node, opened_node};
 
 use crate::rule::BoardSeat;
 use kp_types::NodeId;
@@ -77,6 +77,18 @@ impl<B: BoardName> NodePass<B> {
         ensures small { result < 7 }
     {
         self.number
+    }
+
+    // What it is made of.
+    pub(crate) fn into_seat(self) -> BoardSeat
+        ensures { (result.table_id ≡ B.table.id) × (result.me ≡ (of_node self, [])) }
+    {
+        let NodePass {
+            seat,
+            number: _,
+            name: _,
+        } = self;
+        seat
     }
 }
 

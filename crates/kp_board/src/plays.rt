@@ -260,6 +260,28 @@ impl Join<SeatView> for TakesReceipts {
     ghost spent = { spent };
 }
 
+// A pass that closes the board is split off.
+pub(crate) struct Closes;
+
+impl Split<SeatView> for Closes {
+    ghost use Rattle.kp_board.specs.Views.{closing_of};
+
+    ghost left = { λ v. v };
+
+    ghost right = { closing_of };
+}
+
+// It takes in a node's pass.
+pub(crate) struct Gathers;
+
+impl Join<SeatView> for Gathers {
+    ghost use Rattle.kp_board.specs.Views.{with_node_of, spent};
+
+    ghost both = { with_node_of };
+
+    ghost spent = { spent };
+}
+
 // A pass takes in what it is told.
 pub(crate) struct Hears;
 
