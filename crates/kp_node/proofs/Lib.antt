@@ -10,3 +10,4 @@ pub mod Callers
 pub mod Changing
 pub mod Deciding
 pub mod SeatFacts
+pub mod NextLives

@@ -1,5 +1,6 @@
 pub mod Seated
 pub mod Again
+pub mod Closes
 pub mod Seats
 pub mod Calls
 pub mod Acks

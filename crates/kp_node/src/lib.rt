@@ -9,6 +9,7 @@ mod ack;
 mod again;
 mod altering;
 mod asking;
+mod closing;
 mod describing;
 mod fetched;
 mod fetching;
@@ -24,6 +25,7 @@ mod telling;
 
 pub use ack::Ack;
 pub use again::{Promise, open_again};
+pub use closing::{ClosedBoard, LeftNode, are_all, close};
 pub use describing::ProducerInLog;
 pub use fetched::{Fetched, Isolation};
 pub use node::Node;

@@ -4,6 +4,7 @@ ghost use Rattle.std.specs.Prelude.{◌≡◌, ◌+◌, ◌*◌};
 ghost use Rattle.kp_model.specs.Log.{IsBoundary};
 ghost use Rattle.kp_model.specs.World.{fresh};
 ghost use Rattle.kp_node.specs.Seated.{SeatedNode};
+ghost use Rattle.kp_replica.specs.Broker.{node_at};
 
 use kp_board::{Board, BoardName, FreshPass, LeftPass, NodePass};
 use kp_log::PartitionLog;
@@ -85,6 +86,21 @@ impl<B: BoardName> Node<B> {
             broker: Broker::Down(kept),
             pass,
         }
+    }
+
+    // What it is, and its pass. Its share of the board is let go.
+    pub(crate) fn into_parts(self) -> (Broker, NodePass<B>)
+        ensures node { node_at result.0 ≡ self.node }
+        ensures pass { result.1 ≡ self.pass }
+        ensures tied { (self.pass.state ≡ self.node.state) × (self.pass.number ≡ self.node.number) }
+    {
+        let Node {
+            alloc: _,
+            board: _,
+            broker,
+            pass,
+        } = self;
+        (broker, pass)
     }
 
     /// The node's log, settled up to its high watermark, which is a boundary of it; of one that is down, what it keeps. Its pass shows
