@@ -140,8 +140,9 @@ fn parted<B: BoardName>(
     Ok((passes, kept))
 }
 
-/// Closes a board that all its nodes have left. Some run has left the answer, and some node of it held what this caller has seen: so `open_again` may open it, and promise that, in the same process and without an assumption. F24 where a node
-/// is in its greatest life, F33; after either nothing is left. The cost is that of `Replica::restart` for each node. (Own rule.)
+/// Closes a board that all its nodes have left. Some run has left the answer, and some node of it held what this caller has seen:
+/// so `open_again` may open it, and promise that, in the same process and without an assumption. F24 where a node is in its
+/// greatest life, F33; after either nothing is left. The cost is that of `Replica::restart` for each node. (Own rule.)
 pub fn close<B: BoardName>(
     alloc: Global,
     board: Board<B>,
