@@ -9,6 +9,8 @@ mod log_files;
 #[cfg(test)]
 #[path = "../tests/made/mod.rs"]
 mod made;
+#[cfg(test)]
+mod orders;
 mod read_back;
 mod record_keeper;
 #[cfg(test)]

@@ -3,8 +3,7 @@
 mod made;
 
 use kpart::{
-    Ack, Change, Cluster, Error, Isolation, Limits, Link, Pass, Place, Receipt, Refusal, Role, Said, Status, Store, StoreError, StoreFile,
-    Workers,
+    Ack, Change, Cluster, Error, Isolation, Limits, Pass, Receipt, Refusal, Role, Said, Status, Store, StoreError, StoreFile, Workers,
 };
 use made::batch;
 use std::collections::BTreeMap;
@@ -16,8 +15,7 @@ use std::os::unix::process::CommandExt;
 use std::path::{Path, PathBuf};
 use std::process::{Child, Command, Stdio};
 use std::sync::atomic::{AtomicU64, Ordering};
-use std::thread;
-use std::time::{Duration, Instant};
+use std::time::Duration;
 
 type Done = Result<(), Box<dyn std::error::Error>>;
 
@@ -428,7 +426,6 @@ fn a_disk_that_is_full_for_a_text() -> Done {
 
 const MODE: &str = "KPART_CHILD";
 const PLACE: &str = "KPART_FOLDER";
-const TOLD: &str = "KPART_TOLD";
 const PRODUCERS: usize = 3;
 
 // What a process does that one of these tests has started; in any other one nothing.
@@ -437,7 +434,6 @@ fn child() -> Done {
     let (Ok(mode), Ok(folder)) = (std::env::var(MODE), std::env::var(PLACE)) else { return Ok(()) };
     println!(); // behind the test's name
     match mode.as_str() {
-        "load" => load(Path::new(&folder)),
         "limited" => limited(Path::new(&folder)),
         _ => read_only(Path::new(&folder)),
     }
@@ -491,14 +487,12 @@ fn check(folder: &Folder, told: &[u64; PRODUCERS], end: u64, chance: &mut Chance
     Ok(())
 }
 
-const SIGKILL: c_int = 9;
 const SIGXFSZ: c_int = 25;
 const SIG_IGN: usize = 1;
 const RLIMIT_FSIZE: c_int = 1;
 const NO_LIMIT: u64 = u64::MAX;
 
 unsafe extern "C" {
-    fn kill(process: c_int, signal: c_int) -> c_int;
     fn signal(signal: c_int, handler: usize) -> usize;
     fn setrlimit(resource: c_int, limits: &[u64; 2]) -> c_int;
 }
@@ -512,105 +506,6 @@ impl Chance {
         self.0 ^= self.0 >> 7;
         self.0 ^= self.0 << 17;
         (self.0 >> 16) as usize % bound
-    }
-}
-
-#[test]
-fn a_process_is_killed_at_any_moment() -> Done {
-    let rounds = std::env::var("KPART_ROUNDS").ok().and_then(|it| it.parse().ok()).unwrap_or(50);
-    let (folder, mut told, mut chance) = (Folder::new("killed"), [0; PRODUCERS], Chance(17));
-    for _ in 0..rounds {
-        let words = told.map(|it| it.to_string()).join(" ");
-        let mut child = command(&std::env::current_exe()?, "load", &folder.0).env(TOLD, words).spawn()?;
-        let (id, time) = (child.id() as c_int, Duration::from_millis(chance.below(150) as u64));
-        let end = thread::scope(|scope| {
-            scope.spawn(move || {
-                thread::sleep(time);
-                // SAFETY: nobody has waited for the child yet, so it is the one of that number.
-                unsafe { kill(id, SIGKILL) };
-            });
-            heard(&mut child, &mut told)
-        })?;
-        assert!(!child.wait()?.success());
-        if folder.0.join("record").exists() {
-            check(&folder, &told, end, &mut chance)?;
-        }
-    }
-    println!("{rounds} processes were killed, and {told:?} batches acknowledged");
-    assert!(rounds < 10 || told.iter().all(|it| *it > 0));
-    Ok(())
-}
-
-// Producers, while nodes are elected, stopped and cut off, until somebody kills this process.
-fn load(folder: &Path) -> Done {
-    let told: Vec<u64> = std::env::var(TOLD)?.split(' ').map(|it| it.parse().expect("a number")).collect();
-    let (cluster, _) = Store::open(folder, 3, LIMITS)?;
-    let workers = Workers::start(&cluster, EVERY)?;
-    thread::scope(|scope| {
-        for (producer, next) in told.into_iter().enumerate() {
-            let (cluster, workers) = (&cluster, &workers);
-            scope.spawn(move || produce(cluster, workers, producer, next).expect("it goes on"));
-        }
-        disturb(&cluster, &workers)
-    })?;
-    Ok(())
-}
-
-// One batch after another, each again until it is acknowledged.
-fn produce(cluster: &Cluster, workers: &Workers, producer: usize, mut next: u64) -> Result<(), Error> {
-    let mut pass = cluster.pass()?;
-    loop {
-        let Some((leader, _)) = pass.leadership()?.leader else { continue };
-        let made = cluster.node(leader)?.produce(&mut pass, &numbered(producer as u64, next));
-        let receipt = match made {
-            Ok(receipt) => receipt,
-            Err(Error::Refused(Refusal::NotLeader | Refusal::Down)) => {
-                thread::sleep(Duration::from_micros(200));
-                continue;
-            }
-            Err(error) => return Err(error),
-        };
-        workers.replicate(leader)?;
-        match cluster.wait_acked(&mut pass, leader, &receipt, Duration::from_millis(5)) {
-            Ok(Ack::Yes) => {
-                tell(producer, next, receipt.last);
-                next += 1;
-            }
-            Ok(_) | Err(Error::Refused(Refusal::Down)) => {}
-            Err(error) => return Err(error),
-        }
-    }
-}
-
-fn disturb(cluster: &Cluster, workers: &Workers) -> Result<(), Error> {
-    let (mut pass, start) = (cluster.pass()?, Instant::now());
-    let mut chance = Chance(u64::from(std::process::id()) << 20 | 1);
-    loop {
-        let (node, other) = (chance.below(3) as u8, chance.below(3) as u8);
-        let record = pass.leadership()?;
-        let leader = record.leader.map_or(node, |it| it.0);
-        match chance.below(8) {
-            0..3 => drop(pass.elect(node)),
-            3 => {
-                let _stopped = cluster.node(node)?.stop();
-                workers.propose(leader, Change::Leave(node));
-                thread::sleep(Duration::from_millis(2));
-                let _started = cluster.node(node)?.restart();
-            }
-            4 => workers.propose(leader, Change::Leave(node)),
-            5 => {
-                workers.link(Place::Node(node), Place::Node(other), Link::Cut);
-                thread::sleep(Duration::from_millis(3));
-                workers.link(Place::Node(node), Place::Node(other), Link::Up);
-            }
-            _ => workers.propose(leader, Change::Join(node)),
-        }
-        // A leader that was restarted has to be elected anew.
-        if cluster.node(leader)?.show()?.status == Status::Idle {
-            let _elected = pass.elect(leader);
-        }
-        assert!(start.elapsed() < LONG, "nobody has killed it");
-        thread::sleep(Duration::from_millis(1));
     }
 }
 

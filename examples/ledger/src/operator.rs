@@ -30,6 +30,14 @@ impl<'a> Operator<'a> {
         Ok(lines)
     }
 
+    /// Has each node that isn't in sync join, as a run before this one may have ended while one was stopped.
+    pub fn join_all(&mut self) -> Result<(), Fault> {
+        let record = self.pass.leadership()?;
+        let (leader, _) = record.leader.ok_or("nobody leads")?;
+        let outside = (0..self.cluster.nodes()).filter(|it| !record.has_in_sync(*it));
+        outside.into_iter().try_for_each(|it| self.change(leader, Change::Join(it), |in_sync| in_sync))
+    }
+
     fn wait(&self, number: u64, acknowledged: &AtomicU64) -> Result<(), Fault> {
         while acknowledged.load(Ordering::Relaxed) < number {
             self.clock.pause()?;

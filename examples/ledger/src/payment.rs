@@ -29,6 +29,16 @@ impl Payment {
         Payment { id: producer << 32 | number, from: from as u32, to: to as u32, amount: 1 + (number % 100) as i64 }
     }
 
+    /// Whose payment it is.
+    pub fn producer(&self) -> u64 {
+        self.id >> 32
+    }
+
+    /// Which one of its producer's, from 0.
+    pub fn number(&self) -> u64 {
+        self.id & u64::from(u32::MAX)
+    }
+
     /// Both entries: they add up to 0.
     pub fn entries(&self) -> [Entry; 2] {
         let entry = |account, change| Entry { payment: self.id, account, change };

@@ -5,20 +5,26 @@ use super::disk::Disk;
 use super::read_back::read_back;
 use super::tearing::Folder;
 use super::text::StateText;
-use super::watch::{Act, Chance, Watch, Wreck, put, seeds};
+use super::watch::{Act, Chance, Order, Watch, Wreck, ordered, own_order, put, seeds};
 use super::{Store, StoreError, StoreFile, made};
 use crate::cluster::{Cluster, Pass};
 use crate::error::{Error, Refusal};
 use crate::fetched::Isolation;
 use crate::ffi::Limits;
 use crate::message::{Addressee, Message, Said};
-use crate::values::{self, Ack, Change, NodeState, Receipt, Status};
+use crate::values::{Ack, Change, Kept, NodeState, Receipt, Status};
 use std::collections::BTreeMap;
 use std::path::Path;
 use std::sync::Arc;
 
 const LIMITS: Limits = Limits { segment_bytes: 400, index_interval: 100, max_batch: 1_000 };
 const PRODUCER: u64 = 7;
+
+/// So many runs by chance a test has, each of so many processes, of so many acts.
+pub(super) const SEEDS: u64 = 60;
+pub(super) const LIVES: usize = 5;
+pub(super) const ACTS: usize = 120;
+
 // So many batches wait for their acknowledgements at most; the library knows so many again.
 const WAITING: usize = 5;
 
@@ -172,8 +178,26 @@ fn replicate(cluster: &Cluster, leader: u8, follower: u8) -> Result<(), Error> {
     Ok(())
 }
 
+/// What is wrong with what was found, by a word for its kind first.
+#[derive(Debug)]
+pub(super) struct Wrong(pub String);
+
+impl From<Error> for Wrong {
+    fn from(error: Error) -> Wrong {
+        Wrong(format!("refused: {error}"))
+    }
+}
+
+pub(super) fn holds(fact: bool, why: impl FnOnce() -> String) -> Result<(), Wrong> {
+    if fact { Ok(()) } else { Err(Wrong(why())) }
+}
+
+fn opened(folder: &Path, nodes: u8) -> Result<(Cluster, Store), Wrong> {
+    Store::open(folder, nodes, LIMITS).map_err(|it| Wrong(format!("damaged: {it}")))
+}
+
 // All that is committed once one of those in sync leads, and all have what it has.
-fn all_values(cluster: &Cluster, chance: &mut Chance) -> Result<Vec<String>, Error> {
+fn all_values(cluster: &Cluster, chance: &mut Chance) -> Result<Vec<String>, Wrong> {
     let mut pass = cluster.pass()?;
     let (record, nodes) = (pass.leadership()?, cluster.nodes());
     let in_sync: Vec<u8> = (0..nodes).filter(|it| record.has_in_sync(*it)).collect();
@@ -190,7 +214,8 @@ fn all_values(cluster: &Cluster, chance: &mut Chance) -> Result<Vec<String>, Err
         replicate(cluster, leader, follower)?;
     }
     let mut node = cluster.node(leader)?;
-    assert_eq!(node.raise()?, node.show()?.end);
+    let (mark, end) = (node.raise()?, node.show()?.end);
+    holds(mark == end, || format!("disagree: of {end} offsets {mark} are committed"))?;
     let mut fetched = node.fetch(&mut pass, 0, u32::MAX, Isolation::ReadUncommitted)?;
     let records: Result<Vec<String>, Error> =
         fetched.batches.records(0).map(|it| Ok(String::from_utf8(it?.value.unwrap_or_default()).unwrap_or_default())).collect();
@@ -199,76 +224,113 @@ fn all_values(cluster: &Cluster, chance: &mut Chance) -> Result<Vec<String>, Err
     for (number, is_known) in [(records.len().checked_sub(1), true), (Some(records.len()), false)] {
         let Some(number) = number else { continue };
         let batch = made::batch(Some((PRODUCER, number as i32)), &[value(number).as_bytes()]);
-        assert_eq!(node.produce(&mut pass, &batch)?.duplicate, is_known, "v{number}");
+        let found = node.produce(&mut pass, &batch)?.duplicate;
+        holds(found == is_known, || format!("doubled: v{number} is known: {found}"))?;
     }
     Ok(records)
 }
 
-// Opens what is there, and looks whether all is there that the client was told.
-// Where the power has never gone, the promise has all of it.
-fn check(image: &BTreeMap<String, Vec<u8>>, nodes: u8, told: usize, had_power: bool, chance: &mut Chance) {
-    let (_, folder) = (Watch::start(), Folder::new("crash-check"));
-    put(image, &folder.0).expect("it is written");
-    let (cluster, store) = Store::open(&folder.0, nodes, LIMITS).unwrap_or_else(|it| panic!("{it}"));
-    assert!(!had_power || store.promise.offset >= told as u64 && store.torn.is_empty());
-    let epoch = cluster.pass().and_then(|mut it| it.leadership()).expect("a record").leader.map(|it| it.1);
-    for node in 0..nodes {
-        let state = cluster.node(node).and_then(|mut it| it.show()).expect("a state");
-        assert!(state.kept_epoch <= epoch && state.status == Status::Idle);
-    }
-    let found = all_values(&cluster, chance).expect("it goes on");
-    assert!(found.len() >= told, "{told} were told, and {} are there", found.len());
-    assert!(found.iter().enumerate().all(|(number, it)| *it == value(number)), "{found:?}");
-    // Nothing of what was there before is in the way of what came behind it.
-    drop(cluster);
-    let (cluster, store) = Store::open(&folder.0, nodes, LIMITS).unwrap_or_else(|it| panic!("{it}"));
-    assert_eq!(store.torn, []);
-    assert!(all_values(&cluster, chance).expect("it goes on").len() >= told);
+/// What whoever called has heard of: how many batches are acknowledged, and what each node is.
+#[derive(Clone, Debug, Default)]
+pub(super) struct Heard {
+    told: usize,
+    kept: Vec<Kept>,
 }
 
-// How many operations were heard of, and what the client was told by then.
-type Moment = (usize, usize);
+impl Heard {
+    fn told(told: usize) -> Heard {
+        Heard { told, kept: Vec::new() }
+    }
+
+    fn of(life: &Life, nodes: u8) -> Result<Heard, Error> {
+        let kept: Result<Vec<Kept>, Error> = (0..nodes).map(|it| Ok(Kept::from(&life.cluster.node(it)?.show()?))).collect();
+        Ok(Heard { told: life.client.told, kept: kept? })
+    }
+
+    // A node that is there again is in a later life, and of what it was kept nothing less.
+    fn holds_of(&self, node: u8, found: &Kept) -> Result<(), Wrong> {
+        let Some(kept) = self.kept.get(usize::from(node)) else { return Ok(()) };
+        holds(found.life > kept.life, || format!("life: node {node} had {}, and has {}", kept.life, found.life))?;
+        let is_later = found.kept_epoch >= kept.kept_epoch && found.checkpoint >= kept.checkpoint;
+        holds(is_later, || format!("older: node {node} was {kept:?}, and is {found:?}"))
+    }
+}
+
+// Opens what is there, and looks whether all is there that was heard of.
+// Where the power has never gone, the promise has all of it.
+fn found(image: &BTreeMap<String, Vec<u8>>, nodes: u8, heard: &Heard, had_power: bool, chance: &mut Chance) -> Result<(), Wrong> {
+    let (_, folder, told) = (Watch::start(), Folder::new("crash-check"), heard.told);
+    put(image, &folder.0).expect("it is written");
+    let (cluster, store) = opened(&folder.0, nodes)?;
+    let has_all = store.promise.offset >= told as u64 && store.torn.is_empty();
+    holds(!had_power || has_all, || format!("forgotten: {told} were told, and found was {store:?}"))?;
+    let epoch = cluster.pass().and_then(|mut it| it.leadership())?.leader.map(|it| it.1);
+    for node in 0..nodes {
+        let state = cluster.node(node).and_then(|mut it| it.show())?;
+        heard.holds_of(node, &Kept::from(&state))?;
+        let is_known = state.kept_epoch <= epoch && state.status == Status::Idle;
+        holds(is_known, || format!("record: it has epoch {epoch:?}, and node {node} {state:?}"))?;
+    }
+    let found = all_values(&cluster, chance)?;
+    holds(found.len() >= told, || format!("lost: {told} were told, and {} are there", found.len()))?;
+    holds(found.iter().enumerate().all(|(number, it)| *it == value(number)), || format!("disagree: {found:?}"))?;
+    // Nothing of what was there before is in the way of what came behind it.
+    drop(cluster);
+    let (cluster, store) = opened(&folder.0, nodes)?;
+    holds(store.torn.is_empty(), || format!("damaged: {:?}", store.torn))?;
+    let again = all_values(&cluster, chance)?.len();
+    holds(again >= told, || format!("lost: {told} were told, and {again} are there again"))
+}
+
+fn check(image: &BTreeMap<String, Vec<u8>>, nodes: u8, told: usize, had_power: bool, chance: &mut Chance) {
+    found(image, nodes, &Heard::told(told), had_power, chance).unwrap_or_else(|it| panic!("{}", it.0));
+}
+
+// How many operations were done, and what was heard of by then.
+type Moment = (usize, Heard);
 
 // A life of so many acts, from what is in the folder on.
-fn lived(folder: &Path, habits: &Habits, client: Client, acts: usize, chance: &mut Chance) -> (Arc<Watch>, Vec<Moment>) {
-    let watch = Watch::start();
-    let mut moments = vec![(0, client.told)];
+fn lived(folder: &Path, habits: &Habits, heard: Heard, acts: usize, chance: &mut Chance) -> (Arc<Watch>, Vec<Moment>) {
+    let (watch, client) = (Watch::start(), Client { told: heard.told, waiting: Vec::new() });
+    let mut moments = vec![(0, heard)];
     let (mut life, _) = Life::new(folder, habits.nodes, client).unwrap_or_else(|it| panic!("{it}"));
     for number in 0..acts {
         let done = if number == 0 { life.begin(habits.nodes, chance) } else { life.act(habits, chance) };
         if let Err(error @ (Error::Store(_) | Error::Misuse(_))) = done {
             panic!("{error}");
         }
-        moments.push((watch.count(), life.client.told));
+        moments.push((watch.count(), Heard::of(&life, habits.nodes).expect("it is shown")));
     }
     (watch, moments)
 }
 
-// The process ends again and again, each time at some operation, and goes on from what is there then. What a process that was killed has not
-// synced the next one finds, but it may still be lost.
-fn crashes(seed: u64, lives: usize, acts: usize) -> usize {
+/// The process ends again and again, each time at some operation, and goes on from what is there then. What a process that was killed has
+/// not synced the next one finds, but it may still be lost. How many batches were acknowledged, where all was found each time.
+pub(super) fn crashes(seed: u64, lives: usize, acts: usize, order: Order) -> Result<usize, Wrong> {
     let mut chance = Chance::new(seed);
     let habits = Habits::drawn(&mut chance);
-    let (mut wreck, mut told, mut had_power) = (Wreck::default(), 0, true);
+    let (mut wreck, mut heard, mut had_power) = (Wreck::default(), Heard::default(), true);
     for _ in 0..lives {
         let folder = Folder::new("crash");
         put(&wreck.all_of(), &folder.0).expect("it is written");
-        let (watch, moments) = lived(&folder.0, &habits, Client { told, waiting: Vec::new() }, acts, &mut chance);
+        let (watch, moments) = lived(&folder.0, &habits, heard.clone(), acts, &mut chance);
         let end = chance.below(watch.count() + 1);
-        watch.acts()[..end].iter().for_each(|(name, act)| wreck.hears(*name, act));
-        told = moments.iter().filter(|it| it.0 <= end).map(|it| it.1).max().unwrap_or(told);
+        let acts = watch.acts();
+        ordered(&acts, order).iter().filter(|it| it.0 < end).for_each(|(_, (name, act))| wreck.hears(*name, act));
+        heard = moments.into_iter().rfind(|it| it.0 <= end).map_or(heard, |it| it.1);
         if chance.below(2) == 0 {
             had_power = false;
             wreck = Wreck::of(&wreck.some_of(&mut chance));
         }
-        check(&wreck.all_of(), habits.nodes, told, had_power, &mut chance);
+        found(&wreck.all_of(), habits.nodes, &heard, had_power, &mut chance)?;
     }
-    told
+    Ok(heard.told)
 }
 
 #[test]
 fn what_was_acknowledged_stays_wherever_the_power_goes() {
-    let told: usize = (0..seeds(60)).map(|seed| crashes(seed, 5, 120)).sum();
+    let done = |seed| crashes(seed, LIVES, ACTS, own_order).unwrap_or_else(|it| panic!("seed {seed}: {}", it.0));
+    let told: usize = (0..seeds(SEEDS)).map(done).sum();
     println!("{told} batches were acknowledged");
     assert!(told > 0, "nothing was acknowledged");
 }
@@ -330,15 +392,15 @@ fn log_of(cluster: &Cluster, node: u8) -> Result<Vec<u8>, Error> {
 }
 
 // Of a node: its state and its log's bytes as they are on the disk for good, and as it has them.
-struct Kept {
+struct OnDisk {
     state: StateText,
     log: Vec<u8>,
     shown: NodeState,
     shown_log: Vec<u8>,
 }
 
-impl Kept {
-    fn of(watch: &Watch, cluster: &Cluster, node: u8) -> Result<Kept, Error> {
+impl OnDisk {
+    fn of(watch: &Watch, cluster: &Cluster, node: u8) -> Result<OnDisk, Error> {
         let (mut wreck, folder) = (Wreck::default(), Folder::new("crash-kept"));
         watch.acts().iter().for_each(|(name, act)| wreck.hears(*name, act));
         put(&wreck.least_of(), &folder.0).expect("it is written");
@@ -347,11 +409,11 @@ impl Kept {
         let state = StateText::of(&text).expect("it is whole");
         let log = read_back(&disk, node, &state).expect("it is whole").log;
         let shown_log = log_of(cluster, node)?;
-        Ok(Kept { state, log, shown: cluster.node(node)?.show()?, shown_log })
+        Ok(OnDisk { state, log, shown: cluster.node(node)?.show()?, shown_log })
     }
 
     fn is_all(&self) -> bool {
-        self.log == self.shown_log && self.state.kept == values::Kept::from(&self.shown)
+        self.log == self.shown_log && self.state.kept == Kept::from(&self.shown)
     }
 }
 
@@ -391,10 +453,10 @@ fn what_a_call_rests_on_is_on_the_disk() -> Result<(), Error> {
         replicate(&cluster, 0, 1)?;
         cluster.node(0)?.raise()?;
         put(&mut pass, 1)?;
-        let kept = Kept::of(&watch, &cluster, 0)?;
+        let kept = OnDisk::of(&watch, &cluster, 0)?;
         assert_eq!(kept.log.len() * 2, kept.shown_log.len(), "a batch alone is no reason to wait for the disk");
         call(&cluster, &mut pass, request)?;
-        let kept = Kept::of(&watch, &cluster, 0)?;
+        let kept = OnDisk::of(&watch, &cluster, 0)?;
         assert!(kept.is_all(), "{name}");
         assert_eq!(kept.shown.life + kept.shown.checkpoint > 0, ["restart", "checkpoint"].contains(&name));
     }
@@ -408,9 +470,9 @@ fn what_a_call_rests_on_is_on_the_disk() -> Result<(), Error> {
     let request = cluster.node(1)?.ask()?;
     let answer = cluster.node(0)?.step(request)?.expect("a leader answers");
     cluster.node(1)?.step(answer)?;
-    assert!(Kept::of(&watch, &cluster, 1)?.log.is_empty());
+    assert!(OnDisk::of(&watch, &cluster, 1)?.log.is_empty());
     let _request = cluster.node(1)?.ask()?;
-    assert!(Kept::of(&watch, &cluster, 1)?.is_all());
+    assert!(OnDisk::of(&watch, &cluster, 1)?.is_all());
     Ok(())
 }
 
@@ -435,7 +497,7 @@ fn diverged(folder: &Folder) -> Result<(Cluster, Pass), Error> {
 
 // Whichever operation of a cut fails: the node is stopped, and once it is started again, or read back, the cut is ended.
 #[test]
-fn a_cut_that_fails_is_ended() -> Result<(), Error> {
+fn a_cut_that_fails_is_ended() -> Result<(), Wrong> {
     let (mut fault, mut fails) = (0, true);
     while fails {
         let (watch, folder) = (Watch::start(), Folder::new("crash-cut"));
@@ -457,7 +519,7 @@ fn a_cut_that_fails_is_ended() -> Result<(), Error> {
         }
         replicate(&cluster, 1, 0)?;
         for node in 0..2 {
-            let kept = Kept::of(&watch, &cluster, node)?;
+            let kept = OnDisk::of(&watch, &cluster, node)?;
             assert!(kept.is_all() && kept.shown.end == 4, "operation {fault}");
         }
         drop((cluster, pass));
@@ -544,7 +606,7 @@ fn a_new_store_is_whole_or_none() -> Result<(), Error> {
 
 // Whichever operation of an opening fails, of a new store or one that is there: the next one finds all.
 #[test]
-fn an_opening_that_fails_is_tried_again() -> Result<(), Error> {
+fn an_opening_that_fails_is_tried_again() -> Result<(), Wrong> {
     for is_there in [false, true] {
         let (mut fault, mut fails) = (0, true);
         while fails {

@@ -1,13 +1,14 @@
 //! A log's files by themselves: what is read back wherever the power goes, and where the disk is full. No node is needed.
 
+use super::crashes::{Wrong, holds};
 use super::disk::Disk;
 use super::fault::{StoreError, StoreFault, StoreFile};
 use super::keeper::Keeper;
 use super::log_files::{Extent, LogFiles};
 use super::made;
 use super::read_back::{ReadBack, read_back};
-use super::text::{EpochStart, StateText};
-use super::watch::{Chance, Watch, Wreck, put, seeds};
+use super::text::StateText;
+use super::watch::{Chance, Order, Watch, Wreck, ordered, own_order, put, seeds};
 use crate::finding::BatchesIn;
 use crate::values::{BatchHead, NodeState, Status};
 use std::fs;
@@ -16,6 +17,10 @@ use std::sync::Arc;
 use std::sync::atomic::{AtomicUsize, Ordering};
 
 const SEGMENT_BYTES: u32 = 300;
+
+/// So many runs by chance a test has, of so many steps.
+pub(super) const SEEDS: u64 = 3;
+pub(super) const STEPS: usize = 25;
 
 /// A folder that is gone with this.
 pub(crate) struct Folder(pub PathBuf);
@@ -286,45 +291,60 @@ fn run(folder: &Folder, seed: u64, steps: usize) -> Result<(Arc<Watch>, Vec<Mome
     Ok((watch, moments))
 }
 
-// What was read back, where the step after `old` was under way by which it was to be `new`.
-fn check(image: &Folder, step: Step, old: &Log, new: &Log) {
-    let (state, found) = read_all(&image.0).unwrap_or_else(|it| panic!("{step:?}: {it}"));
-    let kept = state.kept;
-    assert!([old, new].iter().any(|it| (it.checkpoint, Some(it.kept_epoch)) == (kept.checkpoint, kept.kept_epoch)), "{step:?}");
-    let bytes = &found.log[..];
-    match step {
-        Step::Add(..) => {
-            assert!(bytes.starts_with(&old.bytes()) && new.bytes().starts_with(bytes));
-            assert!(new.batches.iter().any(|it| it.0.end() == found.extent.end) || found.extent.end == 0);
-        }
-        _ => assert!(bytes == old.bytes() || bytes == new.bytes(), "{step:?}"),
-    }
-    assert!(kept.checkpoint <= found.extent.end);
-    let epochs: Vec<EpochStart> = found.extent.epochs;
-    assert!(epochs.iter().all(|it| it.epoch <= new.kept_epoch) && epochs.windows(2).all(|it| it[0].epoch < it[1].epoch));
+fn read_whole(folder: &Path) -> Result<(StateText, ReadBack), Wrong> {
+    let state = fs::read(StoreFile::State(0).path(folder)).unwrap_or_default();
+    StateText::of(&state).map_err(|it| Wrong(format!("damaged: state: byte {}: {}", it.byte, it.why)))?;
+    read_all(folder).map_err(|it| Wrong(format!("damaged: {it}")))
 }
 
-#[test]
-fn wherever_the_power_goes_a_moment_is_there() -> Result<(), StoreFault> {
-    for seed in 0..seeds(3) {
-        let folder = Folder::new("power");
-        let (watch, moments) = run(&folder, seed, 25)?;
-        let (acts, mut wreck, mut chance) = (watch.acts(), Wreck::default(), Chance::new(seed + 100));
-        for (count, (name, act)) in (1..).zip(&acts) {
+// What was read back, where the step after `old` was under way by which it was to be `new`.
+fn found(image: &Folder, step: Step, old: &Log, new: &Log) -> Result<(), Wrong> {
+    let (state, found) = read_whole(&image.0)?;
+    let (kept, bytes, extent) = (state.kept, &found.log[..], &found.extent);
+    let is_kept = [old, new].iter().any(|it| (it.checkpoint, Some(it.kept_epoch)) == (kept.checkpoint, kept.kept_epoch));
+    holds(is_kept, || format!("older: {step:?}: {kept:?}"))?;
+    let is_moment = match step {
+        Step::Add(..) => {
+            let is_whole = new.batches.iter().any(|it| it.0.end() == extent.end) || extent.end == 0;
+            bytes.starts_with(&old.bytes()) && new.bytes().starts_with(bytes) && is_whole
+        }
+        _ => bytes == old.bytes() || bytes == new.bytes(),
+    };
+    let ends = [old.end(), new.end(), extent.end];
+    holds(is_moment, || format!("{}: {step:?}: {ends:?}", if extent.end < old.end().min(new.end()) { "lost" } else { "no moment" }))?;
+    holds(kept.checkpoint <= extent.end, || format!("lost: {step:?}: {ends:?}, with checkpoint {}", kept.checkpoint))?;
+    let is_risen = extent.epochs.windows(2).all(|it| it[0].epoch < it[1].epoch);
+    let is_adopted = extent.epochs.iter().all(|it| it.epoch <= new.kept_epoch);
+    holds(is_risen && is_adopted, || format!("disagree: {step:?}: {:?}", extent.epochs))
+}
+
+/// Wherever the power goes, or the process is killed, in a run of so many steps: a moment of it is there.
+pub(super) fn tears(seed: u64, steps: usize, order: Order) -> Result<(), Wrong> {
+    let folder = Folder::new("power");
+    let (watch, moments) = run(&folder, seed, steps).map_err(|it| Wrong(it.to_string()))?;
+    let (acts, mut wreck, mut chance) = (watch.acts(), Wreck::default(), Chance::new(seed + 100));
+    let mut rest = ordered(&acts, order).into_iter().peekable();
+    for count in 1..=acts.len() {
+        while let Some((_, (name, act))) = rest.next_if(|it| it.0 < count) {
             wreck.hears(*name, act);
-            let Some(at) = moments.iter().rposition(|it| it.0 <= count) else { continue };
-            let (ended, old) = (moments[at].0 == count, &moments[at].2);
-            // Where a step has just ended, all of it is there.
-            let (step, new) = if ended { (Step::Checkpoint, old) } else { (moments[at + 1].1, &moments[at + 1].2) };
-            for kills in [true, false, false, false] {
-                let image = Folder::new("power-image");
-                let files = if kills { wreck.all_of() } else { wreck.clone().some_of(&mut chance) };
-                put(&files, &image.0).expect("it is written");
-                check(&image, step, old, new);
-            }
+        }
+        let Some(at) = moments.iter().rposition(|it| it.0 <= count) else { continue };
+        let (ended, old) = (moments[at].0 == count, &moments[at].2);
+        // Where a step has just ended, all of it is there.
+        let (step, new) = if ended { (Step::Checkpoint, old) } else { (moments[at + 1].1, &moments[at + 1].2) };
+        for kills in [true, false, false, false] {
+            let image = Folder::new("power-image");
+            let files = if kills { wreck.all_of() } else { wreck.clone().some_of(&mut chance) };
+            put(&files, &image.0).expect("it is written");
+            found(&image, step, old, new)?;
         }
     }
     Ok(())
+}
+
+#[test]
+fn wherever_the_power_goes_a_moment_is_there() {
+    (0..seeds(SEEDS)).for_each(|seed| tears(seed, STEPS, own_order).unwrap_or_else(|it| panic!("seed {seed}: {}", it.0)));
 }
 
 #[test]

@@ -33,7 +33,7 @@ pub(crate) struct Watch {
 
 #[derive(Debug, Default)]
 struct Heard {
-    acts: Vec<(StoreFile, Act)>,
+    acts: Vec<Deed>,
     count: usize,
     refused: Range<usize>,
 }
@@ -77,9 +77,28 @@ impl Watch {
     }
 
     /// All of them that weren't refused.
-    pub(crate) fn acts(&self) -> Vec<(StoreFile, Act)> {
+    pub(crate) fn acts(&self) -> Vec<Deed> {
         lock(&self.heard).acts.clone()
     }
+}
+
+/// An operation, and what it is done to.
+pub(crate) type Deed = (StoreFile, Act);
+
+/// When an operation is done, of those that a store does, by a store with another order: at which place among them, or never.
+pub(crate) type Order = fn(&[Deed], usize) -> Option<usize>;
+
+/// The store's own.
+pub(crate) fn own_order(_deeds: &[Deed], at: usize) -> Option<usize> {
+    Some(at)
+}
+
+/// The operations as they are done by that order, each with its place. What is done later comes behind what is done there anyhow.
+pub(crate) fn ordered(deeds: &[Deed], order: Order) -> Vec<(usize, &Deed)> {
+    let placed = deeds.iter().enumerate().filter_map(|(at, deed)| order(deeds, at).map(|place| (place, place > at, deed)));
+    let mut placed: Vec<_> = placed.collect();
+    placed.sort_by_key(|it| (it.0, it.1));
+    placed.into_iter().map(|(place, _, deed)| (place, deed)).collect()
 }
 
 /// How many runs by chance a test does: as many as KPART_SEEDS says, where it is set.

@@ -29,8 +29,18 @@ fn record(number: usize, value: &[u8]) -> Vec<u8> {
 
 /// A batch of records with these values: of a producer, with the sequence number of the first one, or of none.
 pub fn batch(producer: Option<(u64, i32)>, values: &[&[u8]]) -> Vec<u8> {
+    of_attributes(0, producer, values)
+}
+
+/// The same, within a producer's transaction.
+#[allow(dead_code)] // some tests have none
+pub fn transactional(producer: (u64, i32), values: &[&[u8]]) -> Vec<u8> {
+    of_attributes(0x10, Some(producer), values)
+}
+
+fn of_attributes(attributes: i16, producer: Option<(u64, i32)>, values: &[&[u8]]) -> Vec<u8> {
     let (id, epoch, sequence) = producer.map_or((-1, -1, -1), |(id, sequence)| (id as i64, 0_i16, sequence));
-    let mut summed = vec![0, 0]; // no attributes
+    let mut summed = attributes.to_be_bytes().to_vec();
     summed.extend((values.len() as i32 - 1).to_be_bytes());
     summed.extend([1_000_i64.to_be_bytes(); 2].concat()); // both times
     summed.extend(id.to_be_bytes());
