@@ -90,7 +90,7 @@ const LIMITS: Limits = Limits {
 fn played(alloc: Global, count: NodeId, events: Vec<Event>) -> Result<String, Refusal>
     requires some { 0 < count }
     requires most { count ≤ 7 }
-    requires nodes { AllByRecursion (IsAmong count) events.items }
+    requires nodes { AllByRecursion (IsAmong count 0) events.items }
 {
     match run(alloc, count, &LIMITS, events) {
         Ok(trace) => told_run(alloc, &trace),

@@ -21,7 +21,7 @@ use Rattle.kp_replica.specs.declared.producing.Receipt.{Receipt}
 use Rattle.kp_replica.proofs.Acting.{IsMadeOf, answering, refusing, spared_too}
 use Rattle.kp_world.specs.Answers.{IsTold, appended}
 use Rattle.kp_world.specs.Plays.{LeadOn}
-use Rattle.kp_world.specs.Shown.{Stage, next}
+use Rattle.kp_world.specs.Shown.{Stage, next, next_number}
 use Rattle.kp_world.proofs.Moved.{acted}
 
 -- what came of the bytes
@@ -67,6 +67,6 @@ pub handed : EpochsAreElected → (limits : Limits) (n i : ℕ) (stage : Stage) 
     → ((offer : Result Body Refusal) → IsOffer x.limits.max_batch bytes offer → Does x m (Produce offer) (receipt_reply r))
     → LeadOn limits stage (Acts n (Produce offer) ∷ []) (appended r ∷ []) (next stage i m (effect_of r))
 handed elected_all limits n i stage x m bytes offer r same inside there is receipt spared did =
-    acted elected_all limits n i stage x m (Produce offer) (effect_of r) (appended r) same inside there tt (told_of (length stage.letters) r) (named x.limits.max_batch bytes m.state.log r receipt)
+    acted elected_all limits n i stage x m (Produce offer) (effect_of r) (appended r) same inside there tt (told_of (next_number stage) r) (named x.limits.max_batch bytes m.state.log r receipt)
     (λ of. spared_so x.limits.max_batch bytes x offer r spared (subst (λ (l : Limits). IsOffer l.max_batch bytes offer) (sym of) is))
     (λ of c looks run. came c x m offer r (did offer (subst (λ (l : Limits). IsOffer l.max_batch bytes offer) (sym of) is) c))

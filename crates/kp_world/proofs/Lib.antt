@@ -4,3 +4,4 @@ pub mod Delivered
 pub mod Told
 pub mod Handed
 pub mod GoingOn
+pub mod Leaving

@@ -1,6 +1,6 @@
 -- What a node or the controller does leads on from each run that was reached.
-use Rattle.std.proofs.Common.{◌≡◌, ◌≢◌, ℕ, ◌<◌, Bool, true, false, cond, eqb, List, [], ◌∷◌, ◌++◌, length, map, set, get_or, None, Some, Option, Result, Ok, Err, refl, sym, ap, ◌∙◌, subst, arith, inl, inr, length-set}
-use Rattle.std.proofs.lemmas.List.{get_or-map, get_or-set_same, get_or-set_other, length-map, map-append, map-set}
+use Rattle.std.proofs.Common.{◌≡◌, ◌≢◌, ℕ, ◌<◌, ◌≤◌, drop, length-append, Bool, true, false, cond, eqb, List, [], ◌∷◌, ◌++◌, length, map, set, get_or, None, Some, Option, Result, Ok, Err, refl, sym, ap, ◌∙◌, subst, arith, inl, inr, length-set}
+use Rattle.std.proofs.lemmas.List.{drop-append-le, get_or-map, get_or-set_same, get_or-set_other, length-drop, length-map, map-append, map-set}
 use Rattle.std.proofs.lemmas.Bool.{eq-eqb, ne_eqb, cases_eq}
 use Rattle.kp_types.specs.declared.limits.Limits.{Limits}
 use Rattle.kp_types.specs.declared.refusal.Refusal.{Refusal}
@@ -33,7 +33,7 @@ use Rattle.kp_world.specs.Answers.{IsTold, outcome_of}
 use Rattle.kp_world.specs.declared.event.EventAnswer.{EventAnswer}
 use Rattle.kp_world.specs.declared.event.EventAnswer.TheVariants as answers
 use Rattle.kp_world.specs.Plays.{LeadOn}
-use Rattle.kp_world.specs.Shown.{IsNode, IsShown, KeepsReceipt, Stage, next}
+use Rattle.kp_world.specs.Shown.{IsNode, IsShown, KeepsReceipt, Stage, next, next_number}
 use Rattle.kp_world.proofs.Playing.{reached_more}
 use Rattle.kp_replica.proofs.Within.{within}
 
@@ -50,6 +50,21 @@ numbered messages [] (l ∷ ls) is = absurd cc
 numbered messages (m ∷ ms) [] is = absurd cc
 numbered messages (m ∷ ms) (l ∷ ls) is = refl
 
+-- what is shown has so many messages
+pub shown_count : (limits : Limits) (stage : Stage) (w : World) → IsShown limits stage w → next_number stage ≡ length w.messages
+shown_count limits stage w shown =
+    omega (arith, shown.earlier, ap length shown.letters_are, length-drop stage.first (map letter_of w.messages), length-map w.messages letter_of)
+
+-- and messages that are sent then stand behind them
+pub shown_more : (limits : Limits) (stage : Stage) (w : World) (sent : List Message) → IsShown limits stage w
+    → (stage.first ≤ length (w.messages ++ sent)) × (drop stage.first (map letter_of (w.messages ++ sent)) ≡ stage.letters ++ map letter_of sent)
+shown_more limits stage w sent shown = (
+  omega (arith, shown.earlier, length-append w.messages sent),
+  ap (drop stage.first) (map-append letter_of w.messages sent)
+      ∙ drop-append-le stage.first (map letter_of w.messages) (map letter_of sent) (omega (arith, shown.earlier, length-map w.messages letter_of))
+      ∙ ap (λ (ls : List Letter). ls ++ map letter_of sent) shown.letters_are,
+)
+
 -- what is told is the reply, and the number of the message that was sent
 told_so : (count : ℕ) (outcome : Result Effect Refusal) (telling : Result EventAnswer Refusal) → IsTold count outcome telling
     → outcome_of telling ≡ record { reply = reply_of outcome; number = number_for count (letters_in outcome) }
@@ -58,12 +73,11 @@ told_so count (Ok (Sends body)) telling (said, is, says) =
     ap outcome_of is ∙ ap (λ (r : Reply). let o : Outcome = record { reply = r; number = Some count } in o) says
 told_so count (Err refusal) telling is = ap outcome_of is
 
-told_as : (messages : List Message) (letters : List Letter) (effect : ModelEffect) (outcome : Result Effect Refusal) (telling : Result EventAnswer Refusal) → map letter_of messages ≡ letters
-    → map letter_of effect.sent ≡ letters_in outcome → effect.reply ≡ reply_of outcome → IsTold (length letters) outcome telling → outcome_of telling ≡ answered messages effect
-told_as messages letters effect outcome telling are sent replied is =
-    let many : length letters ≡ length messages = ap length (sym are) ∙ length-map messages letter_of in
-    told_so (length letters) outcome telling is
-    ∙ ap (λ (r : Reply). let o : Outcome = record { reply = r; number = number_for (length letters) (letters_in outcome) } in o) (sym replied)
+told_as : (messages : List Message) (count : ℕ) (effect : ModelEffect) (outcome : Result Effect Refusal) (telling : Result EventAnswer Refusal) → count ≡ length messages
+    → map letter_of effect.sent ≡ letters_in outcome → effect.reply ≡ reply_of outcome → IsTold count outcome telling → outcome_of telling ≡ answered messages effect
+told_as messages count effect outcome telling many sent replied is =
+    told_so count outcome telling is
+    ∙ ap (λ (r : Reply). let o : Outcome = record { reply = r; number = number_for count (letters_in outcome) } in o) (sym replied)
     ∙ ap (λ (n : ℕ). let o : Outcome = record { reply = effect.reply; number = number_for n (letters_in outcome) } in o) many
     ∙ ap (λ (n : Option ℕ). let o : Outcome = record { reply = effect.reply; number = n } in o) (sym (numbered messages effect.sent (letters_in outcome) sent))
 
@@ -148,7 +162,7 @@ pub record Stepped (limits : Limits) (new : Stage) (m : NumberedNode) (w : World
 
 -- the node x at place n did this and became m
 pub stepped : (limits : Limits) (n : ℕ) (stage : Stage) (x m : NumberedNode) (act : Act) (outcome : Result Effect Refusal) (telling : Result EventAnswer Refusal) (w : World)
-    → n < length stage.nodes → x ≡ get_or stage.nodes n x → IsShown limits stage w → IsGiven w.messages act → IsTold (length stage.letters) outcome telling
+    → n < length stage.nodes → x ≡ get_or stage.nodes n x → IsShown limits stage w → IsGiven w.messages act → IsTold (next_number stage) outcome telling
     → (x.number ≡ n → Comes stage.controller x m act outcome) → Stepped limits (next stage n m outcome) m w n act telling
 stepped limits n stage x m act outcome telling w inside there shown given is did =
     let c = stage.controller in
@@ -165,7 +179,7 @@ stepped limits n stage x m act outcome telling w inside there shown given is did
         given = given;
         effect = e;
         local = local;
-        outcome_is = told_as w.messages stage.letters e outcome telling shown.letters_are moves.letters_are moves.reply_is is;
+        outcome_is = told_as w.messages (next_number stage) e outcome telling (shown_count limits stage w shown) moves.letters_are moves.reply_is is;
         new_is = refl;
       };
       node_is = here n e.node w.nodes ∙ moves.node_is;
@@ -173,14 +187,15 @@ stepped limits n stage x m act outcome telling w inside there shown given is did
         controller_is = shown.controller_is;
         count = shown.count ∙ sym (length-set stage.nodes n m);
         nodes_are = after limits n m stage.nodes e.node w.nodes inside (moves.same.0 ∙ old.number_is) (moves.same.1 ∙ old.limits_are) moves.node_is shown.nodes_are;
-        letters_are = map-append letter_of w.messages e.sent ∙ ap (λ (ls : List Letter). ls ++ map letter_of e.sent) shown.letters_are
+        earlier = (shown_more limits stage w e.sent shown).0;
+        letters_are = (shown_more limits stage w e.sent shown).1
             ∙ ap (λ (ls : List Letter). stage.letters ++ ls) moves.letters_are;
       };
     }
 
 -- the node x at place i, which is its number, did this and became m
 pub acted : EpochsAreElected → (limits : Limits) (n i : ℕ) (stage : Stage) (x m : NumberedNode) (act : Act) (outcome : Result Effect Refusal) (telling : Result EventAnswer Refusal) → i ≡ n
-    → n < length stage.nodes → x ≡ get_or stage.nodes i x → IsAsked act → IsTold (length stage.letters) outcome telling → NamesIn m.state.log outcome
+    → n < length stage.nodes → x ≡ get_or stage.nodes i x → IsAsked act → IsTold (next_number stage) outcome telling → NamesIn m.state.log outcome
     → (x.limits ≡ limits → TakesNoMemory x.state act → outcome ≢ Err refusals.Memory)
     → (x.limits ≡ limits → ActsSo stage.controller x m act outcome) → LeadOn limits stage (Acts n act ∷ []) (telling ∷ []) (next stage i m outcome)
 acted elected_all limits n i stage x m act outcome telling same inside there asked is named spared did count before earlier p =
@@ -194,17 +209,17 @@ acted elected_all limits n i stage x m act outcome telling same inside there ask
     let s = stepped limits n stage x m act outcome telling w inside there_n p.shown (given w.messages act asked) is
     (λ number_is. did old.limits_are c (λ looks. refl) (asked_of_run c x act asked epochs)) in
     reached_more count limits before earlier stage _ (Acts n act) telling p s.after s.step
-    (subst (λ (y : Node). KeepsReceipt y.log telling) (sym s.node_is) (told_receipt m.state.log (length stage.letters) outcome telling is named))
-    (λ takes. never_lacks (length stage.letters) outcome telling is (spared old.limits_are (subst (λ (y : Node). TakesNoMemory y act) old.state takes)))
+    (subst (λ (y : Node). KeepsReceipt y.log telling) (sym s.node_is) (told_receipt m.state.log (next_number stage) outcome telling is named))
+    (λ takes. never_lacks (next_number stage) outcome telling is (spared old.limits_are (subst (λ (y : Node). TakesNoMemory y act) old.state takes)))
     (subst (λ (k : ℕ). IsShown limits (next stage k m outcome) s.after) (sym same) s.shown)
 
 -- ---- the controller's step
 
 -- the controller's record changed by an election
-pub elected_on : (limits : Limits) (n : ℕ) (old new : CodeRecord) (members : List NumberedNode) (letters : List Letter) → elect_cause (record_of old) n ≡ None → record_of new ≡ elected (record_of old) n
-    → LeadOn limits (record { controller = record_of old; nodes = members; letters = letters }) (Elect n ∷ []) (Ok (answers.Changed new) ∷ [])
-    (record { controller = record_of new; nodes = members; letters = letters })
-elected_on limits n old new members letters free is count before earlier p =
+pub elected_on : (limits : Limits) (n : ℕ) (old new : CodeRecord) (members : List NumberedNode) (first : ℕ) (letters : List Letter) → elect_cause (record_of old) n ≡ None → record_of new ≡ elected (record_of old) n
+    → LeadOn limits (record { controller = record_of old; nodes = members; first = first; letters = letters }) (Elect n ∷ []) (Ok (answers.Changed new) ∷ [])
+    (record { controller = record_of new; nodes = members; first = first; letters = letters })
+elected_on limits n old new members first letters free is count before earlier p =
     let w = last p.run in
     let shown = p.shown in
     let c = record_of old in
@@ -214,7 +229,7 @@ elected_on limits n old new members letters free is count before earlier p =
     let unrefused : elect_cause w.controller n ≡ None = ap (λ (k : LeaderAndIsr). elect_cause k n) shown.controller_is ∙ free in
     reached_more count limits before earlier _ _ (Elect n) (Ok (answers.Changed new)) p (with_record w r)
     (subst (λ (o : Option Refusal). ElectsBy o w n (told (Changed changed)) (with_record w r)) (sym unrefused) (ap (λ (k : LeaderAndIsr). told (Changed k)) (sym same), refl)) tt (λ never. absurd never)
-    (record { controller_is = same; count = shown.count; nodes_are = shown.nodes_are; letters_are = shown.letters_are })
+    (record { controller_is = same; count = shown.count; nodes_are = shown.nodes_are; earlier = shown.earlier; letters_are = shown.letters_are })
 
 -- or the election was refused
 pub not_elected : (limits : Limits) (n : ℕ) (stage : Stage) (refusal : Refusal) → elect_cause stage.controller n ≡ Some refusal
@@ -228,16 +243,16 @@ not_elected limits n stage refusal is count before earlier p =
 -- ---- beside the code's nodes and letters
 
 -- what is carried out of an outcome leaves the stage of that outcome
-pub carried : (limits : Limits) (e : model.Event) (i : ℕ) (c : LeaderAndIsr) (brokers : List Broker) (q : Broker) (letters after : List Letter) (outcome : Result Effect Refusal)
+pub carried : (limits : Limits) (e : model.Event) (i : ℕ) (c : LeaderAndIsr) (brokers : List Broker) (q : Broker) (first : ℕ) (letters after : List Letter) (outcome : Result Effect Refusal)
     (telling : Result EventAnswer Refusal) → after ≡ letters ++ letters_in outcome
-    → LeadOn limits (record { controller = c; nodes = map node_at brokers; letters = letters }) (e ∷ []) (telling ∷ [])
-    (next (record { controller = c; nodes = map node_at brokers; letters = letters }) i (node_at q) outcome)
-    → LeadOn limits (record { controller = c; nodes = map node_at brokers; letters = letters }) (e ∷ []) (telling ∷ [])
-    (record { controller = c; nodes = map node_at (set brokers i q); letters = after })
-carried limits e i c brokers q letters after outcome telling sent leads =
-    let old : Stage = record { controller = c; nodes = map node_at brokers; letters = letters } in
-    let same : next old i (node_at q) outcome ≡ record { controller = c; nodes = map node_at (set brokers i q); letters = after } =
-    λ k. record { controller = c; nodes = sym (map-set node_at brokers i q) k; letters = sym sent k } in
+    → LeadOn limits (record { controller = c; nodes = map node_at brokers; first = first; letters = letters }) (e ∷ []) (telling ∷ [])
+    (next (record { controller = c; nodes = map node_at brokers; first = first; letters = letters }) i (node_at q) outcome)
+    → LeadOn limits (record { controller = c; nodes = map node_at brokers; first = first; letters = letters }) (e ∷ []) (telling ∷ [])
+    (record { controller = c; nodes = map node_at (set brokers i q); first = first; letters = after })
+carried limits e i c brokers q first letters after outcome telling sent leads =
+    let old : Stage = record { controller = c; nodes = map node_at brokers; first = first; letters = letters } in
+    let same : next old i (node_at q) outcome ≡ record { controller = c; nodes = map node_at (set brokers i q); first = first; letters = after } =
+    λ k. record { controller = c; nodes = sym (map-set node_at brokers i q) k; first = first; letters = sym sent k } in
     subst (λ (stage : Stage). LeadOn limits old (e ∷ []) (telling ∷ []) stage) same leads
 
 -- the broker at a place stands there among the nodes

@@ -19,7 +19,7 @@ use Rattle.kp_world.specs.Answers.{outcome_of}
 use Rattle.kp_world.specs.Events.{IsEvent, AreEvents}
 use Rattle.kp_world.specs.declared.event.EventAnswer.{EventAnswer}
 use Rattle.kp_world.specs.declared.event.Event.{Event as CodeEvent}
-use Rattle.kp_world.specs.Plays.{AllFit, Fits, HaveReceipts, IsAnswered, IsReached, LeadOn, PlaysFirst, SparesMemory}
+use Rattle.kp_world.specs.Plays.{AllFit, Fits, HaveReceipts, IsAnswered, IsReached, LeadOn, NoneLacks, PlaysFirst, SparesMemory, events_of, outcomes_of}
 use Rattle.kp_world.specs.Shown.{HasReceipt, IsShown, Stage}
 
 -- nothing has happened yet
@@ -34,23 +34,44 @@ receipts-push [] (o ∷ os) m outcome h one = absurd h
 receipts-push (x ∷ xs) [] m outcome h one = absurd h
 receipts-push (x ∷ xs) (o ∷ os) m outcome h one = (h.0, receipts-push xs os m outcome h.1 one)
 
+-- what has happened in a run, and what was answered
+pub record Gone (count : ℕ) (es : List Event) (os : List (Result EventAnswer Refusal)) (r : Run count) : Type 0 where
+  pub events_are : events_of r ≡ es
+  pub outcomes_are : outcomes_of r ≡ map outcome_of os
+  pub receipts : HaveReceipts (reverse r.moments) os
+  pub spared : NoneLacks count r.moments
+
 -- one event more
+pub gone_more : (count : ℕ) (es : List Event) (os : List (Result EventAnswer Refusal)) (r : Run count) (e : Event) (o : Result EventAnswer Refusal) (after : World) (step : Step (last r) e (outcome_of o) after)
+    → Gone count es os r → HasReceipt e after o → (SparesMemory (last r) e → (outcome_of o).reply ≢ Refused refusals.Memory)
+    → Gone count (es ++ e ∷ []) (os ++ o ∷ []) (extend r e (outcome_of o) after step)
+gone_more count es os r e o after step g receipt spared =
+    let m : Moment = record { event = e; outcome = outcome_of o; after = after } in
+    record {
+      events_are =
+          reverse-append (e ∷ []) (map (λ (m : Moment). m.event) r.moments) ∙ ap (λ (xs : List Event). xs ++ e ∷ []) g.events_are;
+      outcomes_are =
+          reverse-append (outcome_of o ∷ []) (map (λ (m : Moment). m.outcome) r.moments) ∙ ap (λ (xs : List Outcome). xs ++ outcome_of o ∷ []) g.outcomes_are
+          ∙ sym (map-append outcome_of os (o ∷ []));
+      receipts = subst (λ (ms : List Moment). HaveReceipts ms (os ++ o ∷ [])) (sym (reverse-append (m ∷ []) r.moments))
+          (receipts-push (reverse r.moments) os m o g.receipts receipt);
+      spared = (spared, g.spared);
+    }
+
+-- and what is shown of it
 pub reached_more : (count : ℕ) (limits : Limits) (es : List Event) (os : List (Result EventAnswer Refusal)) (old new : Stage) (e : Event) (o : Result EventAnswer Refusal)
     (p : IsReached count limits es os old) (after : World) → Step (last p.run) e (outcome_of o) after → HasReceipt e after o
     → (SparesMemory (last p.run) e → (outcome_of o).reply ≢ Refused refusals.Memory) → IsShown limits new after
     → IsReached count limits (es ++ e ∷ []) (os ++ o ∷ []) new
 reached_more count limits es os old new e o p after step receipt spared shown =
-    let m : Moment = record { event = e; outcome = outcome_of o; after = after } in
+    let before : Gone count es os p.run = record { events_are = p.events_are; outcomes_are = p.outcomes_are; receipts = p.receipts; spared = p.spared } in
+    let g = gone_more count es os p.run e o after step before receipt spared in
     record {
       run = extend p.run e (outcome_of o) after step;
-      events_are =
-          reverse-append (e ∷ []) (map (λ (m : Moment). m.event) p.run.moments) ∙ ap (λ (xs : List Event). xs ++ e ∷ []) p.events_are;
-      outcomes_are =
-          reverse-append (outcome_of o ∷ []) (map (λ (m : Moment). m.outcome) p.run.moments) ∙ ap (λ (xs : List Outcome). xs ++ outcome_of o ∷ []) p.outcomes_are
-          ∙ sym (map-append outcome_of os (o ∷ []));
-      receipts = subst (λ (ms : List Moment). HaveReceipts ms (os ++ o ∷ [])) (sym (reverse-append (m ∷ []) p.run.moments))
-          (receipts-push (reverse p.run.moments) os m o p.receipts receipt);
-      spared = (spared, p.spared);
+      events_are = g.events_are;
+      outcomes_are = g.outcomes_are;
+      receipts = g.receipts;
+      spared = g.spared;
       shown = shown;
     }
 

@@ -1,5 +1,5 @@
 -- The code's events as the definitions' events.
-use Rattle.std.specs.Prelude.{◌≡◌, ℕ, ◌<◌, List, [], ◌∷◌}
+use Rattle.std.specs.Prelude.{◌≡◌, ℕ, ◌<◌, ◌≤◌, List, [], ◌∷◌}
 use Rattle.kp_model.specs.Event as model
 use Rattle.kp_replica.specs.Acts.{HandsBytes, IsAct}
 use Rattle.kp_world.specs.declared.event.Event.{Event}
@@ -17,11 +17,11 @@ AreEvents max [] (e ∷ es) = ⊥
 AreEvents max (event ∷ events) [] = ⊥
 AreEvents max (event ∷ events) (e ∷ es) = IsEvent max event e × AreEvents max events es
 
--- the node that acts or is elected is one of so many; a message goes where it goes
-abbrev pub IsAmong : (count : ℕ) → Event → Type 0
-IsAmong count (Elect node) = node < count
-IsAmong count (Acts node act) = node < count
-IsAmong count (Deliver number) = Unit {0}
+-- the node that acts or is elected is one of so many; a message that comes has this number or a later one, and goes where it goes
+abbrev pub IsAmong : (count first : ℕ) → Event → Type 0
+IsAmong count first (Elect node) = node < count
+IsAmong count first (Acts node act) = node < count
+IsAmong count first (Deliver number) = first ≤ number
 
 -- what is handed in are bytes
 abbrev pub HasBytes : Event → Type 0

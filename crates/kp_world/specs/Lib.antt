@@ -3,3 +3,4 @@ pub mod Events
 pub mod Plays
 pub mod Shown
 pub mod Laws
+pub mod Left

@@ -1,5 +1,5 @@
 -- What the program's record, nodes and messages show of a world.
-use Rattle.std.specs.Prelude.{◌≡◌, ℕ, ◌<◌, List, ◌++◌, length, map, slice_index_or, slice_set, Result, Ok, Err}
+use Rattle.std.specs.Prelude.{◌≡◌, ℕ, ◌+◌, ◌<◌, ◌≤◌, List, ◌++◌, drop, length, map, slice_index_or, slice_set, Result, Ok, Err}
 use Rattle.kp_types.specs.declared.limits.Limits.{Limits}
 use Rattle.kp_types.specs.declared.refusal.Refusal.{Refusal}
 use Rattle.kp_log.specs.Partition.{Partition}
@@ -18,11 +18,17 @@ use Rattle.kp_world.specs.declared.event.EventAnswer.TheVariants.{Answered}
 abbrev pub log_of : NumberedNode → Partition
 log_of m = record { limits = m.limits; log = m.state.log; settled = m.state.watermark }
 
--- the controller's record, the nodes by their numbers, and the letters of all messages that were sent, by theirs
+-- The controller's record, the nodes by their numbers, and the letters of the messages that were sent, by theirs: from this first number on,
+-- as those before were sent by processes that have ended, and nobody has them.
 pub record Stage : Type 0 where
   pub controller : LeaderAndIsr
   pub nodes : List NumberedNode
+  pub first : ℕ
   pub letters : List Letter
+
+-- the number of the next message
+abbrev pub next_number : Stage → ℕ
+next_number stage = stage.first + length stage.letters
 
 -- what is left where the node at a place came to be this one, with this outcome
 abbrev pub next : Stage → ℕ → NumberedNode → Result Effect Refusal → Stage
@@ -30,6 +36,7 @@ next stage place node outcome =
     record {
       controller = stage.controller;
       nodes = slice_set stage.nodes place node;
+      first = stage.first;
       letters = stage.letters ++ letters_in outcome;
     }
 
@@ -39,12 +46,13 @@ pub record IsNode (limits : Limits) (number : ℕ) (m : NumberedNode) (x : Node)
   pub limits_are : m.limits ≡ limits
   pub state : x ≡ m.state
 
--- the world has this record, these nodes, each at the place of its number, and messages with these letters
+-- the world has this record, these nodes, each at the place of its number, and from the first number on messages with these letters
 pub record IsShown (limits : Limits) (stage : Stage) (w : World) : Type 0 where
   pub controller_is : w.controller ≡ stage.controller
   pub count : w.count ≡ length stage.nodes
   pub nodes_are : (n : ℕ) (d : NumberedNode) → n < length stage.nodes → IsNode limits n (slice_index_or stage.nodes n d) (w.nodes n)
-  pub letters_are : map letter_of w.messages ≡ stage.letters
+  pub earlier : stage.first ≤ length w.messages
+  pub letters_are : drop stage.first (map letter_of w.messages) ≡ stage.letters
 
 -- a receipt that is told names a batch that stands in this log
 abbrev pub KeepsReceipt : List Batch → Result EventAnswer Refusal → Type 0

@@ -4,6 +4,7 @@
 #![tactic(auto)]
 
 ghost use Rattle.kp_world.specs.Laws.{EventsAreTold, EventsAreToldOnce, PlaysGoOn};
+ghost use Rattle.kp_world.specs.Left.{LeftStagesGoOn};
 
 mod event;
 mod world;
@@ -19,6 +20,12 @@ pub fn events_are_told()
 {
     kp_replica::acts_are_told();
 }
+
+/// What a process has left may be gone on from: whatever run led to it goes on, by restarts and stops of its nodes, to the world with
+/// which [`World::again`] begins. It costs nothing.
+pub fn left_stages_go_on()
+    ensures { LeftStagesGoOn }
+{}
 
 /// Every run that is played goes on: whatever events of these come next, there are answers to them, so that a run over the
 /// first events of a list is the beginning of one over all of them. It costs nothing.

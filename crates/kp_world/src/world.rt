@@ -23,7 +23,7 @@ use kp_batch::Handed;
 use kp_control::{decided, elected};
 use kp_log::PartitionLog;
 use kp_model::{LeaderAndIsr, MessageBody, Proposal};
-use kp_replica::{Act, Broker, Effect, Receipt};
+use kp_replica::{Act, Broker, Effect, KeptNode, Receipt};
 use kp_types::{Limits, NodeId, Refusal};
 use std::alloc::{AllocError, Global};
 use std::collections::VecDeque;
@@ -33,7 +33,9 @@ use std::marker::Model;
 pub struct World {
     controller: LeaderAndIsr,
     nodes: Vec<Broker>,
-    // All messages ever sent, by their numbers.
+    // How many messages were sent by processes that have ended. Nobody has those.
+    first: u64,
+    // All messages sent since, by their numbers from that one on.
     messages: Vec<MessageBody>,
 }
 
@@ -43,6 +45,7 @@ impl Drop for World {
         let World {
             controller: _,
             nodes: _,
+            first: _,
             messages: _,
         } = self;
     }
@@ -60,17 +63,32 @@ impl Model for World {
     ghost view = { λ w. record {
       controller = record_of w.controller;
       nodes = map node_at w.nodes.items;
+      first = w.first;
       letters = map letter w.messages.items;
     } };
 }
 
-/// Puts a message behind the others, for which there is room, and tells it. O(1).
-fn send(messages: &mut Vec<MessageBody>, body: MessageBody) -> EventAnswer
+/// Takes room for a message more, and answers the number that it has: so many were sent before the first of these. It fails where memory
+/// or the numbers run out.
+#[inline(always)]
+fn room(messages: &mut Vec<MessageBody>, first: u64) -> Result<u64, AllocError>
+    ensures items { messages.new.items ≡ messages.old.items }
+    ensures room { OnOk result (length messages.new.items < vec_capacity messages.new) }
+    ensures number { IfOk result (λ number. number ≡ first + length messages.old.items) }
+{
+    messages.reserve(1)?;
+    match first.checked_add(messages.len() as u64) {
+        Some(number) => Ok(number),
+        None => Err(AllocError),
+    }
+}
+
+/// Puts the message of this number behind the others, for which there is room, and tells it. O(1).
+fn send(messages: &mut Vec<MessageBody>, number: u64, body: MessageBody) -> EventAnswer
     requires { length messages.old.items < vec_capacity messages.old }
     ensures sent { messages.new.items ≡ messages.old.items ++ body ∷ [] }
-    ensures told { TellsOf (length messages.old.items) (letter body) result }
+    ensures told { TellsOf number (letter body) result }
 {
-    let number = messages.len() as u64;
     let said = body.said();
     match messages.push(body) {
         Ok(()) => {}
@@ -79,35 +97,37 @@ fn send(messages: &mut Vec<MessageBody>, body: MessageBody) -> EventAnswer
     EventAnswer::Sent { number, said }
 }
 
-/// Tells what came of a node's act: a message that was sent stands behind the others, for which there is room. O(1).
+/// Tells what came of a node's act: a message that was sent stands behind the others, for which there is room, and has this number. O(1).
 #[inline(always)]
 fn carry_out(
     messages: &mut Vec<MessageBody>,
+    number: u64,
     outcome: Result<Effect, Refusal>,
 ) -> Result<EventAnswer, Refusal>
     requires { length messages.old.items < vec_capacity messages.old }
-    ensures told { IsTold (length messages.old.items) outcome result }
+    ensures told { IsTold number outcome result }
     ensures letters { map letter messages.new.items
         ≡ map letter messages.old.items ++ letters_in outcome }
 {
     match outcome {
         Ok(Effect::Answers(answer)) => Ok(EventAnswer::Answered(answer)),
-        Ok(Effect::Sends(body)) => Ok(send(messages, body)),
+        Ok(Effect::Sends(body)) => Ok(send(messages, number, body)),
         Err(refusal) => Err(refusal),
     }
 }
 
 /// The controller decides on the proposal: the record that is decided stands from then on, and the decision stands behind the
-/// other messages, for which there is room. F24 leaves all as it was. O(1), and no memory.
+/// other messages, for which there is room, and has this number. F24 leaves all as it was. O(1), and no memory.
 fn decide(
     controller: &mut LeaderAndIsr,
     messages: &mut Vec<MessageBody>,
+    number: u64,
     proposal: &Proposal,
 ) -> Result<EventAnswer, Refusal>
     requires { length messages.old.items < vec_capacity messages.old }
     ensures refused { IsRefusedOnlyBy
         (decide_cause (record_of controller.old) (proposal_of proposal.now)) result }
-    ensures told { IfOk result (TellsOf (length messages.old.items)
+    ensures told { IfOk result (TellsOf number
         (Deciding (decision (record_of controller.old) (proposal_of proposal.now)))) }
     ensures record { OnOk result (record_of controller.new
         ≡ decided_on (record_of controller.old) (proposal_of proposal.now)) }
@@ -118,7 +138,7 @@ fn decide(
 {
     let decision = decided(controller, proposal)?;
     *controller = decision.decided;
-    Ok(send(messages, MessageBody::Decision(decision)))
+    Ok(send(messages, number, MessageBody::Decision(decision)))
 }
 
 /// Puts an answer behind the others, for which there is room. O(1).
@@ -142,6 +162,7 @@ impl World {
         requires { count ≤ 7 }
         ensures shown { IfOk result (λ w. IsShown limits.now w (start count)) }
         ensures count { IfOk result (λ w. length w.nodes ≡ count) }
+        ensures first { IfOk result (λ w. w.first ≡ 0) }
     {
         let mut nodes = Vec::new(alloc);
         for number in 0..count {
@@ -150,6 +171,34 @@ impl World {
         Ok(World {
             controller: LeaderAndIsr::initial(count),
             nodes,
+            first: 0,
+            messages: Vec::new(alloc),
+        })
+    }
+
+    /// The nodes of a process that has ended, as they were read back, in the order of their numbers, and the record that it left; so many
+    /// messages were sent before, and the numbers go on. [`crate::left_stages_go_on`] says what run that is. O(nodes).
+    pub fn again(
+        alloc: Global,
+        controller: LeaderAndIsr,
+        kept: Vec<KeptNode>,
+        first: u64,
+    ) -> Result<World, AllocError>
+        ensures { IfOk result (λ w. w ≡ record {
+          controller = record_of controller;
+          nodes = kept.items;
+          first = first;
+          letters = [];
+        }) }
+    {
+        let mut nodes = Vec::new(alloc);
+        for node in kept {
+            nodes.push(Broker::Down(node))?;
+        }
+        Ok(World {
+            controller,
+            nodes,
+            first,
             messages: Vec::new(alloc),
         })
     }
@@ -171,6 +220,7 @@ impl World {
         ensures step { (limits : LogLimits)
             → LeadOn limits self.old (ModelElect node ∷ []) (result ∷ []) self.new }
         ensures count { length self.new.nodes ≡ length self.old.nodes }
+        ensures first { self.new.first ≡ self.old.first }
     {
         let changed = elected(&self.controller, node)?;
         self.controller = changed;
@@ -178,7 +228,7 @@ impl World {
     }
 
     /// The message of this number comes to the node to which it goes, or a proposal to the controller, which decides on it; F29
-    /// where no message has it. An `Err` says that there was no room for a message more, and nothing has happened. It is what
+    /// where no message has it. It is none of those that went with the process that had them. An `Err` says that there was no room for a message more, and nothing has happened. It is what
     /// [`World::step`] does with that event, whose cost it has.
     #[inline(never)]
     pub fn deliver(
@@ -186,23 +236,25 @@ impl World {
         alloc: Global,
         number: u64,
     ) -> Result<Result<EventAnswer, Refusal>, AllocError>
+        requires { self.old.first ≤ number }
         ensures step { IfOk result (λ outcome. (limits : LogLimits)
             → LeadOn limits self.old (ModelDeliver number ∷ []) (outcome ∷ []) self.new) }
         ensures err { OnErr result (self.new ≡ self.old) }
         ensures count { length self.new.nodes ≡ length self.old.nodes }
+        ensures first { self.new.first ≡ self.old.first }
     {
         kp_model::runs_keep_count();
         kp_model::messages_go_to_nodes();
         kp_model::runs_keep_logs();
         kp_model::runs_keep_kin();
         kp_model::no_cut_below_the_watermark();
-        self.messages.reserve(1)?;
-        let Some(body) = self.messages.get(number as usize) else {
+        let next = room(&mut self.messages, self.first)?;
+        let Some(body) = self.messages.get((number - self.first) as usize) else {
             return Ok(Err(Refusal::StaleAnswer));
         };
         if let MessageBody::Proposal(proposal) = body {
             let proposal = *proposal;
-            return Ok(decide(&mut self.controller, &mut self.messages, &proposal));
+            return Ok(decide(&mut self.controller, &mut self.messages, next, &proposal));
         }
         let Some(node) = body.addressee() else {
             return Ok(Err(Refusal::StaleAnswer)); // as no message does: each but a proposal goes to a node
@@ -212,7 +264,7 @@ impl World {
             return Ok(Err(Refusal::StaleAnswer)); // as no message of a run: its node is there
         }
         let outcome = self.nodes[node].receive(alloc, &self.controller, body);
-        Ok(carry_out(&mut self.messages, outcome))
+        Ok(carry_out(&mut self.messages, next, outcome))
     }
 
     /// The node does this. An `Err` gives the act back: there was no room for a message more, and nothing has happened. It is what
@@ -231,14 +283,15 @@ impl World {
         ensures err { OnErr result (self.new ≡ self.old) }
         ensures back { IfErr result (λ same. same ≡ act) }
         ensures count { length self.new.nodes ≡ length self.old.nodes }
+        ensures first { self.new.first ≡ self.old.first }
     {
         kp_model::epochs_are_elected();
         kp_replica::acts_are_told();
-        if self.messages.reserve(1).is_err() {
+        let Ok(next) = room(&mut self.messages, self.first) else {
             return Err(act);
-        }
+        };
         let outcome = self.nodes[usize::from(node)].act(alloc, &self.controller, act);
-        Ok(carry_out(&mut self.messages, outcome))
+        Ok(carry_out(&mut self.messages, next, outcome))
     }
 
     /// A client hands these bytes to the node, and is told the receipt: what [`World::step`] does with that event, without room for a
@@ -251,6 +304,7 @@ impl World {
             → IsEvent limits.max_batch (EventActs node (HandsBytes bytes)) e
             → LeadOn limits self.old (e ∷ []) (appended result ∷ []) self.new }
         ensures count { length self.new.nodes ≡ length self.old.nodes }
+        ensures first { self.new.first ≡ self.old.first }
     {
         kp_model::epochs_are_elected();
         self.nodes[usize::from(node)].produce(bytes)
@@ -265,13 +319,14 @@ impl World {
         alloc: Global,
         event: Event,
     ) -> Result<Result<EventAnswer, Refusal>, Event>
-        requires { IsAmong (length self.old.nodes) event }
+        requires { IsAmong (length self.old.nodes) self.old.first event }
         ensures step { IfOk result (λ outcome. (limits : LogLimits) (e : ModelEvent)
             → IsEvent limits.max_batch event e
             → LeadOn limits self.old (e ∷ []) (outcome ∷ []) self.new) }
         ensures err { OnErr result (self.new ≡ self.old) }
         ensures back { IfErr result (λ same. same ≡ event) }
         ensures count { length self.new.nodes ≡ length self.old.nodes }
+        ensures first { self.new.first ≡ self.old.first }
     {
         match event {
             Event::Elect { node } => Ok(self.elect(node)),
@@ -297,10 +352,11 @@ impl World {
         events: &mut VecDeque<Event>,
         outcomes: &mut Vec<Result<EventAnswer, Refusal>>,
     ) -> Result<(), AllocError>
-        requires { AllByRecursion (IsAmong (length self.old.nodes)) events.old.items }
+        requires { AllByRecursion (IsAmong (length self.old.nodes) self.old.first) events.old.items }
         ensures played { PlaysFirst self.old self.new events.old.items events.new.items outcomes.new.items }
         ensures all { OnOk result (events.new.items ≡ []) }
         ensures count { length self.new.nodes ≡ length self.old.nodes }
+        ensures first { self.new.first ≡ self.old.first }
     {
         outcomes.clear();
         outcomes.reserve(events.len())?;
@@ -329,7 +385,7 @@ pub fn run(
 ) -> Result<Trace, Stopped>
     requires some { 0 < count }
     requires most { count ≤ 7 }
-    requires nodes { AllByRecursion (IsAmong count) events.items }
+    requires nodes { AllByRecursion (IsAmong count 0) events.items }
     ensures played { IfOk result (λ trace. (es : List ModelEvent)
         → AreEvents limits.now.max_batch events.items es
         → IsAnswered count es trace.outcomes.items) }

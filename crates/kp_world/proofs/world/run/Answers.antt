@@ -29,8 +29,9 @@ returns-in_default-clause-stopped c =
 
 pub play-played-requires : goal.play-played-requires
 play-played-requires c =
-    subst (λ (n : ℕ). AllByRecursion (IsAmong n) c.from_vec-rest.result.items) (sym c.in-Ok.ensures.count)
-    (subst (AllByRecursion (IsAmong c.args.count)) (sym c.from_vec-rest.ensures.items) c.requires.nodes)
+    subst (λ (n : ℕ). AllByRecursion (IsAmong n c.in-Ok.world.first) c.from_vec-rest.result.items) (sym c.in-Ok.ensures.count)
+    (subst (λ (n : ℕ). AllByRecursion (IsAmong c.args.count n) c.from_vec-rest.result.items) (sym c.in-Ok.ensures.first)
+    (subst (AllByRecursion (IsAmong c.args.count 0)) (sym c.from_vec-rest.ensures.items) c.requires.nodes))
 
 -- the start
 started : (c : In-Ok) → IsReached c.args.count c.args.limits.now [] [] c.in-Ok.world

@@ -31,7 +31,8 @@ returns-clause-step c = λ limits.
     let changed = c.in_ok-changed.changed in
     let members = map node_at c.self.inside.nodes.items in
     let letters = map letter c.self.inside.messages.items in
-    let new : Stage = record { controller = record_of changed; nodes = members; letters = letters } in
+    let first = c.self.inside.first in
+    let new : Stage = record { controller = record_of changed; nodes = members; first = first; letters = letters } in
     subst (λ (stage : Stage). LeadOn limits stage (Elect c.args.node ∷ []) (Ok (answers.Changed changed) ∷ []) new) c.self.view_is
-    (elected_on limits c.args.node old changed members letters
+    (elected_on limits c.args.node old changed members first letters
     (only_none LeaderAndIsr (elect_cause (record_of old) c.args.node) changed c.in_ok-changed.ensures.refused) c.in_ok-changed.ensures.elected)

@@ -52,6 +52,7 @@ returns-in_err-reserve-clause-played c =
 pub loop-event-init : goal.loop-event-init
 loop-event-init c = record {
   count = refl;
+  first = refl;
   room = omega (arith, c.in_ok-reserve.ensures.ok);
   played = none_played c.args.self.now c.args.events.now.items c.reserve.new.self.items (c.reserve.ensures.items ∙ c.clear.ensures.items);
 }
@@ -65,12 +66,14 @@ of_next P events before rest behind event split next all =
 pub step-requires : goal.step-requires
 step-requires c =
     let p = c.loop-event.invariant.played in
-    subst (λ (n : ℕ). IsAmong n c.in-Some.event) (sym c.loop-event.invariant.count)
-    (of_next (IsAmong (length c.args.self.now.nodes)) c.args.events.now.items p.first c.loop-event.events.items c.pop_front.new.self.items c.in-Some.event p.events_are c.in-Some.ensures.items c.requires)
+    subst (λ (n : ℕ). IsAmong n c.loop-event.self.first c.in-Some.event) (sym c.loop-event.invariant.count)
+    (subst (λ (n : ℕ). IsAmong (length c.args.self.now.nodes) n c.in-Some.event) (sym c.loop-event.invariant.first)
+    (of_next (IsAmong (length c.args.self.now.nodes) c.args.self.now.first) c.args.events.now.items p.first c.loop-event.events.items c.pop_front.new.self.items c.in-Some.event p.events_are c.in-Some.ensures.items c.requires))
 
 pub loop-event-preserved : goal.loop-event-preserved
 loop-event-preserved c = record {
   count = c.step.ensures.count ∙ c.loop-event.invariant.count;
+  first = c.step.ensures.first ∙ c.loop-event.invariant.first;
   room = omega (arith, c.push_within.ensures.room, c.loop-event.invariant.room);
   played = one_played c.args.self.now c.loop-event.self c.step.new.self c.args.events.now.items c.loop-event.events.items c.pop_front.new.self.items c.in-Some.event
       c.loop-event.outcomes.items c.push_within.new.outcomes.items c.in-Ok.outcome c.loop-event.invariant.played c.in-Some.ensures.items c.push_within.ensures.pushed

@@ -6,6 +6,7 @@ use Rattle.kp_world.proofs.world.World.play.Given as goal
 abbrev pub invariant-loop-event : goal.invariant-loop-event
 invariant-loop-event l = record {
   count : length l.self.nodes ≡ length l.fn.self.nodes;
+  first : l.self.first ≡ l.fn.self.first;
   room : length l.fn.events.items ≤ vec_capacity l.outcomes;
   played : PlaysFirst l.fn.self l.self l.fn.events.items l.events.items l.outcomes.items;
 }

@@ -17,20 +17,21 @@ returns-clause-step c = λ limits e told.
     let brokers = inside.nodes.items in
     let letters = map letter inside.messages.items in
     let r = record_of inside.controller in
+    let first = inside.first in
     let node = c.args.node in
     let i = c.from.result in
     let p = c.index_mut.result.now in
     let q = c.produce.new.self in
     let receipt = c.produce.result in
     let offer = told.1.0 in
-    let old : Stage = record { controller = r; nodes = map node_at brokers; letters = letters } in
-    let new : Stage = record { controller = r; nodes = map node_at (set brokers i q); letters = letters } in
+    let old : Stage = record { controller = r; nodes = map node_at brokers; first = first; letters = letters } in
+    let new : Stage = record { controller = r; nodes = map node_at (set brokers i q); first = first; letters = letters } in
     let event : e ≡ model.Acts node (model.Produce offer) = told.2 ∙ ap (λ (a : model.Act). model.Acts node a) told.1.2 in
     let counted : length (map node_at brokers) ≡ length c.args.self.now.nodes = ap (λ (stage : Stage). length stage.nodes) c.self.view_is in
     let within : node < length (map node_at brokers) = omega (arith, counted, c.requires) in
     let inner : i < length brokers = omega (arith, within, c.from.ensures, length-map brokers node_at) in
     subst (λ (stage : Stage). LeadOn limits stage (e ∷ []) (appended receipt ∷ []) new) c.self.view_is
     (subst (λ (d : model.Event). LeadOn limits old (d ∷ []) (appended receipt ∷ []) new) (sym event)
-    (carried limits (model.Acts node (model.Produce offer)) i r brokers q letters letters (effect_of receipt) (appended receipt) (sends_none letters receipt)
+    (carried limits (model.Acts node (model.Produce offer)) i r brokers q first letters letters (effect_of receipt) (appended receipt) (sends_none letters receipt)
     (handed c.epochs_are_elected.ensures limits node i old (node_at p) (node_at q) c.args.bytes offer receipt c.from.ensures within (placed brokers i p c.index_mut.ensures.value inner)
     told.1.1 c.produce.ensures.receipt c.produce.ensures.spared c.produce.ensures.event)))

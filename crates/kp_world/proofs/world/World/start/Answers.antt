@@ -14,6 +14,7 @@ returns-clause-shown c = record {
   controller_is = sym c.initial.ensures;
   count = omega (arith, length-map c.loop-number.nodes.items node_at, c.loop-number.invariant.count);
   nodes_are = λ n d h. c.loop-number.invariant.nodes n d (omega (arith, length-map c.loop-number.nodes.items node_at, c.loop-number.invariant.count));
+  earlier = omega arith;
   letters_are = sym (ap (map letter) c.new-2.ensures.items);
 }
 
