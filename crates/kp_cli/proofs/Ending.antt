@@ -5,7 +5,7 @@ use Rattle.std.specs.Io.KnownBytes.{Keeps}
 use Rattle.kp_types.specs.declared.counted.Counted.{Counted}
 use Rattle.kp_script.specs.Ended.{RunEnd, WritesTo}
 use Rattle.kp_script.specs.Script.{IsFaultAt}
-use Rattle.kp_script.specs.Transcript.{IsRunRefusal, Writes, WritesFirst}
+use Rattle.kp_script.specs.Transcript.{IsRunRefusal, Writes, WritesFirst, no_past}
 use Rattle.kp_script.specs.Transcript.{WritesFront as WritesTraceFront}
 use Rattle.kp_types.specs.declared.refusal.Refusal.{Refusal}
 use Rattle.kp_types.specs.declared.refusal.Refusal.TheVariants as refusals
@@ -21,14 +21,14 @@ inspects_front limits input old new refusals.Memory only front = front
 inspects_front limits input old new _ only front = absurd only
 
 -- a run that ended has written its trace
-pub ran : (input old new : Option (List ℕ)) (ended : RunEnd) → WritesTo input old new ended → Writes input old new ended.refused
+pub ran : (input old new : Option (List ℕ)) (ended : RunEnd) → WritesTo no_past input old new ended → Writes no_past input old new ended.refused
 ran None old new ended written = tt
 ran (Some bytes) old new ended written = (written.0, written.1.transcript, written.2)
 
 -- a run that was refused has written nothing for a fault of the script, and else a beginning
 pub run_refused : (input old new : Option (List ℕ)) (refusal : Refusal) → IsRunRefusal refusal
     → ((line : ℕ) → refusal ≡ refusals.BadScript line → IfSome input (λ bytes. IsFaultAt bytes line) × Keeps old new)
-    → (refusal ≡ refusals.Memory → WritesFirst input old new) → WritesTraceFront input old new → RunsScript input old new (Err refusal)
+    → (refusal ≡ refusals.Memory → WritesFirst no_past input old new) → WritesTraceFront no_past input old new → RunsScript input old new (Err refusal)
 run_refused input old new (refusals.BadScript line) only fault first front = fault line refl
 run_refused input old new refusals.Device only fault first front = front
 run_refused input old new refusals.Memory only fault first front = (first refl, front)

@@ -10,7 +10,7 @@ use Rattle.kp_types.specs.declared.counted.Counted.{Counted}
 use Rattle.kp_script.specs.Ended.{RunEnd, WritesTo}
 use Rattle.kp_script.specs.Kept.{KeepsLogs, KeepsLogsFront}
 use Rattle.kp_script.specs.Script.{IsFaultAt}
-use Rattle.kp_script.specs.Transcript.{largest_batch, Writes, WritesFirst, WritesFront}
+use Rattle.kp_script.specs.Transcript.{largest_batch, no_past, Writes, WritesFirst, WritesFront}
 use Rattle.kp_inspect.specs.Inspected.{Writes as WritesDump, WritesFront as WritesDumpFront}
 use Rattle.kp_cli.specs.Told.{complaint, reason_of, status_of_refusal}
 use Rattle.kp_cli.specs.declared.fault.Fault.{Fault}
@@ -19,10 +19,10 @@ use Rattle.kp_cli.specs.declared.fault.Fault.{Fault}
 -- fault of the script nothing, a beginning of the trace where a device failed, and where a growth was refused the lines of
 -- the first events, which begin it too.
 abbrev pub RunsScript : Option (List ℕ) → Option (List ℕ) → Option (List ℕ) → Result ℕ Refusal → Type 0
-RunsScript input old new (Ok refused) = Writes input old new refused
+RunsScript input old new (Ok refused) = Writes no_past input old new refused
 RunsScript input old new (Err (refusals.BadScript line)) = IfSome input (λ bytes. IsFaultAt bytes line) × Keeps old new
-RunsScript input old new (Err refusals.Device) = WritesFront input old new
-RunsScript input old new (Err refusals.Memory) = WritesFirst input old new × WritesFront input old new
+RunsScript input old new (Err refusals.Device) = WritesFront no_past input old new
+RunsScript input old new (Err refusals.Memory) = WritesFirst no_past input old new × WritesFront no_past input old new
 RunsScript input old new (Err _) = ⊥
 
 -- What the nodes' logs leave in a folder once a run has ended, with how many of its events were refused: all their files, or a
@@ -36,7 +36,7 @@ KeepsEnd before after ended (Err refusal) = IsDeviceFault refusal × KeepsLogsFr
 abbrev pub RunsKeeping : (input old new : Option (List ℕ)) → (before after : Option (List Entry)) → Result ℕ Refusal → Type 0
 RunsKeeping input old new before after outcome =
     ((refusal : Refusal) × (outcome ≡ Err refusal) × RunsScript input old new outcome × Puts before after [])
-    ⊎ ((ended : RunEnd) × WritesTo input old new ended × KeepsEnd before after ended outcome)
+    ⊎ ((ended : RunEnd) × WritesTo no_past input old new ended × KeepsEnd before after ended outcome)
 
 -- The answer is that a device failed exactly where a call of one of three did, one call of one of them: a reader, a writer and
 -- a folder, each with its count before and after.

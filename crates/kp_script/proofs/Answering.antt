@@ -26,7 +26,7 @@ use Rattle.kp_script.specs.Piping.{AnswersFront, Stands, StandsCut, StandsOn, Un
 use Rattle.kp_script.specs.Playing.{CutsOne, HasPlayed, LeadTo, PlayTo, PlayedOut}
 use Rattle.kp_script.specs.Reads.{Reads, ReadsInto, kept_of}
 use Rattle.kp_script.specs.Trace.{trace_line, trace_text}
-use Rattle.kp_script.specs.Transcript.{numbered, refusals_in}
+use Rattle.kp_script.specs.Transcript.{no_past, numbered, refusals_in}
 use Rattle.kp_script.specs.declared.pipe.Running.{Running}
 use Rattle.kp_script.proofs.Logs.{shown_logs}
 use Rattle.kp_script.proofs.Played.{as_many, played_none, played_on, traced}
@@ -157,10 +157,10 @@ stands_wrong line running e wrong = counted_on line (Some running) (Some running
     let says : Says h.header.count line one = (refl, subst (λ (count : ℕ). IfSome line.1 (λ bytes. SpellsNoCall count bytes)) (sym s.count_is) wrong) in
     let calls : calls_in h.said ≡ calls_in (h.said ++ one ∷ []) = sym (calls_append h.said (one ∷ []) ∙ append-nil (calls_in h.said)) in
     let outcomes = map outcome_of s.played.answers in
-    let moved : (r : HasPlayed h.header (calls_in (h.said ++ one ∷ [])) running.world s.refused None None) × (r.answers ≡ s.played.answers) =
-    subst (λ (cs : List (ℕ × Call)). (r : HasPlayed h.header cs running.world s.refused None None) × (r.answers ≡ s.played.answers)) calls (s.played, refl) in
+    let moved : (r : HasPlayed no_past h.header (calls_in (h.said ++ one ∷ [])) running.world s.refused None None) × (r.answers ≡ s.played.answers) =
+    subst (λ (cs : List (ℕ × Call)). (r : HasPlayed no_past h.header cs running.world s.refused None None) × (r.answers ≡ s.played.answers)) calls (s.played, refl) in
     let many : length (calls_in h.said) ≡ length outcomes = sym (length-map (calls_in h.said) _)
-    ∙ as_many h.header.count (calls_in h.said) s.played.events outcomes s.played.reached.run s.played.told s.played.reached.events_are s.played.reached.outcomes_are in
+    ∙ as_many no_past h.header.count (calls_in h.said) s.played.events outcomes s.played.reached.run s.played.told s.played.reached.events_are s.played.reached.outcomes_are in
     let texts : answers_text (h.said ++ one ∷ []) (map outcome_of moved.0.answers) ≡ answers_text h.said outcomes ++ fault_line line.0 =
     ap (λ (got : List (Result EventAnswer Refusal)). answers_text (h.said ++ one ∷ []) (map outcome_of got)) moved.1
     ∙ ap (λ (os : List Outcome). answers_text (h.said ++ one ∷ []) os) (sym (append-nil outcomes))
@@ -189,11 +189,11 @@ stands_call number bytes call running new answers e text_of lead count = counted
     let answer = trace_text (numbered ((number, call) ∷ [])) more in
     let calls : calls_in h.said ++ (number, call) ∷ [] ≡ calls_in (h.said ++ one ∷ []) = sym (calls_append h.said (one ∷ [])) in
     let outcomes = map outcome_of s.played.answers in
-    let on = played_on h.header (calls_in h.said) ((number, call) ∷ []) running.world new.world s.refused s.played answers lead in
-    let moved : (r : HasPlayed h.header (calls_in (h.said ++ one ∷ [])) new.world (s.refused + next) None None) × (r.answers ≡ s.played.answers ++ answers) =
-    subst (λ (cs : List (ℕ × Call)). (r : HasPlayed h.header cs new.world (s.refused + next) None None) × (r.answers ≡ s.played.answers ++ answers)) calls on in
+    let on = played_on no_past h.header (calls_in h.said) ((number, call) ∷ []) running.world new.world s.refused s.played answers lead in
+    let moved : (r : HasPlayed no_past h.header (calls_in (h.said ++ one ∷ [])) new.world (s.refused + next) None None) × (r.answers ≡ s.played.answers ++ answers) =
+    subst (λ (cs : List (ℕ × Call)). (r : HasPlayed no_past h.header cs new.world (s.refused + next) None None) × (r.answers ≡ s.played.answers ++ answers)) calls on in
     let many : length (calls_in h.said) ≡ length outcomes = sym (length-map (calls_in h.said) _)
-    ∙ as_many h.header.count (calls_in h.said) s.played.events outcomes s.played.reached.run s.played.told s.played.reached.events_are s.played.reached.outcomes_are in
+    ∙ as_many no_past h.header.count (calls_in h.said) s.played.events outcomes s.played.reached.run s.played.told s.played.reached.events_are s.played.reached.outcomes_are in
     let texts : answers_text (h.said ++ one ∷ []) (map outcome_of moved.0.answers) ≡ answers_text h.said outcomes ++ answer =
     ap (λ (got : List (Result EventAnswer Refusal)). answers_text (h.said ++ one ∷ []) (map outcome_of got)) moved.1
     ∙ ap (λ (os : List Outcome). answers_text (h.said ++ one ∷ []) os) (map-append outcome_of s.played.answers answers)
@@ -254,7 +254,7 @@ wrong_answered number line old new (Err refusal) before after stands out one = t
 -- ---- what stands is what is promised
 
 -- a stage has as many nodes as the header says
-reached_nodes : RunsKeepCount → (header : Header) (done : List (ℕ × Call)) (stage : Stage) (refused : ℕ) → HasPlayed header done stage refused None None → length stage.nodes ≡ header.count
+reached_nodes : RunsKeepCount → (header : Header) (done : List (ℕ × Call)) (stage : Stage) (refused : ℕ) → HasPlayed no_past header done stage refused None None → length stage.nodes ≡ header.count
 reached_nodes keep header done stage refused p =
     sym p.reached.shown.count ∙ keep header.count p.reached.run (last p.reached.run) (last_is_of header.count p.reached.run)
 
@@ -265,7 +265,7 @@ is_piped keep safe odd all text answered (Some running) s = inr (record {
   heard = s.heard;
   plain = trace_text (numbered (calls_in s.heard.said)) (map outcome_of s.played.answers);
   refused = s.refused;
-  trace = traced safe odd s.heard.header (calls_in s.heard.said) running.world s.refused None None s.played;
+  trace = traced safe odd no_past s.heard.header (calls_in s.heard.said) running.world s.refused None None s.played;
   text_is = s.text_is;
   refused_is = s.answered_is;
   logs_are = shown_logs s.heard.header running.world (last s.played.reached.run) s.played.reached.shown (reached_nodes keep s.heard.header (calls_in s.heard.said) running.world s.refused s.played);

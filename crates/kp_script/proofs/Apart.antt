@@ -7,12 +7,13 @@ use Rattle.std.proofs.lemmas.Fmt.{decimal_injective}
 use Rattle.kp_replica.specs.declared.act.PlainAct.{PlainAct}
 use Rattle.kp_replica.specs.declared.act.PlainAct.TheVariants.{Mark, Alter, Read, Committed}
 use Rattle.kp_replica.specs.declared.altering.IsrChange.TheVariants.{Join, Leave}
-use Rattle.kp_script.specs.Call.{Call, Sender, Elect, Append, Raw, Acts, Deliver, IsSender, IsCallInRange, HasOneCall, act_words, is_value, verb_text, fields_text, kind_text, values_text, pieces}
-use Rattle.kp_script.specs.Hex.{hex_text, bytes_of}
+use Rattle.kp_script.specs.Call.{Call, Sender, Elect, Append, Raw, Acts, Deliver, IsSender, IsCallInRange, HasOneCall, act_words, is_value, verb_text, fields_text, kind_text, values_text}
+use Rattle.kp_words.specs.Words.{pieces, hex_text}
+use Rattle.kp_script.specs.Hex.{bytes_of}
 use Rattle.kp_script.specs.Read.{sender_front}
 use Rattle.kp_script.proofs.HexLaws.{bytes_back}
-use Rattle.kp_script.proofs.Numbers.{same_field}
-use Rattle.kp_script.proofs.Splitting.{one_parting}
+use Rattle.kp_words.proofs.Numbers.{same_field}
+use Rattle.kp_words.proofs.Splitting.{one_parting}
 use Rattle.kp_script.proofs.Verbs.{Each, by_verb, same_act, verb_lacks}
 use Rattle.kp_script.proofs.Markers.{marks_apart}
 use Rattle.kp_script.proofs.Senders.{same_sender, same_kind}

@@ -3,7 +3,8 @@ use Rattle.std.proofs.Common.{◌≡◌, ℕ, ◌+◌, ◌-◌, ◌*◌, ◌/◌
 use Rattle.std.proofs.lemmas.Bool.{cases_Bool, cases_lt, and_parts, and_from, or_cases, leb-true, le-leb, lt-leb, lt-ltb, le-ltb, eqb-true, eqb-false, eq-eqb, ne_eqb, not-true, false≢true}
 use Rattle.std.specs.List.{list_all}
 use Rattle.kp_record.specs.Record.{AreBytes}
-use Rattle.kp_script.specs.Hex.{hex_digit, hex_text, is_number_digit, is_letter_digit, is_hex_digit, is_hex, hex_value, bytes_of}
+use Rattle.kp_script.specs.Hex.{is_number_digit, is_letter_digit, is_hex_digit, is_hex, hex_value, bytes_of}
+use Rattle.kp_words.specs.Words.{hex_digit, hex_text}
 
 -- what a digit stands for is below 16
 pub value_small : (digit : ℕ) → hex_value digit < 16

@@ -5,7 +5,7 @@ use Rattle.kp_record.specs.Record.{AreBytes}
 use Rattle.std.proofs.Math.Seq.{take-append_seam}
 use borrow.Rule.Slice.PartMut.{post_of}
 use Rattle.hex.specs.Hex.{encode_lower, encode_with, lower_digits}
-use Rattle.kp_script.specs.Hex.{hex_digit, hex_text}
+use Rattle.kp_words.specs.Words.{hex_digit, hex_text}
 
 -- the test of one place of the table, which computes
 abbrev is_digit_at : ℕ → Bool

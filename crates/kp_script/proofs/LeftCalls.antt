@@ -3,10 +3,11 @@ use Rattle.std.proofs.Common.{◌≡◌, ◌∙◌, ℕ, ◌+◌, ◌<◌, ◌�
 use lib.Seq.{drop-append-le, drop-nil, take-append-le}
 use Rattle.std.proofs.lemmas.Bool.{cases_lt}
 use Rattle.std.specs.List.{AllByRecursion}
-use Rattle.kp_script.specs.Call.{Call, IsCall}
+use Rattle.kp_world.specs.Shown.{Stage}
+use Rattle.kp_script.specs.Call.{Call}
 use Rattle.kp_script.specs.Parsed.{calls_in}
 use Rattle.kp_script.proofs.Played.{first_part}
-use Rattle.kp_script.specs.Playing.{left_in, IsFirstWhole, IsWithin}
+use Rattle.kp_script.specs.Playing.{IsFirstWhole, IsWithin, MayPlay, left_in}
 
 first_is : (sections : List (List (ℕ × Call))) (section : List (ℕ × Call)) → 0 < length sections → section ≡ slice_index_or sections 0 section → sections ≡ section ∷ drop 1 sections
 first_is [] section some is = absurd (omega (arith, some))
@@ -44,10 +45,10 @@ pub next_is : (from n : ℕ) (sections : List (List (ℕ × Call))) (section : L
 next_is from n sections section p few =
     sym (ap (take n) p.left_is ∙ take-append-le n (drop from section) (calls_in (drop 1 sections)) (omega (arith, few, length-drop from section)))
 
-pub front_lawful : (count from : ℕ) (sections : List (List (ℕ × Call))) (section : List (ℕ × Call)) → InFront from sections section
-    → AllByRecursion (λ call. IsCall count call.1) (left_in from sections) → AllByRecursion (λ call. IsCall count call.1) (drop from section)
-front_lawful count from sections section p lawful =
-    first_part (λ call. IsCall count call.1) (drop from section) (calls_in (drop 1 sections)) (subst (AllByRecursion (λ call. IsCall count call.1)) p.left_is lawful)
+pub front_may : (stage : Stage) (from : ℕ) (sections : List (List (ℕ × Call))) (section : List (ℕ × Call)) → InFront from sections section
+    → AllByRecursion (λ call. MayPlay stage call.1) (left_in from sections) → AllByRecursion (λ call. MayPlay stage call.1) (drop from section)
+front_may stage from sections section p may =
+    first_part (λ call. MayPlay stage call.1) (drop from section) (calls_in (drop 1 sections)) (subst (AllByRecursion (λ call. MayPlay stage call.1)) p.left_is may)
 
 pub within_none : (sections : List (List (ℕ × Call))) → IsWithin 0 sections
 within_none [] = refl

@@ -1,6 +1,3 @@
-pub mod Options
-pub mod Splitting
-pub mod Numbers
 pub mod DigitPairs
 pub mod LineLaws
 pub mod Pieces

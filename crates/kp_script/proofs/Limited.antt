@@ -1,5 +1,5 @@
 -- No log of a script's run has a batch above the greatest size.
-use Rattle.std.proofs.Common.{◌≡◌, ℕ, ◌+◌, ◌≤◌, Bool, true, false, ltb, List, [], ◌∷◌, length, map, Option, Some, None, Result, Ok, Err, refl, sym, subst, arith, inl, inr}
+use Rattle.std.proofs.Common.{◌≡◌, ℕ, ◌+◌, ◌++◌, ◌≤◌, Bool, true, false, ltb, List, [], ◌∷◌, length, map, Option, Some, None, Result, Ok, Err, refl, sym, subst, arith, inl, inr}
 use Rattle.std.specs.Prelude.{reverse}
 use Rattle.std.specs.List.{AllByRecursion, range_with_len}
 use Rattle.std.specs.Option.{ok_or, option_map}
@@ -7,7 +7,7 @@ use Rattle.std.proofs.lemmas.Bool.{cases_Bool, ltb-false}
 use Rattle.std.proofs.lemmas.List.{reverse-append}
 use Rattle.kp_types.specs.declared.refusal.Refusal.{Refusal}
 use Rattle.kp_types.specs.declared.refusal.Refusal.TheVariants.{BadProducerFields, TooLarge}
-use Rattle.kp_types.proofs.Elements.{all_behind, all_front}
+use Rattle.kp_types.proofs.Elements.{all_append, all_behind, all_front}
 use Rattle.kp_record.specs.Record.{Record, records_spelling}
 use Rattle.kp_batch.specs.Batch.{Body, Plain, Produced, size_of}
 use Rattle.kp_batch.proofs.Cells.{size_is}
@@ -28,10 +28,10 @@ use Rattle.kp_script.specs.Call.{Call, Header, Sender, Elect, Append, Raw, Acts,
 use Rattle.kp_script.specs.Ended.{AreLimited, KeepsLimit, limits_in, node_log}
 use Rattle.kp_record.specs.Made.{plain_record}
 use Rattle.kp_script.specs.Told.{AreTold, IsTold, body_at, offer_of, said_of}
-use Rattle.kp_script.specs.Transcript.{largest_batch}
+use Rattle.kp_script.specs.Transcript.{Past, events_before, largest_batch}
 use Rattle.kp_script.proofs.Lawful.{same_body}
 use Rattle.kp_script.proofs.Logs.{shown_logs}
-use Rattle.kp_script.specs.Playing.{HasPlayed}
+use Rattle.kp_script.specs.Playing.{HasPlayed, WereSmall}
 
 -- ---- what is handed in
 
@@ -109,12 +109,13 @@ all_mapped f P (x ∷ xs) each = (each x, all_mapped f P xs each)
 
 -- ---- the logs
 
-pub limited : BatchesKeepTheirSize → (header : Header) (done : List (ℕ × Call)) (stage : Stage) (refused : ℕ) (old now : Option (List ℕ)) → length stage.nodes ≡ header.count
-    → HasPlayed header done stage refused old now → AreLimited (map log_of stage.nodes)
-limited keep header done stage refused old now count p =
+pub limited : BatchesKeepTheirSize → (past : Past) (header : Header) (done : List (ℕ × Call)) (stage : Stage) (refused : ℕ) (old now : Option (List ℕ)) → length stage.nodes ≡ header.count
+    → WereSmall past → HasPlayed past header done stage refused old now → AreLimited (map log_of stage.nodes)
+limited keep past header done stage refused old now count before p =
     let run = p.reached.run in
     let w = last run in
-    let small : AllByRecursion (IsAtMost largest_batch) p.events = all_small (map (λ (call : ℕ × Call). call.1) done) p.events p.told in
+    let small : AllByRecursion (IsAtMost largest_batch) (events_before past ++ p.events) =
+    all_append (IsAtMost largest_batch) (events_before past) p.events before (all_small (map (λ (call : ℕ × Call). call.1) done) p.events p.told) in
     let moments : AllByRecursion (λ (m : Moment). IsAtMost largest_batch m.event) run.moments =
     all_unmapped (λ (m : Moment). m.event) (IsAtMost largest_batch) run.moments
     (all_turned (IsAtMost largest_batch) (map (λ (m : Moment). m.event) run.moments)

@@ -3,7 +3,7 @@ use Rattle.std.proofs.Common.{◌≡◌, ◌≢◌, ℕ, ◌<◌, false, List, [
 use Rattle.std.proofs.lemmas.Bool.{ne_eqb}
 use Rattle.std.specs.List.{onto_first}
 use Rattle.kp_script.specs.Lines.{lines, onto_sent, sent_lines}
-use Rattle.kp_script.specs.Read.{Lacks}
+use Rattle.kp_words.specs.Words.{Lacks}
 
 -- a byte that does not end a line
 lines-cons : (x : ℕ) (xs : List ℕ) → x ≢ 10 → lines (x ∷ xs) ≡ onto_first x (lines xs)

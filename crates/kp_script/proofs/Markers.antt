@@ -10,7 +10,7 @@ use Rattle.std.specs.Coded.{le_prop}
 use Rattle.kp_replica.specs.declared.act.PlainAct.TheVariants.{Mark}
 use Rattle.kp_script.specs.Call.{Acts, IsCallInRange, fields_text, ending_text}
 use Rattle.kp_script.specs.Read.{marker_text}
-use Rattle.kp_script.proofs.Numbers.{same_field}
+use Rattle.kp_words.proofs.Numbers.{same_field}
 
 -- an end has one text
 pub same_ending : (a b : Bool) → ending_text a ≡ ending_text b → a ≡ b

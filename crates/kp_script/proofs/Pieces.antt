@@ -10,7 +10,7 @@ use Rattle.std.proofs.Math.Seq.{take-append-add}
 use Rattle.std.proofs.lemmas.List.{length-take}
 use Rattle.kp_types.proofs.Fronts.{trimmed}
 use Rattle.kp_script.specs.Lines.{sent_lines}
-use Rattle.kp_script.specs.Read.{Lacks}
+use Rattle.kp_words.specs.Words.{Lacks}
 use Rattle.kp_script.specs.Reads.{Gives, Reads, ReadsInto}
 use Rattle.kp_script.specs.declared.reader.Piece.{Piece}
 use Rattle.kp_script.proofs.LineLaws.{sent_first, sent_last}
@@ -29,10 +29,6 @@ pub again : (n : ℕ) (xs ys : List ℕ) → take n (take n xs ++ ys) ≡ take n
 again zero xs ys = refl
 again (suc n) [] ys = refl
 again (suc n) (x ∷ xs) ys = ap (λ (l : List ℕ). x ∷ l) (again n xs ys)
-
-pub lacks_append : (byte : ℕ) (xs ys : List ℕ) → Lacks byte xs → Lacks byte ys → Lacks byte (xs ++ ys)
-lacks_append byte [] ys h k = k
-lacks_append byte (x ∷ xs) ys h k = (h.0, lacks_append byte xs ys h.1 k)
 
 -- what is kept shows whether there is anything
 pub none_kept : (n : ℕ) (line : List ℕ) → 0 < n → length (take n line) ≡ 0 → line ≡ []

@@ -28,20 +28,20 @@ use Rattle.kp_world.specs.Answers.{appended, outcome_of}
 use Rattle.kp_world.specs.Events.{IsEvent}
 use Rattle.kp_world.specs.declared.event.Event.TheVariants.{Acts as Happens}
 use Rattle.kp_world.specs.Laws.{MayCome, PlaysGoOn}
-use Rattle.kp_world.specs.Plays.{IsReached, LeadOn, events_of, outcomes_of}
+use Rattle.kp_world.specs.Plays.{IsPlayed, IsReached, LeadOn, events_of, outcomes_of}
 use Rattle.kp_world.specs.Shown.{IsShown, Stage, log_of}
 use Rattle.kp_world.specs.declared.event.EventAnswer.{EventAnswer}
 use Rattle.kp_world.proofs.Playing.{all_fit, answered, lead_more, lead_none, nothing_answered, reached_none}
 use Rattle.kp_script.specs.Call.{Call, Header, IsCall, IsCallInRange, node_of, Elect, Append, Raw, Acts, Deliver}
-use Rattle.kp_script.specs.Ended.{limits_in, WritesTo}
-use Rattle.kp_script.specs.Playing.{BeginFrom, HasPlayed, LeadTo, PlayTo, PlayedOut, PlaysLine, PlaysOne, TellsLine}
+use Rattle.kp_script.specs.Ended.{RunEnd, limits_in, WritesTo}
+use Rattle.kp_script.specs.Playing.{BeginFrom, Front, HasPlayed, HasPlayedAll, HasPlayedFirst, LeadTo, MayPlay, PlayTo, PlayedOut, PlaysLine, PlaysOne, Reaches, TellsLine}
 use Rattle.kp_script.specs.Told.{IsTold, AreTold, HandsIn, offer_of}
 use Rattle.kp_script.specs.Trace.{trace_line, trace_text}
 use Rattle.kp_script.specs.Script.{Script, IsScript}
 use Rattle.kp_script.specs.Seen.{seen_call, seen_line}
 use Rattle.kp_script.specs.declared.call.Call.{Call as ParsedCall}
 use Rattle.kp_script.specs.declared.script.Line.{Line as ParsedLine}
-use Rattle.kp_script.specs.Transcript.{IsTraceOf, is_refusal, largest_batch, numbered, refusals_in, WritesFirst, WritesFront}
+use Rattle.kp_script.specs.Transcript.{IsTraceOf, Past, answers_before, events_before, is_refusal, largest_batch, no_past, numbered, refusals_in, WritesFirst, WritesFront}
 use Rattle.kp_script.proofs.Lawful.{lawful_act, lawful_bytes, lawful_values}
 use Rattle.kp_script.proofs.Logs.{shown_logs}
 use Rattle.kp_script.proofs.Telling.{AreTold-length}
@@ -69,10 +69,13 @@ one_answer_each count r es os p q =
     ∙ sym (ap length (sym q) ∙ length-reverse (map (λ (m : Moment). m.outcome) r.moments) ∙ length-map r.moments (λ (m : Moment). m.outcome))
 
 -- each call of a trace has its outcome
-pub as_many : (count : ℕ) (calls : List (ℕ × Call)) (es : List Event) (os : List Outcome) (r : Run count) → AreTold largest_batch (asked calls) es → events_of r ≡ es → outcomes_of r ≡ os
-    → length (numbered calls) ≡ length os
-as_many count calls es os r told p q =
-    length-map calls _ ∙ sym (length-map calls (λ (call : ℕ × Call). call.1)) ∙ AreTold-length largest_batch (asked calls) es told ∙ one_answer_each count r es os p q
+pub as_many : (past : Past) (count : ℕ) (calls : List (ℕ × Call)) (es : List Event) (os : List Outcome) (r : Run count) → AreTold largest_batch (asked calls) es → events_of r ≡ events_before past ++ es
+    → outcomes_of r ≡ map outcome_of (answers_before past) ++ os → length (numbered calls) ≡ length os
+as_many past count calls es os r told p q =
+    let before = map outcome_of (answers_before past) in
+    let all : length (events_before past ++ es) ≡ length (before ++ os) = one_answer_each count r (events_before past ++ es) (before ++ os) p q in
+    let own : length es ≡ length os = omega (arith, all, length-map past (λ (x : Event × Result EventAnswer Refusal). x.0), length-map past (λ (x : Event × Result EventAnswer Refusal). x.1), length-append (events_before past) es, length-append before os, length-map (answers_before past) outcome_of) in
+    length-map calls _ ∙ sym (length-map calls (λ (call : ℕ × Call). call.1)) ∙ AreTold-length largest_batch (asked calls) es told ∙ own
 
 -- ---- one call of the world
 
@@ -83,11 +86,12 @@ led_one call e answer old new told step = record { events = e ∷ []; told = (to
 
 -- and what is told of the answer is what comes of the call
 pub line_told : (call : ℕ × Call) (old new : Stage) (answer : Result EventAnswer Refusal) (before after : List ℕ) (r : Result ℕ Refusal) → LeadTo (call ∷ []) old new (answer ∷ [])
-    → length new.nodes ≡ length old.nodes → TellsLine call.0 (node_of call.1) (outcome_of answer) before after r → PlaysLine call old new before after r
-line_told call old new answer before after r lead count told = record {
+    → length new.nodes ≡ length old.nodes → new.first ≡ old.first → TellsLine call.0 (node_of call.1) (outcome_of answer) before after r → PlaysLine call old new before after r
+line_told call old new answer before after r lead count first told = record {
   played = IfOk-weaker r _ _ (λ refused t. record { answer = answer; lead = lead; refused_is = t.1; text_is = t.0 }) told.told;
   cut = always r (inr (answer, lead));
   nodes = count;
+  first = first;
   few = told.few;
   only = told.only;
 }
@@ -95,18 +99,25 @@ line_told call old new answer before after r lead count told = record {
 -- so it is with the bytes that the call hands in
 pub line_handed : (line : ℕ) (call : Call) (bytes : List ℕ) (receipt : Result Receipt Refusal) (old new : Stage) (before after : List ℕ) (r : Result ℕ Refusal) → HandsIn largest_batch call bytes
     → ((limits : Limits) (e : Event) → IsEvent limits.max_batch (Happens (node_of call) (HandsOver bytes)) e → LeadOn limits old (e ∷ []) (appended receipt ∷ []) new)
-    → length new.nodes ≡ length old.nodes → TellsLine line (node_of call) (outcome_of (appended receipt)) before after r → PlaysLine (line, call) old new before after r
-line_handed line call bytes receipt old new before after r h step count told =
+    → length new.nodes ≡ length old.nodes → new.first ≡ old.first → TellsLine line (node_of call) (outcome_of (appended receipt)) before after r → PlaysLine (line, call) old new before after r
+line_handed line call bytes receipt old new before after r h step count first told =
     let event : Event = model.Acts (node_of call) (Produce h.offer) in
     line_told (line, call) old new (appended receipt) before after r
     (led_one (line, call) event (appended receipt) old new h.told
     (λ limits batch. step limits event (Produce h.offer, (h.offer, subst (λ (max : ℕ). IsOffer max bytes h.offer) (sym batch) h.is, refl), refl)))
-    count told
+    count first told
 
 -- nothing came of it where memory was wanted before
 pub line_cut : (call : ℕ × Call) (old new : Stage) (before after : List ℕ) (refusal : Refusal) → new ≡ old → refusal ≡ refusals.Memory → PlaysLine call old new before after (Err refusal)
 line_cut call old new before after refusal same memory =
-    record { played = tt; cut = inl same; nodes = ap (λ (stage : Stage). length stage.nodes) same; few = tt; only = memory }
+    record {
+      played = tt;
+      cut = inl same;
+      nodes = ap (λ (stage : Stage). length stage.nodes) same;
+      first = ap (λ (stage : Stage). stage.first) same;
+      few = tt;
+      only = memory;
+    }
 
 -- what comes of the call that the parser's line holds
 pub line_seen : (line : ParsedLine) (call : ParsedCall) (old new : Stage) (before after : List ℕ) (r : Result ℕ Refusal) → line.call ≡ call
@@ -175,7 +186,7 @@ pub first_part : (P : ℕ × Call → Type 0) (xs ys : List (ℕ × Call)) → A
 first_part P [] ys h = tt
 first_part P (x ∷ xs) ys h = (h.0, first_part P xs ys h.1)
 
-second_part : (P : ℕ × Call → Type 0) (xs ys : List (ℕ × Call)) → AllByRecursion P (xs ++ ys) → AllByRecursion P ys
+pub second_part : (P : ℕ × Call → Type 0) (xs ys : List (ℕ × Call)) → AllByRecursion P (xs ++ ys) → AllByRecursion P ys
 second_part P [] ys h = h
 second_part P (x ∷ xs) ys h = second_part P xs ys h.1
 
@@ -215,44 +226,90 @@ pub nothing_left : (xs : List (ℕ × Call)) → length xs ≡ 0 → xs ≡ []
 nothing_left [] e = refl
 nothing_left (x ∷ xs) e = absurd (omega arith)
 
+-- every message is one of this process, if none was sent before
+pub reaches_all : (call : Call) → Reaches 0 call
+reaches_all (Deliver number) = omega arith
+reaches_all _ = tt
+
+pub all_may_play : (stage : Stage) (count : ℕ) (calls : List (ℕ × Call)) → length stage.nodes ≡ count → stage.first ≡ 0 → AllByRecursion (λ call. IsCall count call.1) calls
+    → AllByRecursion (λ call. MayPlay stage call.1) calls
+all_may_play stage count [] nodes first h = tt
+all_may_play stage count (call ∷ calls) nodes first h = (
+  (subst (λ (n : ℕ). IsCall n call.1) (sym nodes) h.0, subst (λ (n : ℕ). Reaches n call.1) (sym first) (reaches_all call.1)),
+  all_may_play stage count calls nodes first h.1,
+)
+
+-- calls that may be played are in range
+pub all_lawful : (stage : Stage) (count : ℕ) (calls : List (ℕ × Call)) → length stage.nodes ≡ count → AllByRecursion (λ call. MayPlay stage call.1) calls
+    → AllByRecursion (λ call. IsCall count call.1) calls
+all_lawful stage count [] nodes h = tt
+all_lawful stage count (call ∷ calls) nodes h = (subst (λ (n : ℕ). IsCall n call.1) nodes h.0.0, all_lawful stage count calls nodes h.1)
+
+-- and so it is on another stage of so many nodes that begins with the same message
+pub may_play_too : (old new : Stage) (calls : List (ℕ × Call)) → length new.nodes ≡ length old.nodes → new.first ≡ old.first → AllByRecursion (λ call. MayPlay old call.1) calls
+    → AllByRecursion (λ call. MayPlay new call.1) calls
+may_play_too old new [] nodes first h = tt
+may_play_too old new (call ∷ calls) nodes first h = (
+  (subst (λ (n : ℕ). IsCall n call.1) (sym nodes) h.0.0, subst (λ (n : ℕ). Reaches n call.1) (sym first) h.0.1),
+  may_play_too old new calls nodes first h.1,
+)
+
 -- ---- what has been played
 
-pub played_none : (header : Header) (stage : Stage) (known : Option (List ℕ)) → IsShown (limits_in header) stage (start header.count) → HasPlayed header [] stage 0 known known
-played_none header stage known shown =
+-- nothing, behind a past that led to this stage
+pub played_past : (past : Past) (header : Header) (stage : Stage) (known : Option (List ℕ)) → IsReached header.count (limits_in header) (events_before past) (answers_before past) stage
+    → HasPlayed past header [] stage 0 known known
+played_past past header stage known reached =
     record {
       events = [];
       told = tt;
       answers = [];
-      reached = reached_none header.count (limits_in header) stage shown;
+      reached = subst (λ (es : List Event). IsReached header.count (limits_in header) es (answers_before past ++ []) stage) (sym (append-nil (events_before past)))
+          (subst (λ (os : List (Result EventAnswer Refusal)). IsReached header.count (limits_in header) (events_before past) os stage) (sym (append-nil (answers_before past))) reached);
       refused_is = refl;
       written = Appends-nil known;
     }
 
+pub played_none : (header : Header) (stage : Stage) (known : Option (List ℕ)) → IsShown (limits_in header) stage (start header.count) → HasPlayed no_past header [] stage 0 known known
+played_none header stage known shown = played_past no_past header stage known (reached_none header.count (limits_in header) stage shown)
+
+-- the answers to the past's events and to these
+pub outcomes_behind : (past : Past) (header : Header) (done : List (ℕ × Call)) (stage : Stage) (refused : ℕ) (known now : Option (List ℕ)) (p : HasPlayed past header done stage refused known now)
+    → outcomes_of p.reached.run ≡ map outcome_of (answers_before past) ++ map outcome_of p.answers
+outcomes_behind past header done stage refused known now p = p.reached.outcomes_are ∙ map-append outcome_of (answers_before past) p.answers
+
+-- as many answers as calls
+pub answers_many : (past : Past) (header : Header) (done : List (ℕ × Call)) (stage : Stage) (refused : ℕ) (known now : Option (List ℕ)) (p : HasPlayed past header done stage refused known now)
+    → length (numbered done) ≡ length (map outcome_of p.answers)
+answers_many past header done stage refused known now p =
+    as_many past header.count done p.events (map outcome_of p.answers) p.reached.run p.told p.reached.events_are (outcomes_behind past header done stage refused known now p)
+
 -- where these calls lead from what was reached
-led : (header : Header) (done calls : List (ℕ × Call)) (old new : Stage) (refused : ℕ) (known mid : Option (List ℕ)) (p : HasPlayed header done old refused known mid)
+led : (past : Past) (header : Header) (done calls : List (ℕ × Call)) (old new : Stage) (refused : ℕ) (known mid : Option (List ℕ)) (p : HasPlayed past header done old refused known mid)
     (answers : List (Result EventAnswer Refusal)) (lead : LeadTo calls old new answers)
     → (AreTold largest_batch (asked (done ++ calls)) (p.events ++ lead.events))
-    × (IsReached header.count (limits_in header) (p.events ++ lead.events) (p.answers ++ answers) new)
+    × (IsReached header.count (limits_in header) (events_before past ++ (p.events ++ lead.events)) (answers_before past ++ (p.answers ++ answers)) new)
     × (trace_text (numbered (done ++ calls)) (map outcome_of (p.answers ++ answers))
     ≡ trace_text (numbered done) (map outcome_of p.answers) ++ trace_text (numbered calls) (map outcome_of answers))
-led header done calls old new refused known mid p answers lead =
+led past header done calls old new refused known mid p answers lead =
     let told : AreTold largest_batch (asked (done ++ calls)) (p.events ++ lead.events) =
     subst (λ (all : List Call). AreTold largest_batch all (p.events ++ lead.events)) (sym (map-append (λ (call : ℕ × Call). call.1) done calls))
     (AreTold-append largest_batch (asked done) (asked calls) p.events lead.events p.told lead.told) in
-    let before : length (numbered done) ≡ length (map outcome_of p.answers) =
-    as_many header.count done p.events (map outcome_of p.answers) p.reached.run p.told p.reached.events_are p.reached.outcomes_are in (
+    let before = answers_many past header done old refused known mid p in (
       told,
-      lead.reach (limits_in header) refl header.count p.events p.answers p.reached,
+      subst (λ (es : List Event). IsReached header.count (limits_in header) es (answers_before past ++ (p.answers ++ answers)) new) (append_assoc (events_before past) p.events lead.events)
+          (subst (λ (os : List (Result EventAnswer Refusal)). IsReached header.count (limits_in header) ((events_before past ++ p.events) ++ lead.events) os new) (append_assoc (answers_before past) p.answers answers)
+          (lead.reach (limits_in header) refl header.count (events_before past ++ p.events) (answers_before past ++ p.answers) p.reached)),
       ap (λ (xs : List (ℕ × ℕ)). trace_text xs (map outcome_of (p.answers ++ answers))) (map-append _ done calls)
           ∙ ap (λ (os : List Outcome). trace_text (numbered done ++ numbered calls) os) (map-append outcome_of p.answers answers)
           ∙ trace_append (numbered done) (numbered calls) (map outcome_of p.answers) (map outcome_of answers) before,
     )
 
 -- some calls more
-pub played_more : (header : Header) (done calls : List (ℕ × Call)) (old new : Stage) (refused more : ℕ) (known mid now : Option (List ℕ)) → HasPlayed header done old refused known mid
-    → PlayTo calls old new more mid now → HasPlayed header (done ++ calls) new (refused + more) known now
-played_more header done calls old new refused more known mid now p q =
-    let next = led header done calls old new refused known mid p q.answers q.lead in
+pub played_more : (past : Past) (header : Header) (done calls : List (ℕ × Call)) (old new : Stage) (refused more : ℕ) (known mid now : Option (List ℕ)) → HasPlayed past header done old refused known mid
+    → PlayTo calls old new more mid now → HasPlayed past header (done ++ calls) new (refused + more) known now
+played_more past header done calls old new refused more known mid now p q =
+    let next = led past header done calls old new refused known mid p q.answers q.lead in
     record {
       events = p.events ++ q.lead.events;
       told = next.0;
@@ -265,19 +322,19 @@ played_more header done calls old new refused more known mid now p q =
     }
 
 -- and their answers stand behind the earlier ones; what is known of the bytes doesn't matter
-pub played_on : (header : Header) (done calls : List (ℕ × Call)) (old new : Stage) (refused : ℕ) (p : HasPlayed header done old refused None None) (answers : List (Result EventAnswer Refusal))
+pub played_on : (past : Past) (header : Header) (done calls : List (ℕ × Call)) (old new : Stage) (refused : ℕ) (p : HasPlayed past header done old refused None None) (answers : List (Result EventAnswer Refusal))
     → LeadTo calls old new answers
-    → (r : HasPlayed header (done ++ calls) new (refused + refusals_in (map outcome_of answers)) None None) × (r.answers ≡ p.answers ++ answers)
+    → (r : HasPlayed past header (done ++ calls) new (refused + refusals_in (map outcome_of answers)) None None) × (r.answers ≡ p.answers ++ answers)
 unfolding played_more
-played_on header done calls old new refused p answers lead = (
-  played_more header done calls old new refused (refusals_in (map outcome_of answers)) None None None p (record { answers = answers; lead = lead; refused_is = refl; written = tt }),
+played_on past header done calls old new refused p answers lead = (
+  played_more past header done calls old new refused (refusals_in (map outcome_of answers)) None None None p (record { answers = answers; lead = lead; refused_is = refl; written = tt }),
   refl,
 )
 
 -- what has been played is the trace of its calls, of the run that has been reached
-abbrev pub traced : RunsAreSafe → NoDeliveryIsRefusedOddly → (header : Header) (done : List (ℕ × Call)) (stage : Stage) (refused : ℕ) (known now : Option (List ℕ)) → (p : HasPlayed header done stage refused known now)
-    → IsTraceOf header.count done (trace_text (numbered done) (map outcome_of p.answers)) refused
-traced safe odd header done stage refused known now p =
+abbrev pub traced : RunsAreSafe → NoDeliveryIsRefusedOddly → (past : Past) (header : Header) (done : List (ℕ × Call)) (stage : Stage) (refused : ℕ) (known now : Option (List ℕ))
+    → (p : HasPlayed past header done stage refused known now) → IsTraceOf past header.count done (trace_text (numbered done) (map outcome_of p.answers)) refused
+traced safe odd past header done stage refused known now p =
     let reached = p.reached in
     record {
       events = p.events;
@@ -286,7 +343,7 @@ traced safe odd header done stage refused known now p =
       played = record {
         run = reached.run;
         events_are = reached.events_are;
-        outcomes_are = reached.outcomes_are;
+        outcomes_are = outcomes_behind past header done stage refused known now p;
         safe = safe header.count reached.run;
         fits = all_fit odd header.count reached.run;
         spared = reached.spared;
@@ -295,7 +352,7 @@ traced safe odd header done stage refused known now p =
       refused_is = p.refused_is;
     }
 
-pub traced_none : RunsAreSafe → (count : ℕ) → IsTraceOf count [] [] 0
+pub traced_none : RunsAreSafe → (count : ℕ) → IsTraceOf no_past count [] [] 0
 traced_none safe count =
     record { events = []; told = tt; outcomes = []; played = (nothing_answered count (safe count)).played; text_is = refl; refused_is = refl }
 
@@ -324,19 +381,20 @@ all_told offers count (call ∷ calls) h =
     record { events = first.0 ∷ others.events; told = (first.1.0, others.told); may = (first.1.1, others.may) }
 
 -- the whole trace, of which this one is the beginning
-pub record Whole (count : ℕ) (calls : List (ℕ × Call)) (text : List ℕ) : Type 0 where
+pub record Whole (past : Past) (count : ℕ) (calls : List (ℕ × Call)) (text : List ℕ) : Type 0 where
   pub rest : List ℕ
   pub refused : ℕ
-  pub trace : IsTraceOf count calls (text ++ rest) refused
+  pub trace : IsTraceOf past count calls (text ++ rest) refused
 
-pub whole : PlaysGoOn → BytesAreAnOffer → (count : ℕ) (calls done others : List (ℕ × Call)) (text : List ℕ) (refused : ℕ) → calls ≡ done ++ others
-    → AllByRecursion (λ call. IsCall count call.1) others → IsTraceOf count done text refused → Whole count calls text
-whole go offers count calls done others text refused calls_are lawful t =
+pub whole : PlaysGoOn → BytesAreAnOffer → (past : Past) (count : ℕ) (calls done others : List (ℕ × Call)) (text : List ℕ) (refused : ℕ) → calls ≡ done ++ others
+    → AllByRecursion (λ call. IsCall count call.1) others → IsTraceOf past count done text refused → Whole past count calls text
+whole go offers past count calls done others text refused calls_are lawful t =
     let tellings = all_told offers count others lawful in
-    let more = go count t.events tellings.events t.outcomes t.played tellings.may in
+    let earlier = map outcome_of (answers_before past) in
+    let more = go count (events_before past ++ t.events) tellings.events (earlier ++ t.outcomes) t.played tellings.may in
     let before : length (numbered done) ≡ length t.outcomes =
-    as_many count done t.events t.outcomes t.played.run t.told t.played.events_are t.played.outcomes_are in
-    subst (λ (all : List (ℕ × Call)). Whole count all text) (sym calls_are)
+    as_many past count done t.events t.outcomes t.played.run t.told t.played.events_are t.played.outcomes_are in
+    subst (λ (all : List (ℕ × Call)). Whole past count all text) (sym calls_are)
     (record {
       rest = trace_text (numbered others) more.0;
       refused = refusals_in (t.outcomes ++ more.0);
@@ -346,7 +404,8 @@ whole go offers count calls done others text refused calls_are lawful t =
             subst (λ (all : List Call). AreTold largest_batch all (t.events ++ tellings.events)) (sym (map-append (λ (call : ℕ × Call). call.1) done others))
             (AreTold-append largest_batch (asked done) (asked others) t.events tellings.events t.told tellings.told);
         outcomes = t.outcomes ++ more.0;
-        played = more.1;
+        played = subst (λ (es : List Event). IsPlayed count es (earlier ++ (t.outcomes ++ more.0))) (append_assoc (events_before past) t.events tellings.events)
+            (subst (λ (os : List Outcome). IsPlayed count ((events_before past ++ t.events) ++ tellings.events) os) (append_assoc earlier t.outcomes more.0) more.1);
         text_is =
             ap (λ (front : List ℕ). front ++ trace_text (numbered others) more.0) t.text_is
             ∙ sym (ap (λ (xs : List (ℕ × ℕ)). trace_text xs (t.outcomes ++ more.0)) (map-append _ done others)
@@ -357,34 +416,32 @@ whole go offers count calls done others text refused calls_are lawful t =
 
 -- ---- what stands written where the run ends early
 
--- a beginning of the trace of these calls
-abbrev pub Front : (count : ℕ) (calls : List (ℕ × Call)) → Option (List ℕ) → Option (List ℕ) → Type 0
-Front count calls old new = (text : List ℕ) × (refused : ℕ) × IsTraceOf count calls text refused × AppendsFront old new text
-
 -- whole lines
-pub whole_lines : PlaysGoOn → BytesAreAnOffer → (count : ℕ) (calls done others : List (ℕ × Call)) (text : List ℕ) (refused : ℕ) (old now : Option (List ℕ)) → calls ≡ done ++ others
-    → AllByRecursion (λ call. IsCall count call.1) others → IsTraceOf count done text refused → Appends old now text → Front count calls old now
-whole_lines go offers count calls done others text refused old now calls_are lawful t out =
-    let all = whole go offers count calls done others text refused calls_are lawful t in
+pub whole_lines : PlaysGoOn → BytesAreAnOffer → (past : Past) (count : ℕ) (calls done others : List (ℕ × Call)) (text : List ℕ) (refused : ℕ) (old now : Option (List ℕ)) → calls ≡ done ++ others
+    → AllByRecursion (λ call. IsCall count call.1) others → IsTraceOf past count done text refused → Appends old now text → Front past count calls old now
+whole_lines go offers past count calls done others text refused old now calls_are lawful t out =
+    let all = whole go offers past count calls done others text refused calls_are lawful t in
     (text ++ all.rest, all.refused, all.trace, front_behind old now now text [] all.rest out (0, Appends-nil now))
 
 -- and the beginning of another few
-pub begun_lines : RunsAreSafe → NoDeliveryIsRefusedOddly → PlaysGoOn → BytesAreAnOffer → (header : Header) (all done calls others : List (ℕ × Call)) (stage : Stage) (refused : ℕ) (old mid now : Option (List ℕ))
-    → all ≡ done ++ (calls ++ others) → AllByRecursion (λ call. IsCall header.count call.1) others → HasPlayed header done stage refused old mid → BeginFrom calls stage mid now → Front header.count all old now
-begun_lines safe odd go offers header all done calls others stage refused old mid now all_are lawful p q =
-    let next = led header done calls stage q.new refused old mid p q.answers q.lead in
+pub begun_lines : RunsAreSafe → NoDeliveryIsRefusedOddly → PlaysGoOn → BytesAreAnOffer → (past : Past) (header : Header) (all done calls others : List (ℕ × Call)) (stage : Stage) (refused : ℕ) (old mid now : Option (List ℕ))
+    → all ≡ done ++ (calls ++ others) → AllByRecursion (λ call. IsCall header.count call.1) others → HasPlayed past header done stage refused old mid → BeginFrom calls stage mid now → Front past header.count all old now
+begun_lines safe odd go offers past header all done calls others stage refused old mid now all_are lawful p q =
+    let next = led past header done calls stage q.new refused old mid p q.answers q.lead in
     let so_far = trace_text (numbered done) (map outcome_of p.answers) in
     let begun = trace_text (numbered calls) (map outcome_of q.answers) in
-    let t : IsTraceOf header.count (done ++ calls) (so_far ++ begun) (refusals_in (map outcome_of (p.answers ++ q.answers))) =
+    let answers = p.answers ++ q.answers in
+    let t : IsTraceOf past header.count (done ++ calls) (so_far ++ begun) (refusals_in (map outcome_of answers)) =
     record {
       events = p.events ++ q.lead.events;
       told = next.0;
-      outcomes = map outcome_of (p.answers ++ q.answers);
-      played = (answered header.count (limits_in header) (p.events ++ q.lead.events) (p.answers ++ q.answers) q.new (safe header.count) odd next.1).played;
+      outcomes = map outcome_of answers;
+      played = subst (λ (os : List Outcome). IsPlayed header.count (events_before past ++ (p.events ++ q.lead.events)) os) (map-append outcome_of (answers_before past) answers)
+          (answered header.count (limits_in header) (events_before past ++ (p.events ++ q.lead.events)) (answers_before past ++ answers) q.new (safe header.count) odd next.1).played;
       text_is = sym next.2;
       refused_is = refl;
     } in
-    let w = whole go offers header.count all (done ++ calls) others (so_far ++ begun) _ (all_are ∙ sym (append_assoc done calls others)) lawful t in (
+    let w = whole go offers past header.count all (done ++ calls) others (so_far ++ begun) _ (all_are ∙ sym (append_assoc done calls others)) lawful t in (
       (so_far ++ begun) ++ w.rest,
       w.refused,
       w.trace,
@@ -393,33 +450,33 @@ begun_lines safe odd go offers header all done calls others stage refused old mi
 
 -- ---- and where the input is known
 
-pub writes_to : RunsAreSafe → NoDeliveryIsRefusedOddly → (input : Option (List ℕ)) (bytes : List ℕ) (script : Script) (stage : Stage) (refused : ℕ) (old now : Option (List ℕ)) → IfSome input (λ all. bytes ≡ all)
-    → IsScript bytes script → length stage.nodes ≡ script.header.count → HasPlayed script.header script.calls stage refused old now
-    → WritesTo input old now (record { refused = refused; logs = map log_of stage.nodes })
-writes_to safe odd None bytes script stage refused old now same spelled count p = tt
-writes_to safe odd (Some all) bytes script stage refused old now same spelled count p = (
+pub writes_to : RunsAreSafe → NoDeliveryIsRefusedOddly → (past : Past) (input : Option (List ℕ)) (bytes : List ℕ) (script : Script) (stage : Stage) (refused : ℕ) (old now : Option (List ℕ)) → IfSome input (λ all. bytes ≡ all)
+    → IsScript bytes script → length stage.nodes ≡ script.header.count → HasPlayed past script.header script.calls stage refused old now
+    → WritesTo past input old now (record { refused = refused; logs = map log_of stage.nodes })
+writes_to safe odd past None bytes script stage refused old now same spelled count p = tt
+writes_to safe odd past (Some all) bytes script stage refused old now same spelled count p = (
   trace_text (numbered script.calls) (map outcome_of p.answers),
   record {
     transcript = record {
       script = script;
       spelled = subst (λ (b : List ℕ). IsScript b script) same spelled;
-      trace = traced safe odd script.header script.calls stage refused old now p;
+      trace = traced safe odd past script.header script.calls stage refused old now p;
     };
     logs_are = shown_logs script.header stage (last p.reached.run) p.reached.shown count;
   },
   p.written,
 )
 
-pub writes_front : (input : Option (List ℕ)) (bytes : List ℕ) (script : Script) (old now : Option (List ℕ)) → IfSome input (λ all. bytes ≡ all) → IsScript bytes script
-    → Front script.header.count script.calls old now → WritesFront input old now
-writes_front None bytes script old now same spelled f = inr tt
-writes_front (Some all) bytes script old now same spelled (text, refused, t, out) =
+pub writes_front : (past : Past) (input : Option (List ℕ)) (bytes : List ℕ) (script : Script) (old now : Option (List ℕ)) → IfSome input (λ all. bytes ≡ all) → IsScript bytes script
+    → Front past script.header.count script.calls old now → WritesFront past input old now
+writes_front past None bytes script old now same spelled f = inr tt
+writes_front past (Some all) bytes script old now same spelled (text, refused, t, out) =
     inr (text, refused, record { script = script; spelled = subst (λ (b : List ℕ). IsScript b script) same spelled; trace = t }, out)
 
-pub writes_first : (input : Option (List ℕ)) (bytes : List ℕ) (script : Script) (first others : List (ℕ × Call)) (refused : ℕ) (text : List ℕ) (old now : Option (List ℕ))
-    → IfSome input (λ all. bytes ≡ all) → IsScript bytes script → script.calls ≡ first ++ others → IsTraceOf script.header.count first text refused → Appends old now text → WritesFirst input old now
-writes_first None bytes script first others refused text old now same spelled calls_are t out = inr tt
-writes_first (Some all) bytes script first others refused text old now same spelled calls_are t out =
+pub writes_first : (past : Past) (input : Option (List ℕ)) (bytes : List ℕ) (script : Script) (first others : List (ℕ × Call)) (refused : ℕ) (text : List ℕ) (old now : Option (List ℕ))
+    → IfSome input (λ all. bytes ≡ all) → IsScript bytes script → script.calls ≡ first ++ others → IsTraceOf past script.header.count first text refused → Appends old now text → WritesFirst past input old now
+writes_first past None bytes script first others refused text old now same spelled calls_are t out = inr tt
+writes_first past (Some all) bytes script first others refused text old now same spelled calls_are t out =
     inr (
       text,
       record {
@@ -429,6 +486,20 @@ writes_first (Some all) bytes script first others refused text old now same spel
       },
       out,
     )
+
+-- all of a script that was read has been played
+pub writes_after : RunsAreSafe → NoDeliveryIsRefusedOddly → (past : Past) (input : Option (List ℕ)) (bytes : List ℕ) (script : Script) (ended : RunEnd) (old now : Option (List ℕ)) → IfSome input (λ all. bytes ≡ all)
+    → IsScript bytes script → HasPlayedAll past script ended old now → WritesTo past input old now ended
+writes_after safe odd past input bytes script ended old now same spelled p =
+    subst (WritesTo past input old now) (λ i. record { refused = ended.refused; logs = sym p.logs_are i })
+    (writes_to safe odd past input bytes script p.stage ended.refused old now same spelled p.nodes p.played)
+
+-- or the first calls
+pub writes_first_of : RunsAreSafe → NoDeliveryIsRefusedOddly → (past : Past) (input : Option (List ℕ)) (bytes : List ℕ) (script : Script) (old now : Option (List ℕ)) → IfSome input (λ all. bytes ≡ all)
+    → IsScript bytes script → HasPlayedFirst past script old now → WritesFirst past input old now
+writes_first_of safe odd past input bytes script old now same spelled p =
+    writes_first past input bytes script p.done p.others p.refused _ old now same spelled p.calls_are
+    (traced safe odd past script.header p.done p.stage p.refused old now p.played) p.played.written
 
 -- ---- which refusal it was
 

@@ -6,7 +6,7 @@ use Rattle.kp_types.proofs.Elements.{all_push}
 use Rattle.kp_script.specs.Call.{Call, Header, call_text, IsCall, IsHeaderText, IsCallText, SpellsNoHeader, SpellsNoCall}
 use Rattle.kp_script.specs.Lines.{lines, counted, counted_from}
 use Rattle.kp_script.specs.Script.{BeginsScript, IsFaultAt, IsScript}
-use Rattle.kp_script.proofs.Numbers.{same_field}
+use Rattle.kp_words.proofs.Numbers.{same_field}
 
 -- the line of a call
 abbrev pub text_of : ℕ × Call → ℕ × List ℕ

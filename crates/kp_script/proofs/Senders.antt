@@ -6,10 +6,11 @@ use Rattle.std.specs.Prelude.{unwrap_or}
 use Rattle.std.specs.Fmt.{decimal}
 use Rattle.std.specs.Int.{IsInRange}
 use Rattle.kp_script.specs.Call.{Sender, IsSender, signed_text, kind_text}
-use Rattle.kp_script.specs.Read.{Lacks, sender_front}
+use Rattle.kp_script.specs.Read.{sender_front}
+use Rattle.kp_words.specs.Words.{Lacks}
 use Rattle.kp_script.specs.Seen.{field_below}
-use Rattle.kp_script.proofs.Numbers.{decimal_lacks, each_digit, some_digit}
-use Rattle.kp_script.proofs.Splitting.{one_parting}
+use Rattle.kp_words.proofs.Numbers.{decimal_lacks, each_digit, some_digit}
+use Rattle.kp_words.proofs.Splitting.{one_parting}
 
 -- a field that is kept as a number is that field again
 pub held : (greatest limit kept : ℕ) (field : Option ℕ) → limit ≤ greatest → IfSome field (λ n. n < limit) → kept ≡ unwrap_or field greatest → field_below greatest kept ≡ field

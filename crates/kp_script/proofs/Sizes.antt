@@ -5,9 +5,10 @@ use Rattle.std.proofs.lemmas.List.Splits.{length-slice_split}
 use Rattle.std.specs.List.{count_by}
 use Rattle.kp_record.specs.Varint.{varint, varint_within, sized, sized_or_null}
 use Rattle.kp_record.specs.Record.{record_fields, record_spelling, records_spelling}
-use Rattle.kp_script.specs.Call.{values_text, pieces}
+use Rattle.kp_script.specs.Call.{values_text}
+use Rattle.kp_words.specs.Words.{pieces}
 use Rattle.kp_record.specs.Made.{plain_record}
-use Rattle.kp_script.proofs.Values.{pieces_back, some_piece}
+use Rattle.kp_words.proofs.Commas.{pieces_back, some_piece}
 use Rattle.kp_record.proofs.GroupCounts.{varint_short}
 
 sized_length : (bytes : List ℕ) → length (sized bytes) ≤ 10 + length bytes

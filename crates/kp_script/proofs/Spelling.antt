@@ -1,11 +1,13 @@
 -- The fields of an append, word by word.
 use Rattle.std.proofs.Common.{◌≡◌, ℕ, ◌<◌, ◌≤◌, ◌^◌, Bool, List, [], ◌∷◌, ◌++◌, ap, ◌∙◌, arith, codes, length, length-append}
 use Rattle.std.specs.Fmt.{decimal}
-use Rattle.kp_script.specs.Call.{Sender, Append, call_text, fields_text, kind_text, values_text, pieces}
+use Rattle.kp_script.specs.Call.{Sender, Append, call_text, fields_text, kind_text, values_text}
+use Rattle.kp_words.specs.Words.{pieces}
 use Rattle.kp_script.specs.Read.{sender_front}
-use Rattle.kp_script.proofs.Numbers.{same_field}
+use Rattle.kp_words.proofs.Numbers.{same_field}
 use Rattle.kp_script.specs.Seen.{seen_values}
-use Rattle.kp_script.proofs.Values.{pieces_back, seen_back}
+use Rattle.kp_script.proofs.Values.{seen_back}
+use Rattle.kp_words.proofs.Commas.{pieces_back}
 
 -- an append's node and time, in front of the rest of its fields
 abbrev pub append_front : (node time : ℕ) → List ℕ → List ℕ

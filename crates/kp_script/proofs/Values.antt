@@ -1,11 +1,13 @@
 -- Laws of values and the commas between them: a text has one list of values, and values have one text.
 use Rattle.std.proofs.Common.{◌≡◌, ℕ, ◌<◌, Bool, true, false, not, cond, ◌&&◌, eqb, leb, List, [], ◌∷◌, ◌++◌, All, refl, sym, ap, ◌∙◌, arith, length}
-use Rattle.std.proofs.lemmas.Bool.{and_parts, eqb-false, not-true, le-leb, ne_eqb}
+use Rattle.std.proofs.lemmas.Bool.{and_parts, eqb-false, not-true, le-leb}
 use Rattle.std.proofs.lemmas.List.Elements.{All-from_recursion}
-use Rattle.std.proofs.lemmas.List.Splits.{slice_split_none, slice_split_at, length-slice_split, join_with_byte-slice_split}
+use Rattle.std.proofs.lemmas.List.Splits.{slice_split_none, slice_split_at}
 use Rattle.std.specs.List.{list_all, onto_first, AllByRecursion}
-use Rattle.kp_script.specs.Call.{is_value_byte, is_value, values_text, pieces}
-use Rattle.kp_script.specs.Read.{Lacks, goes_on}
+use Rattle.kp_script.specs.Call.{is_value_byte, is_value, values_text}
+use Rattle.kp_words.specs.Words.{pieces, Lacks}
+use Rattle.kp_script.specs.Read.{goes_on}
+use Rattle.kp_words.proofs.Commas.{one_piece, pieces_back, some_piece}
 use Rattle.kp_script.specs.Seen.{seen_values}
 
 lacks_commas : (value : List ℕ) → list_all is_value_byte value ≡ true → AllByRecursion (λ x. eqb x 44 ≡ false) value
@@ -31,18 +33,10 @@ values_back (value ∷ next ∷ values) some all =
     slice_split_at (λ (x : ℕ). eqb x 44) value 44 (values_text (next ∷ values)) (no_commas value parts.0) refl
     ∙ ap (λ (vs : List (List ℕ)). value ∷ vs) (values_back (next ∷ values) (omega arith) parts.1)
 
--- a text is that of its pieces
-pub pieces_back : (text : List ℕ) → text ≡ values_text (pieces text)
-pieces_back text = sym (join_with_byte-slice_split 44 text)
-
 -- also where it is one value
 pub seen_back : (lone : Bool) (text : List ℕ) → text ≡ values_text (seen_values lone text)
 seen_back true text = refl
 seen_back false text = pieces_back text
-
--- a text has a piece
-pub some_piece : (text : List ℕ) → 0 < length (pieces text)
-some_piece text = omega (arith, length-slice_split (λ (x : ℕ). eqb x 44) text)
 
 -- ---- values read from the front
 
@@ -95,11 +89,7 @@ gone_on begun (x ∷ y ∷ ys) rest all some =
     let parts = and_parts (is_value_byte x) (list_all is_value_byte (y ∷ ys)) all in
     value_byte begun x (y ∷ ys ++ rest) parts.0 ∙ gone_on true (y ∷ ys) rest parts.1 (omega arith)
 
--- ---- pieces from the front
-
-no_comma_in : (text : List ℕ) → Lacks 44 text → AllByRecursion (λ x. eqb x 44 ≡ false) text
-no_comma_in [] lacks = tt
-no_comma_in (x ∷ xs) lacks = (ne_eqb x 44 lacks.0, no_comma_in xs lacks.1)
+-- ---- commas
 
 -- what has another byte at each place lacks the byte
 pub lacks_from : (byte : ℕ) (xs : List ℕ) → list_all (λ x. not (eqb x byte)) xs ≡ true → Lacks byte xs
@@ -107,11 +97,6 @@ lacks_from byte [] all = tt
 lacks_from byte (x ∷ xs) all =
     let parts = and_parts (not (eqb x byte)) (list_all (λ x. not (eqb x byte)) xs) all in
     (eqb-false x byte (not-true (eqb x byte) parts.0), lacks_from byte xs parts.1)
-
--- a text without a comma is one piece
-pub one_piece : (text : List ℕ) → Lacks 44 text → pieces text ≡ text ∷ []
-one_piece text lacks =
-    slice_split_none (λ (x : ℕ). eqb x 44) text (All-from_recursion (λ (x : ℕ). eqb x 44 ≡ false) text (no_comma_in text lacks))
 
 abbrev pub no_comma : List ℕ → Bool
 no_comma xs = list_all (λ x. not (eqb x 44)) xs
@@ -132,8 +117,3 @@ lone_is false values e = refl
 -- what is one value
 pub seen_lone : (lone : Bool) (values : List ℕ) → lone ≡ true → seen_values lone values ≡ values ∷ []
 seen_lone lone values is = ap (λ (one : Bool). seen_values one values) is
-
--- the first piece ends at the first comma
-pub first_piece : (front rest : List ℕ) → Lacks 44 front → pieces (front ++ 44 ∷ rest) ≡ front ∷ pieces rest
-first_piece front rest lacks =
-    slice_split_at (λ (x : ℕ). eqb x 44) front 44 rest (All-from_recursion (λ (x : ℕ). eqb x 44 ≡ false) front (no_comma_in front lacks)) refl

@@ -9,10 +9,11 @@ use Rattle.kp_replica.specs.declared.act.PlainAct.{PlainAct}
 use Rattle.kp_replica.specs.declared.act.PlainAct.TheVariants.{Mark, Alter, Read, Committed}
 use Rattle.kp_replica.specs.declared.altering.IsrChange.TheVariants.{Join, Leave}
 use Rattle.kp_script.specs.Call.{Call, Sender, Elect, Append, Raw, Acts, Deliver, IsCallInRange, SpellsNoCall, IsNoLongVerb, IsNoNodeVerb, SaysAct, act_words, verb_text, fields_text}
-use Rattle.kp_script.specs.Read.{Lacks, AreFields, AreNoFields}
+use Rattle.kp_script.specs.Read.{AreFields, AreNoFields}
+use Rattle.kp_words.specs.Words.{Lacks}
 use Rattle.kp_script.specs.Seen.{seen_call}
 use Rattle.kp_script.specs.declared.call.Call.{Call as ParsedCall}
-use Rattle.kp_script.proofs.Splitting.{one_parting}
+use Rattle.kp_words.proofs.Splitting.{one_parting}
 
 infixr 5 when◌then◌else◌
 abbrev when◌then◌else◌ : Bool → Type 0 → Type 0 → Type 0

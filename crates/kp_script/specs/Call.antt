@@ -1,13 +1,13 @@
 -- What a line of a script says, and how it is written: words with one space between each two.
 use Rattle.std.specs.Prelude.{◌≡◌, ◌≢◌, ℕ, ◌<◌, ◌≤◌, ◌^◌, ◌&&◌, ◌==◌, Bool, true, false, not, nat_le, IsTrue, List, [], ◌∷◌, ◌++◌, length, Option, Some, None, IfSome, codes}
-use Rattle.std.specs.List.{join_with_byte, list_all, slice_split}
+use Rattle.std.specs.List.{join_with_byte, list_all}
 use Rattle.std.specs.Fmt.{decimal}
 use Rattle.kp_record.specs.Record.{AreBytes}
 use Rattle.kp_marker.specs.Marker.{commits}
 use Rattle.kp_replica.specs.declared.act.PlainAct.{PlainAct}
 use Rattle.kp_replica.specs.declared.act.PlainAct.TheVariants.{Adopt, Mark, Ask, Raise, Alter, Checkpoint, Stop, Restart, Show, Read, Committed}
 use Rattle.kp_replica.specs.declared.altering.IsrChange.TheVariants.{Join, Leave}
-use Rattle.kp_script.specs.Hex.{hex_text}
+use Rattle.kp_words.specs.Words.{hex_text}
 
 -- What an append says of its producer: who, in which epoch, and with which first sequence number (KIP-98). None is -1.
 pub record Sender : Type 0 where
@@ -45,10 +45,6 @@ spaced words = join_with_byte 32 words
 -- values, with a comma between each two
 abbrev pub values_text : List (List ℕ) → List ℕ
 values_text values = join_with_byte 44 values
-
--- the pieces of a text between its commas
-abbrev pub pieces : List ℕ → List (List ℕ)
-pieces text = slice_split (λ byte. byte == 44) text
 
 -- a producer field: -1, or a number
 abbrev pub signed_text : Option ℕ → List ℕ

@@ -8,7 +8,7 @@ use Rattle.kp_model.specs.Log.{size}
 use Rattle.kp_model.specs.Run.{last}
 use Rattle.kp_model.specs.World.{Node, World}
 use Rattle.kp_script.specs.Call.{Header}
-use Rattle.kp_script.specs.Transcript.{IsTranscript, largest_batch}
+use Rattle.kp_script.specs.Transcript.{IsTranscript, Past, largest_batch}
 
 -- how many events were refused, and the nodes' logs, by the nodes' numbers
 pub record RunEnd : Type 0 where
@@ -40,10 +40,10 @@ abbrev pub AreLimited : List Partition → Type 0
 AreLimited logs = AllByRecursion KeepsLimit logs
 
 -- The input spells a script, the text is the trace of its calls, and the logs are those in the last world of that trace's run.
-pub record EndsWith (input text : List ℕ) (ended : RunEnd) : Type 0 where
-  pub transcript : IsTranscript input text ended.refused
+pub record EndsWith (past : Past) (input text : List ℕ) (ended : RunEnd) : Type 0 where
+  pub transcript : IsTranscript past input text ended.refused
   pub logs_are : ended.logs ≡ logs_in transcript.script.header (last transcript.trace.played.run)
 
 -- The known bytes grew by the trace of the input, where it is known, and its run left this.
-abbrev pub WritesTo : Option (List ℕ) → Option (List ℕ) → Option (List ℕ) → RunEnd → Type 0
-WritesTo input old new ended = IfSome input (λ bytes. (text : List ℕ) × EndsWith bytes text ended × Appends old new text)
+abbrev pub WritesTo : Past → Option (List ℕ) → Option (List ℕ) → Option (List ℕ) → RunEnd → Type 0
+WritesTo past input old new ended = IfSome input (λ bytes. (text : List ℕ) × EndsWith past bytes text ended × Appends old new text)

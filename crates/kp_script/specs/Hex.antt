@@ -1,14 +1,6 @@
--- Bytes as hexadecimal digits in lower case, two for each.
-use Rattle.std.specs.Prelude.{ℕ, ◌+◌, ◌-◌, ◌*◌, ◌/◌, ◌%◌, Bool, not, ◌&&◌, ◌||◌, ◌==◌, nat_lt, nat_le, List, [], ◌∷◌, length, if◌then◌else◌}
-use Rattle.std.specs.List.{flat_map, list_all}
-
--- a number below 16 as a digit: 0 to 9, then a to f
-abbrev pub hex_digit : ℕ → ℕ
-hex_digit n = if nat_lt n 10 then 48 + n else 87 + n
-
--- each byte as two such digits
-abbrev pub hex_text : List ℕ → List ℕ
-hex_text bytes = flat_map (λ byte. hex_digit (byte / 16) ∷ hex_digit (byte % 16) ∷ []) bytes
+-- What hexadecimal digits in lower case spell, two for each byte.
+use Rattle.std.specs.Prelude.{ℕ, ◌+◌, ◌-◌, ◌*◌, ◌%◌, Bool, not, ◌&&◌, ◌||◌, ◌==◌, nat_le, List, [], ◌∷◌, length, if◌then◌else◌}
+use Rattle.std.specs.List.{list_all}
 
 -- 0 to 9
 abbrev pub is_number_digit : ℕ → Bool

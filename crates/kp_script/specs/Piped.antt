@@ -14,7 +14,7 @@ use Rattle.kp_script.specs.Ended.{RunEnd, logs_in}
 use Rattle.kp_script.specs.Lines.{sent_lines, is_passed_over}
 use Rattle.kp_script.specs.Reads.{Reads, ReadsInto}
 use Rattle.kp_script.specs.Trace.{trace_line}
-use Rattle.kp_script.specs.Transcript.{IsTraceOf}
+use Rattle.kp_script.specs.Transcript.{IsTraceOf, no_past}
 use Rattle.kp_script.specs.declared.pipe.CutPipe.{CutPipe}
 
 -- A line that has its line feed is passed over without an answer where it is empty or a comment. One that lacks it is not, whatever
@@ -96,7 +96,7 @@ pub record IsHeaded (all : List (ℕ × Option (List ℕ))) (text : List ℕ) (e
   pub heard : Heard all
   pub plain : List ℕ
   pub refused : ℕ
-  pub trace : IsTraceOf heard.header.count (calls_in heard.said) plain refused
+  pub trace : IsTraceOf no_past heard.header.count (calls_in heard.said) plain refused
   pub text_is : text ≡ fault_lines heard.before ++ answers_text heard.said trace.outcomes
   pub refused_is : ended.refused ≡ (length heard.before + faults_among heard.said) + refused
   pub logs_are : ended.logs ≡ logs_in heard.header (last trace.played.run)

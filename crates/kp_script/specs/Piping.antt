@@ -7,6 +7,7 @@ use Rattle.kp_log.specs.Partition.{Partition}
 use Rattle.kp_world.specs.Shown.{Stage, log_of}
 use Rattle.kp_script.specs.Piped.{Heard, IsNoHeader, answers_text, calls_in, counts, fault_lines, faults_among}
 use Rattle.kp_script.specs.Playing.{HasPlayed}
+use Rattle.kp_script.specs.Transcript.{no_past}
 use Rattle.kp_script.specs.Reads.{Reads, ReadsInto}
 use Rattle.kp_script.specs.declared.pipe.Running.{Running}
 
@@ -15,7 +16,7 @@ pub record Headed (all : List (ℕ × Option (List ℕ))) (text : List ℕ) (ans
   pub heard : Heard all
   pub count_is : heard.header.count ≡ count
   pub refused : ℕ
-  pub played : HasPlayed heard.header (calls_in heard.said) stage refused None None
+  pub played : HasPlayed no_past heard.header (calls_in heard.said) stage refused None None
   pub text_is : text ≡ fault_lines heard.before ++ answers_text heard.said (map outcome_of played.answers)
   pub answered_is : answered ≡ (length heard.before + faults_among heard.said) + refused
 
@@ -30,9 +31,9 @@ StandsOn line old new refused answer =
     (all : List (ℕ × Option (List ℕ))) (text : List ℕ) (answered : ℕ) → Stands all text answered old
     → Stands (all ++ filter counts (line ∷ [])) (text ++ answer) (answered + refused) new
 
--- as many nodes as are counted
+-- as many nodes as are counted, and no messages of an earlier process
 abbrev pub HasNodes : Option Running → Type 0
-HasNodes running = IfSome running (λ some. length some.world.nodes ≡ some.count)
+HasNodes running = IfSome running (λ some. (length some.world.nodes ≡ some.count) × (some.world.first ≡ 0))
 
 -- the nodes' logs, where there are nodes
 abbrev pub logs_of : Option Running → List Partition

@@ -1,21 +1,24 @@
 -- What playing some of a script's calls does to the world and to the trace.
 use Rattle.std.specs.Prelude.{◌≡◌, ◌⊎◌, ◌++◌, ◌≤◌, ℕ, List, [], ◌∷◌, drop, length, map, IfErr, IfOk, OnErr, Option, Result}
+use Rattle.std.specs.List.{AllByRecursion}
 use Rattle.std.specs.Io.KnownBytes.{Appends}
 use Rattle.kp_types.specs.declared.limits.Limits.{Limits}
 use Rattle.kp_types.specs.declared.refusal.Refusal.{Refusal}
 use Rattle.kp_types.specs.declared.refusal.Refusal.TheVariants.{Memory}
 use Rattle.kp_types.specs.Devices.{AppendsFront}
 use Rattle.kp_model.specs.Event.{Event, Outcome}
+use Rattle.kp_model.specs.Handed.{IsAtMost}
 use Rattle.kp_world.specs.Answers.{outcome_of}
 use Rattle.kp_world.specs.Plays.{IsReached, LeadOn}
-use Rattle.kp_world.specs.Shown.{Stage}
+use Rattle.kp_world.specs.Shown.{Stage, log_of}
 use Rattle.kp_world.specs.declared.event.EventAnswer.{EventAnswer}
-use Rattle.kp_script.specs.Call.{Call, Header, node_of}
-use Rattle.kp_script.specs.Ended.{limits_in}
+use Rattle.kp_script.specs.Call.{Call, Deliver, Header, IsCall, node_of}
+use Rattle.kp_script.specs.Ended.{RunEnd, limits_in}
 use Rattle.kp_script.specs.Parsed.{calls_in}
 use Rattle.kp_script.specs.Told.{AreTold}
 use Rattle.kp_script.specs.Trace.{trace_line, trace_text}
-use Rattle.kp_script.specs.Transcript.{largest_batch, numbered, refusals_in}
+use Rattle.kp_script.specs.Script.{Script}
+use Rattle.kp_script.specs.Transcript.{IsTraceOf, Past, answers_before, events_before, largest_batch, numbered, refusals_in}
 
 -- the calls that are left of a script's sections, where so many of the first section are played
 abbrev pub left_in : ℕ → List (List (ℕ × Call)) → List (ℕ × Call)
@@ -30,6 +33,15 @@ IsFirstWhole calls (section ∷ others) = calls ≡ length section
 abbrev pub IsWithin : ℕ → List (List (ℕ × Call)) → Type 0
 IsWithin from [] = from ≡ 0
 IsWithin from (section ∷ others) = from ≤ length section
+
+-- a message that comes isn't one of those that went with an earlier process
+abbrev pub Reaches : (first : ℕ) → Call → Type 0
+Reaches first (Deliver number) = first ≤ number
+Reaches first _ = Unit {0}
+
+-- the call is in range where the stage is this one
+abbrev pub MayPlay : Stage → Call → Type 0
+MayPlay stage call = IsCall (length stage.nodes) call × Reaches stage.first call
 
 -- The calls tell events that lead from a stage to another one with these answers, whatever came before.
 pub record LeadTo (calls : List (ℕ × Call)) (old new : Stage) (answers : List (Result EventAnswer Refusal)) : Type 0 where
@@ -53,6 +65,7 @@ pub record PlaysLine (call : ℕ × Call) (old new : Stage) (before after : List
   pub played : IfOk result (λ refused. PlaysOne call old new refused before after)
   pub cut : OnErr result (CutsOne call old new)
   pub nodes : length new.nodes ≡ length old.nodes
+  pub first : new.first ≡ old.first
   pub few : IfOk result (λ refused. refused ≤ 1)
   pub only : IfErr result (λ refusal. refusal ≡ Memory)
 
@@ -84,11 +97,39 @@ pub record BeginFrom (calls : List (ℕ × Call)) (old : Stage) (before after : 
   pub lead : LeadTo calls old new answers
   pub begun : AppendsFront before after (trace_text (numbered calls) (map outcome_of answers))
 
--- These calls of a script with this header have been played from the start on, and their trace is out.
-pub record HasPlayed (header : Header) (done : List (ℕ × Call)) (stage : Stage) (refused : ℕ) (old now : Option (List ℕ)) : Type 0 where
+-- The past led to this stage, on the nodes that the header asks for.
+abbrev pub LedTo : Past → Header → Stage → Type 0
+LedTo past header stage = IsReached header.count (limits_in header) (events_before past) (answers_before past) stage
+
+-- no batch of it was above the greatest size
+abbrev pub WereSmall : Past → Type 0
+WereSmall past = AllByRecursion (IsAtMost largest_batch) (events_before past)
+
+-- These calls of a script with this header have been played behind that past, and their trace is out.
+pub record HasPlayed (past : Past) (header : Header) (done : List (ℕ × Call)) (stage : Stage) (refused : ℕ) (old now : Option (List ℕ)) : Type 0 where
   pub events : List Event
   pub told : AreTold largest_batch (map (λ call. call.1) done) events
   pub answers : List (Result EventAnswer Refusal)
-  pub reached : IsReached header.count (limits_in header) events answers stage
+  pub reached : IsReached header.count (limits_in header) (events_before past ++ events) (answers_before past ++ answers) stage
   pub refused_is : refused ≡ refusals_in (map outcome_of answers)
   pub written : Appends old now (trace_text (numbered done) (map outcome_of answers))
+
+-- All calls of the script have been played behind that past, and have left this.
+pub record HasPlayedAll (past : Past) (script : Script) (ended : RunEnd) (old now : Option (List ℕ)) : Type 0 where
+  pub stage : Stage
+  pub nodes : length stage.nodes ≡ script.header.count
+  pub played : HasPlayed past script.header script.calls stage ended.refused old now
+  pub logs_are : ended.logs ≡ map log_of stage.nodes
+
+-- The first ones have.
+pub record HasPlayedFirst (past : Past) (script : Script) (old now : Option (List ℕ)) : Type 0 where
+  pub done : List (ℕ × Call)
+  pub others : List (ℕ × Call)
+  pub calls_are : script.calls ≡ done ++ others
+  pub stage : Stage
+  pub refused : ℕ
+  pub played : HasPlayed past script.header done stage refused old now
+
+-- a beginning of the trace of these calls has come behind the known bytes
+abbrev pub Front : (past : Past) (count : ℕ) (calls : List (ℕ × Call)) → Option (List ℕ) → Option (List ℕ) → Type 0
+Front past count calls old new = (text : List ℕ) × (refused : ℕ) × IsTraceOf past count calls text refused × AppendsFront old new text

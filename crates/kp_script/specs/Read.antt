@@ -1,28 +1,14 @@
 -- Words of the readers' contracts.
-use Rattle.std.specs.Prelude.{◌≡◌, ◌≢◌, ℕ, ◌<◌, ◌^◌, ◌==◌, Bool, true, false, ◌&&◌, if◌then◌else◌, List, [], ◌∷◌, ◌++◌}
-use Rattle.std.specs.List.{AllByRecursion}
+use Rattle.std.specs.Prelude.{◌≡◌, ◌≢◌, ℕ, ◌==◌, Bool, true, false, ◌&&◌, if◌then◌else◌, List, [], ◌∷◌}
 use Rattle.std.specs.Fmt.{decimal}
-use Rattle.std.specs.Int.{IsInRange}
 use Rattle.kp_marker.specs.Marker.{commits}
 use Rattle.kp_marker.specs.declared.parts.Marker.{Marker}
 use Rattle.kp_script.specs.Call.{Call, Sender, is_value_byte, spaced, signed_text, ending_text, verb_text, fields_text, IsCallInRange}
-
--- No byte is this one.
-abbrev pub Lacks : ℕ → List ℕ → Type 0
-Lacks byte bytes = AllByRecursion (λ x. x ≢ byte) bytes
 
 -- Whether the bytes go on with values, where a value has begun or not.
 abbrev pub goes_on : (begun : Bool) → List ℕ → Bool
 goes_on begun [] = begun
 goes_on begun (x ∷ xs) = if (x == 44) then (begun && goes_on false xs) else (is_value_byte x && goes_on true xs)
-
-abbrev pub BeginsWithNoDigit : List ℕ → Type 0
-BeginsWithNoDigit [] = Unit {0}
-BeginsWithNoDigit (byte ∷ bytes) = ¬ IsInRange 48 57 byte
-
--- No number below 2 ^ 64 stands in front of the bytes, with no digit behind it.
-abbrev pub SpellsNoNumber : List ℕ → Type 0
-SpellsNoNumber bytes = (n : ℕ) (rest : List ℕ) → n < 2 ^ 64 → BeginsWithNoDigit rest → bytes ≢ decimal n ++ rest
 
 -- the three fields of a producer in front of other bytes, with one space between each two
 abbrev pub sender_front : Sender → List ℕ → List ℕ

@@ -2,7 +2,7 @@
 use Rattle.std.specs.Prelude.{◌≡◌, ℕ, List, [], ◌∷◌, ◌++◌, take, Option, None, Some}
 use Rattle.std.specs.Io.KnownBytes.{Consumes, IsAtEnd}
 use Rattle.kp_script.specs.Lines.{sent_lines}
-use Rattle.kp_script.specs.Read.{Lacks}
+use Rattle.kp_words.specs.Words.{Lacks}
 use Rattle.kp_script.specs.declared.reader.LineReader.{LineReader}
 use Rattle.kp_script.specs.declared.reader.Piece.{Piece}
 use Rattle.kp_script.specs.declared.reader.Piece.TheVariants.{Part, Last, End}

@@ -1,6 +1,7 @@
 -- What the parser's values say, apart from where they lie in memory.
 use Rattle.std.specs.Prelude.{ℕ, Bool, List, [], ◌∷◌, ◌-◌, ◌^◌, ◌==◌, Option, Some, None, if◌then◌else◌}
-use Rattle.kp_script.specs.Call.{Call, Header, Sender, Elect, Append, Raw, Acts, Deliver, pieces}
+use Rattle.kp_script.specs.Call.{Call, Header, Sender, Elect, Append, Raw, Acts, Deliver}
+use Rattle.kp_words.specs.Words.{pieces}
 use Rattle.kp_script.specs.Hex.{bytes_of}
 use Rattle.kp_script.specs.declared.call.Call.{Call as ParsedCall}
 use Rattle.kp_script.specs.declared.call.Call.TheVariants as parsed

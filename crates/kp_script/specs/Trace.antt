@@ -6,7 +6,7 @@ use Rattle.kp_types.specs.Texts.{refusal_text}
 use Rattle.kp_model.specs.World.{Leader, LeaderAndIsr}
 use Rattle.kp_model.specs.Event.{Line, Reply, Refused, Changed, NowLeads, NowFollows, At, DuplicateOf, AsksFrom, SentBatches, SentDiverging, SentProposal, SentDecision, Learned, Took, Cut, MarkAt, CheckpointAt, Stopped, Restarted, Shown, Lines, Outcome}
 use Rattle.kp_script.specs.Call.{spaced}
-use Rattle.kp_script.specs.Hex.{hex_text}
+use Rattle.kp_words.specs.Words.{hex_text}
 
 -- The value of a record, where null is a dash.
 abbrev pub value_text : Option (List ℕ) → List ℕ

@@ -1,11 +1,13 @@
 -- What running a script writes and answers.
-use Rattle.std.specs.Prelude.{◌≡◌, ◌⊎◌, ℕ, Bool, true, false, List, ◌++◌, map, count_by, Option, IfSome}
+use Rattle.std.specs.Prelude.{◌≡◌, ◌⊎◌, ℕ, Bool, true, false, List, [], ◌++◌, map, count_by, Option, IfSome, Result}
 use Rattle.std.specs.Io.KnownBytes.{Appends, Keeps}
 use Rattle.kp_types.specs.declared.refusal.Refusal.{Refusal}
 use Rattle.kp_types.specs.declared.refusal.Refusal.TheVariants as refusals
 use Rattle.kp_types.specs.Devices.{AppendsFront}
 use Rattle.kp_model.specs.Event.{Event, Reply, Refused, Outcome}
+use Rattle.kp_world.specs.Answers.{outcome_of}
 use Rattle.kp_world.specs.Plays.{IsPlayed}
+use Rattle.kp_world.specs.declared.event.EventAnswer.{EventAnswer}
 use Rattle.kp_script.specs.Call.{Call, node_of}
 use Rattle.kp_script.specs.Script.{Script, IsScript}
 use Rattle.kp_script.specs.Told.{AreTold}
@@ -27,49 +29,62 @@ refusals_in outcomes = count_by (λ outcome. is_refusal outcome.reply) outcomes
 abbrev pub numbered : List (ℕ × Call) → List (ℕ × ℕ)
 numbered calls = map (λ call. (call.0, node_of call.1)) calls
 
--- These calls tell events, a run of the definitions has these, and the text is the trace of this run; so many of the
--- events were refused.
-pub record IsTraceOf (count : ℕ) (calls : List (ℕ × Call)) (text : List ℕ) (refused : ℕ) : Type 0 where
+-- What came before a script, each event with its answer: nothing, or the run that another process left.
+abbrev pub Past : Type 0
+Past = List (Event × Result EventAnswer Refusal)
+
+abbrev pub no_past : Past
+no_past = []
+
+abbrev pub events_before : Past → List Event
+events_before past = map (λ happened. happened.0) past
+
+abbrev pub answers_before : Past → List (Result EventAnswer Refusal)
+answers_before past = map (λ happened. happened.1) past
+
+-- These calls tell events, a run of the definitions has these behind those of the past, and the text is the trace of what was answered to
+-- them; so many of them were refused.
+pub record IsTraceOf (past : Past) (count : ℕ) (calls : List (ℕ × Call)) (text : List ℕ) (refused : ℕ) : Type 0 where
   pub events : List Event
   pub told : AreTold largest_batch (map (λ call. call.1) calls) events
   pub outcomes : List Outcome
-  pub played : IsPlayed count events outcomes
+  pub played : IsPlayed count (events_before past ++ events) (map outcome_of (answers_before past) ++ outcomes)
   pub text_is : text ≡ trace_text (numbered calls) outcomes
   pub refused_is : refused ≡ refusals_in outcomes
 
 -- The text is the trace of the first of these calls, and of no part of a call.
-pub record IsTraceOfFirst (count : ℕ) (calls : List (ℕ × Call)) (text : List ℕ) : Type 0 where
+pub record IsTraceOfFirst (past : Past) (count : ℕ) (calls : List (ℕ × Call)) (text : List ℕ) : Type 0 where
   pub first : List (ℕ × Call)
   pub others : List (ℕ × Call)
   pub calls_are : calls ≡ first ++ others
   pub refused : ℕ
-  pub trace : IsTraceOf count first text refused
+  pub trace : IsTraceOf past count first text refused
 
 -- The input spells a script, and the text is the trace of its calls.
-pub record IsTranscript (input text : List ℕ) (refused : ℕ) : Type 0 where
+pub record IsTranscript (past : Past) (input text : List ℕ) (refused : ℕ) : Type 0 where
   pub script : Script
   pub spelled : IsScript input script
-  pub trace : IsTraceOf script.header.count script.calls text refused
+  pub trace : IsTraceOf past script.header.count script.calls text refused
 
 -- The input spells a script, and the text is the trace of its first calls.
-pub record IsTranscriptOfFirst (input text : List ℕ) : Type 0 where
+pub record IsTranscriptOfFirst (past : Past) (input text : List ℕ) : Type 0 where
   pub script : Script
   pub spelled : IsScript input script
-  pub trace : IsTraceOfFirst script.header.count script.calls text
+  pub trace : IsTraceOfFirst past script.header.count script.calls text
 
 -- The known bytes grew by the trace of the input, where it is known.
-abbrev pub Writes : Option (List ℕ) → Option (List ℕ) → Option (List ℕ) → ℕ → Type 0
-Writes input old new refused = IfSome input (λ bytes. (text : List ℕ) × IsTranscript bytes text refused × Appends old new text)
+abbrev pub Writes : Past → Option (List ℕ) → Option (List ℕ) → Option (List ℕ) → ℕ → Type 0
+Writes past input old new refused = IfSome input (λ bytes. (text : List ℕ) × IsTranscript past bytes text refused × Appends old new text)
 
 -- The known bytes grew by a beginning of the trace of the input, or stayed.
-abbrev pub WritesFront : Option (List ℕ) → Option (List ℕ) → Option (List ℕ) → Type 0
-WritesFront input old new =
-    Keeps old new ⊎ IfSome input (λ bytes. (text : List ℕ) × (refused : ℕ) × IsTranscript bytes text refused × AppendsFront old new text)
+abbrev pub WritesFront : Past → Option (List ℕ) → Option (List ℕ) → Option (List ℕ) → Type 0
+WritesFront past input old new =
+    Keeps old new ⊎ IfSome input (λ bytes. (text : List ℕ) × (refused : ℕ) × IsTranscript past bytes text refused × AppendsFront old new text)
 
 -- The known bytes grew by the trace of the input's first calls, whole lines of a run over their events, or stayed.
-abbrev pub WritesFirst : Option (List ℕ) → Option (List ℕ) → Option (List ℕ) → Type 0
-WritesFirst input old new =
-    Keeps old new ⊎ IfSome input (λ bytes. (text : List ℕ) × IsTranscriptOfFirst bytes text × Appends old new text)
+abbrev pub WritesFirst : Past → Option (List ℕ) → Option (List ℕ) → Option (List ℕ) → Type 0
+WritesFirst past input old new =
+    Keeps old new ⊎ IfSome input (λ bytes. (text : List ℕ) × IsTranscriptOfFirst past bytes text × Appends old new text)
 
 -- A run of a script is refused for a fault of the script, a device or memory.
 abbrev pub IsRunRefusal : Refusal → Type 0

@@ -6,7 +6,8 @@ ghost use Rattle.kp_types.specs.declared.refusal.Refusal.TheVariants.{Memory, To
 ghost use Rattle.kp_batch.specs.Reading.{IsFirstFault};
 ghost use Rattle.kp_record.specs.Made.{plain_record, record_made};
 ghost use Rattle.kp_record.specs.Record.{records_spelling};
-ghost use Rattle.kp_script.specs.Call.{Append, Raw, IsSender, pieces};
+ghost use Rattle.kp_script.specs.Call.{Append, Raw, IsSender};
+ghost use Rattle.kp_words.specs.Words.{pieces};
 ghost use Rattle.kp_script.specs.Hex.{bytes_of};
 ghost use Rattle.kp_script.specs.Told.{HandsIn};
 ghost use Rattle.kp_script.specs.Transcript.{largest_batch};
@@ -14,10 +15,10 @@ ghost use Rattle.kp_script.specs.Seen.{seen_sender, seen_values};
 
 use crate::call::Sender;
 use crate::digits::bytes_of;
-use crate::words::split_first_at;
 use bytes::Bytes;
 use kp_batch::{Fields, Handed, Parts, Speller};
 use kp_types::{MAX_BATCH, Refusal};
+use kp_words::split_first_at;
 use std::alloc::{AllocError, Global};
 
 /// A batch is never too large for the number of its records where its values have so few bytes.

@@ -8,11 +8,11 @@ ghost use Rattle.kp_script.specs.Seen.{seen_header, seen_call};
 
 use crate::fields::{append_of, mark_of, node_and_offset_of, node_of, raw_of, two_nodes_of};
 use crate::lines::LONGEST_LINE;
-use crate::words::{after, field_then, last_field, number_below, split_first_at};
 use kp_replica::{IsrChange, PlainAct};
 use kp_types::{
     GREATEST_SEGMENT_BYTES, LEAST_SEGMENT_BYTES, MAX_INDEX_INTERVAL, MOST_NODES, NodeId,
 };
+use kp_words::{after, field_then, last_field, number_below, split_first_at};
 
 /// The greatest time of a record, 2^62 - 1.
 pub const GREATEST_TIME: u64 = 4_611_686_018_427_387_903;

@@ -6,16 +6,18 @@ ghost use Rattle.std.specs.Fmt.{decimal};
 ghost use Rattle.std.specs.List.{list_all};
 ghost use Rattle.kp_marker.specs.Marker.{commits};
 ghost use Rattle.kp_marker.specs.declared.parts.HandedMarker.{HandedMarker as SpelledMarker};
-ghost use Rattle.kp_script.specs.Call.{Sender as SpelledSender, is_value, is_value_byte, kind_text, ending_text, pieces, IsSender};
+ghost use Rattle.kp_script.specs.Call.{Sender as SpelledSender, is_value, is_value_byte, kind_text, ending_text, IsSender};
+ghost use Rattle.kp_words.specs.Words.{pieces};
 ghost use Rattle.kp_script.specs.Read.{sender_front, marker_text, goes_on, AreFields, AreNoFields};
 ghost use Rattle.kp_script.specs.Seen.{seen_sender, seen_call, seen_values};
 
 use crate::call::{Call, GREATEST_TIME, Sender};
 use crate::digits::is_hex;
-use crate::words::{after, number_below, number_then, signed_then};
+use crate::words::signed_then;
 use kp_marker::{HandedMarker, Kind, Marker};
 use kp_replica::PlainAct;
 use kp_types::{GREATEST_OFFSET, NodeId, Offset};
+use kp_words::{after, number_below, number_then};
 
 /// The greatest number of a producer, 2^63 - 1.
 const GREATEST_PRODUCER: u64 = 9_223_372_036_854_775_807;

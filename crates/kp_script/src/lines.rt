@@ -4,7 +4,7 @@ ghost use Rattle.std.specs.Prelude.{◌≡◌, ◌+◌, ◌<◌, ◌≤◌, ◌^
 ghost use Rattle.std.specs.List.{list_all};
 ghost use Rattle.kp_script.specs.Lines.{lines, is_passed_over, counted_from};
 
-use crate::words::split_first_at;
+use kp_words::split_first_at;
 
 /// How many bytes a line has at most, without its line feed.
 pub const LONGEST_LINE: usize = 2_100_000;

@@ -110,6 +110,7 @@ impl Running {
         requires { IsHeader (seen_header header.now) }
         ensures count { IfOk result (λ running. running.count ≡ header.now.count) }
         ensures nodes { IfOk result (λ running. length running.world.nodes ≡ header.now.count) }
+        ensures first { IfOk result (λ running. running.world.first ≡ 0) }
         ensures shown { IfOk result (λ running. IsShown (limits_in (seen_header header.now)) running.world (start header.now.count)) }
         ensures only { IfErr result (λ refusal. refusal ≡ WantOfMemory) }
     {

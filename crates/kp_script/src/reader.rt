@@ -4,13 +4,13 @@ ghost use Rattle.std.specs.Prelude.{◌≡◌, ◌+◌, ◌<◌, ◌≤◌, ◌^
 ghost use Rattle.std.specs.Io.KnownBytes.{IsAtEnd, Keeps};
 ghost use Rattle.kp_types.specs.declared.refusal.Refusal.TheVariants.{Device as DeviceFault};
 ghost use Rattle.kp_types.specs.Devices.{CountsFaults, IsDeviceFault};
-ghost use Rattle.kp_script.specs.Read.{Lacks};
+ghost use Rattle.kp_words.specs.Words.{Lacks};
 ghost use Rattle.kp_script.specs.declared.reader.Next.TheVariants.{Nothing, Torn, Whole};
 ghost use Rattle.kp_script.specs.Reads.{Gives, Reads, ReadsInto, kept_of, read_faults, reader_of};
 
 use crate::lines::LONGEST_LINE;
-use crate::words::split_first_at;
 use kp_types::Refusal;
+use kp_words::split_first_at;
 use std::alloc::Global;
 use std::io::{self, BufRead, ErrorKind};
 

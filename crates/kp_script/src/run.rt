@@ -4,15 +4,15 @@ ghost use Rattle.std.specs.Prelude.{◌≡◌, ◌+◌, ◌<◌, ◌≤◌, ◌^
 ghost use Rattle.std.specs.List.{AllByRecursion};
 ghost use Rattle.kp_types.specs.declared.refusal.Refusal.TheVariants.{BadScript, Device as DeviceFault, Memory as WantOfMemory};
 ghost use Rattle.kp_types.specs.Devices.{CountsFaults, CountsOne, IsDeviceFault, device_of, faults_of};
-ghost use Rattle.kp_script.specs.Call.{Call as SpelledCall, IsCall, Acts, Deliver, Elect, Raw};
+ghost use Rattle.kp_script.specs.Call.{Call as SpelledCall, Acts, Deliver, Elect, IsHeader, Raw};
 ghost use Rattle.kp_script.specs.Ended.{limits_in, AreLimited, WritesTo};
-ghost use Rattle.kp_script.specs.Playing.{BeginFrom, IsFirstWhole, IsWithin, PlayTo, PlaysLine, TellsLine, left_in};
+ghost use Rattle.kp_script.specs.Playing.{BeginFrom, Front, HasPlayedAll, HasPlayedFirst, IsFirstWhole, IsWithin, LedTo, MayPlay, PlayTo, PlaysLine, TellsLine, WereSmall, left_in};
 ghost use Rattle.kp_script.specs.Hex.{bytes_of};
-ghost use Rattle.kp_script.specs.Parsed.{IsScriptOf, seen_script};
+ghost use Rattle.kp_script.specs.Parsed.{IsScriptOf, calls_in, seen_script};
 ghost use Rattle.kp_script.specs.Script.{IsFaultAt};
 ghost use Rattle.kp_script.specs.Seen.{seen_call, seen_header, seen_line};
 ghost use Rattle.kp_script.specs.Sections.{append_call};
-ghost use Rattle.kp_script.specs.Transcript.{IsRunRefusal, Writes, WritesFirst, WritesFront};
+ghost use Rattle.kp_script.specs.Transcript.{IsRunRefusal, Past, Writes, WritesFirst, WritesFront, no_past};
 ghost use Rattle.kp_world.specs.Answers.{appended, outcome_of};
 
 use crate::batches::{batch_of, batch_of_value, raw_bytes};
@@ -100,7 +100,7 @@ fn tell_receipt(
 /// Does what [`play_line`] does for an append of one value.
 #[inline(always)]
 fn play_lone(lone: &AppendLine<'_>, world: &mut World, work: &mut Work) -> Result<u64, Refusal>
-    requires call { IsCall (length world.old.nodes) (append_call true lone.now).1 }
+    requires call { MayPlay world.old (append_call true lone.now).1 }
     requires short { length lone.now.values.now ≤ 1000000 }
     ensures { PlaysLine (append_call true lone.now) world.old world.new work.old.text.items work.new.text.items result }
 {
@@ -125,7 +125,7 @@ fn play_values<'a>(
     work: &mut Work,
     parts: &mut Vec<Parts<'a>>,
 ) -> Result<u64, Refusal>
-    requires { IsCall (length world.old.nodes) (append_call lone line.now).1 }
+    requires { MayPlay world.old (append_call lone line.now).1 }
     ensures { PlaysLine (append_call lone line.now) world.old world.new work.old.text.items work.new.text.items result }
 {
     let bytes = batch_of(
@@ -202,6 +202,7 @@ fn play_delivery(
     world: &mut World,
     work: &mut Work,
 ) -> Result<u64, Refusal>
+    requires { world.old.first ≤ message }
     ensures { PlaysLine (line, Deliver message) world.old world.new work.old.text.items work.new.text.items result }
 {
     let delivered = world.deliver(alloc, message);
@@ -220,7 +221,7 @@ fn play_other<'a>(
     work: &mut Work,
     parts: &mut Vec<Parts<'a>>,
 ) -> Result<u64, Refusal>
-    requires { IsCall (length world.old.nodes) (seen_call line.call) }
+    requires { MayPlay world.old (seen_call line.call) }
     ensures { PlaysLine (seen_line line.entry) world.old world.new work.old.text.items work.new.text.items result }
 {
     let number = line.number;
@@ -259,7 +260,7 @@ pub(crate) fn play_line<'a>(
     work: &mut Work,
     parts: &mut Vec<Parts<'a>>,
 ) -> Result<u64, Refusal>
-    requires { IsCall (length world.old.nodes) (seen_call line.call) }
+    requires { MayPlay world.old (seen_call line.call) }
     ensures { PlaysLine (seen_line line.entry) world.old world.new work.old.text.items work.new.text.items result }
 {
     match line.lone() {
@@ -280,7 +281,7 @@ fn play_at<'a>(
 ) -> Result<u64, Refusal>
     requires within { at < length section.now }
     requires call { (other : ℕ × SpelledCall)
-        → IsCall (length world.old.nodes) (slice_index_or section.now at other).1 }
+        → MayPlay world.old (slice_index_or section.now at other).1 }
     ensures { (other : ℕ × SpelledCall) → PlaysLine (slice_index_or section.now at other)
         world.old world.new work.old.text.items work.new.text.items result }
 {
@@ -301,7 +302,7 @@ fn play_lines<W: Write>(
     writer: &mut Counted<W>,
 ) -> Result<Played, Refusal>
     requires within { from ≤ length section.now }
-    requires calls { AllByRecursion (λ call. IsCall (length world.old.nodes) call.1) (drop from section.now) }
+    requires calls { AllByRecursion (λ call. MayPlay world.old call.1) (drop from section.now) }
     requires writes { faults_of writer.old + 1 < 2 ^ 64 }
     ensures played { IfOk result (λ played.
         PlayTo (take played.lines (drop from section.now)) world.old world.new played.refused
@@ -315,6 +316,7 @@ fn play_lines<W: Write>(
         (W.contents (device_of writer.old)) (W.contents (device_of writer.new)) }
     ensures untouched { result ≡ Err WantOfMemory → writer.new ≡ writer.old }
     ensures nodes { length world.new.nodes ≡ length world.old.nodes }
+    ensures first { world.new.first ≡ world.old.first }
     ensures only { IfErr result IsDeviceFault }
     ensures counted { CountsFaults result (faults_of writer.old) (faults_of writer.new) }
 {
@@ -370,6 +372,50 @@ fn read_script<R: Read>(
     Ok((script, Speller::over(alloc, input)))
 }
 
+/// Plays the script on these nodes, and writes its trace. It does what [`play_script`] does of a script that was read.
+fn play_on<W: Write>(
+    alloc: Global,
+    script: Script,
+    speller: Speller,
+    world: World,
+    writer: &mut Counted<W>,
+) -> Result<Ended, Refusal>
+    requires header { IsHeader (seen_header script.header) }
+    requires calls { AllByRecursion (λ call. MayPlay world call.1) (calls_in script.sections.items) }
+    requires few { length (calls_in script.sections.items) ≤ 1000000 }
+    requires nodes { length world.nodes ≡ script.header.count }
+    requires writes { faults_of writer.old + 1 < 2 ^ 64 }
+    ensures played { IfOk result (λ ended. (past : Past) → LedTo past (seen_header script.header) world
+        → HasPlayedAll past (seen_script script) ended (W.contents (device_of writer.old)) (W.contents (device_of writer.new))) }
+    ensures limited { IfOk result (λ ended. (past : Past) → LedTo past (seen_header script.header) world
+        → WereSmall past → AreLimited ended.logs) }
+    ensures first { result ≡ Err WantOfMemory → (past : Past) → LedTo past (seen_header script.header) world
+        → HasPlayedFirst past (seen_script script) (W.contents (device_of writer.old)) (W.contents (device_of writer.new)) }
+    ensures front { OnErr result ((past : Past) → LedTo past (seen_header script.header) world
+        → Front past script.header.count (calls_in script.sections.items)
+        (W.contents (device_of writer.old)) (W.contents (device_of writer.new))) }
+    ensures only { IfErr result IsDeviceFault }
+    ensures counted { CountsFaults result (faults_of writer.old) (faults_of writer.new) }
+{
+    kp_world::plays_go_on();
+    kp_model::runs_are_safe();
+    kp_model::no_delivery_is_refused_oddly();
+    kp_model::batches_keep_their_size();
+    kp_replica::bytes_are_an_offer();
+    let header = script.header;
+    let mut script = script;
+    let mut world = world;
+    let mut work = Work::new(alloc, speller);
+    let mut refused = 0;
+    let mut from = 0;
+    while let Some(section) = script.sections.front() {
+        let played = play_lines(alloc, section, from, &mut world, &mut work, writer)?;
+        refused += played.refused;
+        from = left_behind(&mut script.sections, from + played.lines);
+    }
+    Ok(Ended::new(refused, header.count, world))
+}
+
 /// Plays the script that the reader has left, and writes its trace: a line for each event. Answers how many
 /// events were refused, and the nodes with their logs as they are then. F31 with the first line at fault, and then nothing
 /// is written; F33, and then the lines of the first events are, or nothing; F32 where a device failed, and then a
@@ -385,38 +431,26 @@ pub fn play_script<R: Read, W: Write>(
 ) -> Result<Ended, Refusal>
     requires reads { faults_of reader.old + 1 < 2 ^ 64 }
     requires writes { faults_of writer.old + 1 < 2 ^ 64 }
-    ensures played { IfOk result (λ ended. WritesTo (R.remaining (device_of reader.old))
+    ensures played { IfOk result (λ ended. WritesTo no_past (R.remaining (device_of reader.old))
         (W.contents (device_of writer.old)) (W.contents (device_of writer.new)) ended) }
     ensures limited { IfOk result (λ ended. AreLimited ended.logs) }
     ensures fault { (line : ℕ) → result ≡ Err (BadScript line)
         → IfSome (R.remaining (device_of reader.old)) (λ input. IsFaultAt input line) }
     ensures untouched { (line : ℕ) → result ≡ Err (BadScript line) → writer.new ≡ writer.old }
-    ensures first { result ≡ Err WantOfMemory → WritesFirst (R.remaining (device_of reader.old))
+    ensures first { result ≡ Err WantOfMemory → WritesFirst no_past (R.remaining (device_of reader.old))
         (W.contents (device_of writer.old)) (W.contents (device_of writer.new)) }
-    ensures front { OnErr result (WritesFront (R.remaining (device_of reader.old))
+    ensures front { OnErr result (WritesFront no_past (R.remaining (device_of reader.old))
         (W.contents (device_of writer.old)) (W.contents (device_of writer.new))) }
     ensures only { IfErr result IsRunRefusal }
     ensures counted { CountsOne result (faults_of reader.old) (faults_of reader.new)
         (faults_of writer.old) (faults_of writer.new) }
 {
-    kp_world::plays_go_on();
     kp_model::runs_are_safe();
     kp_model::no_delivery_is_refused_oddly();
-    kp_model::batches_keep_their_size();
-    kp_replica::bytes_are_an_offer();
     let (script, speller) = read_script(alloc, reader)?;
-    let mut script = script;
     let header = script.header;
-    let mut world = World::start(alloc, header.count, &limits_of(&header))?;
-    let mut work = Work::new(alloc, speller);
-    let mut refused = 0;
-    let mut from = 0;
-    while let Some(section) = script.sections.front() {
-        let played = play_lines(alloc, section, from, &mut world, &mut work, writer)?;
-        refused += played.refused;
-        from = left_behind(&mut script.sections, from + played.lines);
-    }
-    Ok(Ended::new(refused, header.count, world))
+    let world = World::start(alloc, header.count, &limits_of(&header))?;
+    play_on(alloc, script, speller, world, writer)
 }
 
 /// Runs the script that the reader has left, and writes its trace: a line for each event. Answers how many
@@ -429,14 +463,14 @@ pub fn run_script<R: Read, W: Write>(
 ) -> Result<u64, Refusal>
     requires reads { faults_of reader.old + 1 < 2 ^ 64 }
     requires writes { faults_of writer.old + 1 < 2 ^ 64 }
-    ensures written { IfOk result (λ refused. Writes (R.remaining (device_of reader.old))
+    ensures written { IfOk result (λ refused. Writes no_past (R.remaining (device_of reader.old))
         (W.contents (device_of writer.old)) (W.contents (device_of writer.new)) refused) }
     ensures fault { (line : ℕ) → result ≡ Err (BadScript line)
         → IfSome (R.remaining (device_of reader.old)) (λ input. IsFaultAt input line) }
     ensures untouched { (line : ℕ) → result ≡ Err (BadScript line) → writer.new ≡ writer.old }
-    ensures first { result ≡ Err WantOfMemory → WritesFirst (R.remaining (device_of reader.old))
+    ensures first { result ≡ Err WantOfMemory → WritesFirst no_past (R.remaining (device_of reader.old))
         (W.contents (device_of writer.old)) (W.contents (device_of writer.new)) }
-    ensures front { OnErr result (WritesFront (R.remaining (device_of reader.old))
+    ensures front { OnErr result (WritesFront no_past (R.remaining (device_of reader.old))
         (W.contents (device_of writer.old)) (W.contents (device_of writer.new))) }
     ensures only { IfErr result IsRunRefusal }
     ensures counted { CountsOne result (faults_of reader.old) (faults_of reader.new)

@@ -2,7 +2,7 @@
 
 ghost use Rattle.std.specs.Prelude.{◌≡◌, ◌+◌, ◌/◌, ◌%◌, ◌<◌, ◌≤◌, ℕ, List, [], ◌∷◌, ◌++◌, length, OnOk, vec_capacity, vec_len};
 ghost use Rattle.std.specs.Fmt.{decimal};
-ghost use Rattle.kp_script.specs.Hex.{hex_text};
+ghost use Rattle.kp_words.specs.Words.{hex_text};
 
 use itoa::Buffer;
 use std::alloc::AllocError;

@@ -1,11 +1,11 @@
 use Rattle.std.proofs.Common.{◌≡◌, map, refl, ap, ◌∙◌}
 use Rattle.std.proofs.lemmas.Result.{IfOk-weaker}
 use Rattle.kp_record.specs.Made.{plain_record, record_made}
-use Rattle.kp_script.specs.Call.{pieces}
+use Rattle.kp_words.specs.Words.{pieces}
 use Rattle.kp_script.specs.Seen.{seen_sender}
 use Rattle.kp_script.specs.Told.{offer_of}
 use Rattle.kp_script.specs.Transcript.{largest_batch}
-use Rattle.kp_script.proofs.Values.{some_piece}
+use Rattle.kp_words.proofs.Commas.{some_piece}
 use Rattle.kp_script.proofs.Sizes.{line_size}
 use Rattle.kp_script.proofs.Appending.{no_cause, lacks}
 use Rattle.kp_script.proofs.Offers.{large_offer, offers}

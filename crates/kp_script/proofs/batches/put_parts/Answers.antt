@@ -3,8 +3,8 @@ use Rattle.std.specs.Prelude.{map}
 use Rattle.std.proofs.lemmas.List.{map-append}
 use Rattle.kp_record.specs.Made.{plain_record, record_made}
 use Rattle.kp_record.specs.Record.{Record}
-use Rattle.kp_script.specs.Call.{pieces}
-use Rattle.kp_script.proofs.Values.{one_piece, first_piece}
+use Rattle.kp_words.specs.Words.{pieces}
+use Rattle.kp_words.proofs.Commas.{one_piece, first_piece}
 use Rattle.kp_script.proofs.batches.put_parts.Goals as goal
 
 pub loop-value-preserved : goal.loop-value-preserved

@@ -1,7 +1,7 @@
 use Rattle.std.proofs.Common.{◌≡◌, ◌++◌, length}
 use Rattle.std.specs.Prelude.{map}
 use Rattle.kp_record.specs.Made.{plain_record, record_made}
-use Rattle.kp_script.specs.Call.{pieces}
+use Rattle.kp_words.specs.Words.{pieces}
 use Rattle.kp_script.proofs.batches.put_parts.Given as goal
 
 -- the records so far, and those of what is left, are those of all

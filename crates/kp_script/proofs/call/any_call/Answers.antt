@@ -1,4 +1,4 @@
-use Rattle.kp_script.proofs.Options.{none_weaker}
+use Rattle.kp_words.proofs.Options.{none_weaker}
 use Rattle.kp_script.proofs.Verbs.{no_call}
 use Rattle.kp_script.proofs.call.any_call.Goals as goal
 

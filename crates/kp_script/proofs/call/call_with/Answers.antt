@@ -1,5 +1,5 @@
 use Rattle.std.proofs.Common.{arith}
-use Rattle.kp_script.proofs.Options.{none_weaker}
+use Rattle.kp_words.proofs.Options.{none_weaker}
 use Rattle.kp_script.proofs.call.call_with.Goals as goal
 
 pub returns-in_default-clause-none : goal.returns-in_default-clause-none

@@ -1,5 +1,5 @@
 use Rattle.std.proofs.Common.{◌≤◌, arith, codes}
-use Rattle.kp_script.proofs.Numbers.{same_field}
+use Rattle.kp_words.proofs.Numbers.{same_field}
 use Rattle.kp_script.proofs.call.header_of.Goals as goal
 
 pub returns-then-count-eq0-clause-none : goal.returns-then-count-eq0-clause-none

@@ -1,5 +1,5 @@
 use Rattle.std.proofs.Common.{◌∙◌}
-use Rattle.kp_script.proofs.Options.{none_weaker}
+use Rattle.kp_words.proofs.Options.{none_weaker}
 use Rattle.kp_script.proofs.Verbs.{found_with, names_node, no_fields_with}
 use Rattle.kp_script.proofs.call.named_call.Goals as goal
 

@@ -1,6 +1,6 @@
 use Rattle.std.proofs.Common.{◌≡◌, arith, codes, rules}
 use Rattle.std.proofs.lemmas.Slice.Eq.{text_from_reads}
-use Rattle.kp_script.proofs.Options.{none_weaker}
+use Rattle.kp_words.proofs.Options.{none_weaker}
 use Rattle.kp_script.proofs.call.numbers_call.Goals as goal
 
 pub returns-in-committed-clause-found : goal.returns-in-committed-clause-found

@@ -1,13 +1,15 @@
 use Rattle.std.proofs.Common.{◌≡◌, ℕ, List, [], sym, ap, subst, ◌∙◌, refl, arith, codes}
 use Rattle.std.proofs.lemmas.Bool.{false≢true}
 use Rattle.std.specs.List.{list_all}
-use Rattle.kp_script.specs.Call.{Append, is_value, values_text, pieces}
+use Rattle.kp_script.specs.Call.{Append, is_value, values_text}
+use Rattle.kp_words.specs.Words.{pieces}
 use Rattle.kp_script.specs.Read.{AreFields}
 use Rattle.kp_script.specs.Seen.{seen_sender}
-use Rattle.kp_script.proofs.Numbers.{same_field}
+use Rattle.kp_words.proofs.Numbers.{same_field}
 use Rattle.kp_script.proofs.Senders.{same_sender, same_kind}
 use Rattle.kp_script.proofs.Spelling.{same_rest, append_spelled}
-use Rattle.kp_script.proofs.Values.{values_back, some_piece}
+use Rattle.kp_script.proofs.Values.{values_back}
+use Rattle.kp_words.proofs.Commas.{some_piece}
 use Rattle.kp_script.proofs.Verbs.{no_fields}
 use Rattle.kp_script.proofs.fields.append_of.Goals as goal
 

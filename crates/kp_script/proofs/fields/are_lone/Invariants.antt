@@ -1,6 +1,7 @@
 use Rattle.std.proofs.Common.{◌≡◌, length}
 use Rattle.std.specs.List.{list_all}
-use Rattle.kp_script.specs.Call.{is_value, pieces}
+use Rattle.kp_script.specs.Call.{is_value}
+use Rattle.kp_words.specs.Words.{pieces}
 use Rattle.kp_script.specs.Read.{goes_on}
 use Rattle.kp_script.proofs.Values.{no_comma}
 use Rattle.kp_script.proofs.fields.are_lone.Given as goal

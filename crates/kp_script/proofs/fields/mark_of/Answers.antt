@@ -1,6 +1,6 @@
 use Rattle.std.proofs.Common.{[], ◌∙◌, arith, codes}
 use Rattle.kp_script.proofs.Markers.{handed_text}
-use Rattle.kp_script.proofs.Numbers.{same_field}
+use Rattle.kp_words.proofs.Numbers.{same_field}
 use Rattle.kp_script.proofs.Verbs.{no_fields}
 use Rattle.kp_script.proofs.fields.mark_of.Goals as goal
 

@@ -1,6 +1,6 @@
 use Rattle.std.proofs.Common.{[], arith}
 use Rattle.kp_marker.specs.Marker.{commits}
-use Rattle.kp_script.proofs.Numbers.{same_field}
+use Rattle.kp_words.proofs.Numbers.{same_field}
 use Rattle.kp_script.proofs.fields.marker_of.Goals as goal
 
 pub returns-in_default-number_then-clause-none : goal.returns-in_default-number_then-clause-none

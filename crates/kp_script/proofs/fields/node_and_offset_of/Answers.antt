@@ -1,5 +1,5 @@
 use Rattle.std.proofs.Common.{[], arith}
-use Rattle.kp_script.proofs.Numbers.{same_field}
+use Rattle.kp_words.proofs.Numbers.{same_field}
 use Rattle.kp_script.proofs.fields.node_and_offset_of.Goals as goal
 
 pub returns-in-None-clause-none : goal.returns-in-None-clause-none

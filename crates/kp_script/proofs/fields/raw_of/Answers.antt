@@ -3,7 +3,7 @@ use Rattle.std.specs.Fmt.{decimal}
 use Rattle.std.proofs.lemmas.Bool.{false≢true}
 use Rattle.kp_script.specs.Hex.{is_hex}
 use Rattle.kp_script.proofs.HexLaws.{digits_of, text_is_hex}
-use Rattle.kp_script.proofs.Numbers.{same_field}
+use Rattle.kp_words.proofs.Numbers.{same_field}
 use Rattle.kp_script.proofs.Verbs.{no_fields}
 use Rattle.kp_script.proofs.fields.raw_of.Goals as goal
 use Rattle.kp_script.proofs.fields.raw_of.Goals.{in_default-via-in-Some+else-is_hex, in_default-via-in_default}

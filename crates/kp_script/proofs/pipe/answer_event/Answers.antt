@@ -4,15 +4,18 @@ use Rattle.std.specs.Io.KnownBytes.{Appends}
 use Rattle.kp_types.specs.Devices.{AppendsFront, IsDeviceFault, device_of}
 use Rattle.kp_script.specs.Call.{Call, IsCall}
 use Rattle.kp_script.specs.Piped.{fault_line}
-use Rattle.kp_script.specs.Playing.{PlaysOne}
+use Rattle.kp_script.specs.Playing.{PlaysOne, Reaches}
 use Rattle.kp_script.specs.Seen.{seen_call}
 use Rattle.kp_script.proofs.Answering.{event_begun, event_cut, event_played, stands_wrong, wrong_answered}
-use Rattle.kp_script.proofs.Played.{one_out, out_written}
+use Rattle.kp_script.proofs.Played.{one_out, out_written, reaches_all}
 use Rattle.kp_script.proofs.Refusing.{memory_alone}
 use Rattle.kp_script.proofs.pipe.answer_event.Goals as goal
 
 pub play_line-requires : goal.play_line-requires
-play_line-requires g c = subst (λ (count : ℕ). IsCall count (seen_call c.in-Some.call)) (sym c.requires.nodes) c.in-Some.ensures.found.0
+play_line-requires g c = (
+  subst (λ (count : ℕ). IsCall count (seen_call c.in-Some.call)) (sym c.requires.nodes.0) c.in-Some.ensures.found.0,
+  subst (λ (first : ℕ). Reaches first (seen_call c.in-Some.call)) (sym c.requires.nodes.1) (reaches_all (seen_call c.in-Some.call)),
+)
 
 pub returns-in_err-refused-in-Some : goal.returns-in_err-refused-in-Some
 returns-in_err-refused-in-Some g c =
@@ -23,7 +26,7 @@ returns-in_err-refused-in-Some g c =
       begun = λ e. absurd (memory_alone r c.in_err-refused-in-Some.ensures.only (cc));
       untouched = λ e. refl;
       stands = λ e. event_cut c.args.number c.args.line.now (seen_call c.in-Some.call) c.args.running.now c.play_line.new.world c.requires.counts c.in-Some.ensures.found c.in_err-refused-in-Some.ensures.cut;
-      nodes = c.play_line.ensures.nodes ∙ c.requires.nodes;
+      nodes = (c.play_line.ensures.nodes ∙ c.requires.nodes.0, c.play_line.ensures.first ∙ c.requires.nodes.1);
       few = tt;
       only = subst IsDeviceFault (sym c.in_err-refused-in-Some.ensures.only) tt;
       counted = rw c.in_err-refused-in-Some.ensures.only refl;

@@ -2,7 +2,7 @@ use Rattle.std.proofs.Common.{◌≡◌, ◌∙◌, ◌++◌, [], ◌∷◌, ◌
 use Rattle.std.proofs.KnownBytes.{Consumes-nil, Consumes-kept}
 use Rattle.std.specs.Io.KnownBytes.{Consumes}
 use Rattle.std.specs.Io.BufRead.{FillKeeps}
-use Rattle.kp_script.specs.Read.{Lacks}
+use Rattle.kp_words.specs.Words.{Lacks}
 use Rattle.kp_script.specs.Reads.{Gives, kept_of}
 use Rattle.kp_script.specs.declared.reader.Piece.{Piece}
 use Rattle.kp_script.proofs.Pieces.{at_end, given, no_bytes, up_to}

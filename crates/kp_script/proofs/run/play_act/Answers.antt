@@ -19,7 +19,7 @@ returns-in-Ok c =
     let step =
     IfOk-at_ok (λ outcome. (ls : Limits) (a : model.Act) → IsAct ls.max_batch (Plain act) a → LeadOn ls old (model.Acts node a ∷ []) (outcome ∷ []) new) c.in-Ok.is c.act-acted.ensures.step in
     line_told (c.args.line, Acts node act) old new outcome _ _ _
-    (led_one (c.args.line, Acts node act) (model.Acts node (plain_act act)) outcome old new refl (λ limits batch. step limits (plain_act act) refl)) c.act-acted.ensures.count c.tell.ensures
+    (led_one (c.args.line, Acts node act) (model.Acts node (plain_act act)) outcome old new refl (λ limits batch. step limits (plain_act act) refl)) c.act-acted.ensures.count c.act-acted.ensures.first c.tell.ensures
 
 pub returns : goal.returns
 returns c =

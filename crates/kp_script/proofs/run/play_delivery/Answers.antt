@@ -15,7 +15,7 @@ returns-in-Ok c =
     let outcome = c.in-Ok.outcome in
     let step = IfOk-at_ok (λ outcome. (ls : Limits) → LeadOn ls old (model.Deliver message ∷ []) (outcome ∷ []) new) c.in-Ok.is c.deliver-delivered.ensures.step in
     line_told (c.args.line, Deliver message) old new outcome _ _ _
-    (led_one (c.args.line, Deliver message) (model.Deliver message) outcome old new refl (λ limits batch. step limits)) c.deliver-delivered.ensures.count c.tell.ensures
+    (led_one (c.args.line, Deliver message) (model.Deliver message) outcome old new refl (λ limits batch. step limits)) c.deliver-delivered.ensures.count c.deliver-delivered.ensures.first c.tell.ensures
 
 pub returns : goal.returns
 returns c =

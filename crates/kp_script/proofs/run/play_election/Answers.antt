@@ -10,4 +10,4 @@ returns c =
     let old = c.args.world.now in
     let new = c.elect-elected.new.self in
     let lead = led_one call (model.Elect c.args.node) c.elect-elected.result old new refl (λ limits batch. c.elect-elected.ensures.step limits) in
-    line_told call old new c.elect-elected.result _ _ _ lead c.elect-elected.ensures.count c.tell.ensures
+    line_told call old new c.elect-elected.result _ _ _ lead c.elect-elected.ensures.count c.elect-elected.ensures.first c.tell.ensures

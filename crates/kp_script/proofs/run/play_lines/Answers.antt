@@ -4,7 +4,7 @@ use Rattle.std.proofs.lemmas.Result.{err_from_is_err_and}
 use Rattle.std.specs.Io.KnownBytes.{Appends}
 use Rattle.kp_types.specs.Devices.{AppendsFront, IsDeviceFault, device_of}
 use Rattle.kp_script.specs.Call.{Call, Elect, IsCall}
-use Rattle.kp_script.specs.Playing.{PlayedOut}
+use Rattle.kp_script.specs.Playing.{MayPlay, PlayedOut, Reaches}
 use Rattle.kp_script.proofs.Played.{out_begun, out_more, out_none, out_written}
 use Rattle.kp_script.proofs.Refusing.{memory_alone}
 use Rattle.kp_script.proofs.Telling.{each_at}
@@ -15,6 +15,7 @@ loop-played-init g c = record {
   within = omega arith;
   out = subst (PlayedOut [] c.args.world.now c.args.world.now 0) (sym c.clear.ensures.items) (out_none c.args.world.now);
   nodes = refl;
+  first = refl;
   few = omega arith;
 }
 
@@ -22,10 +23,13 @@ pub play_at-requires-clause-call : goal.play_at-requires-clause-call
 play_at-requires-clause-call g c = λ other.
     let calls = drop c.args.from c.args.section.now in
     let inside : c.loop-played.played < length calls = omega (arith, c.loop-played-test.true, length-drop c.args.from c.args.section.now) in
-    let count = length c.args.world.now.nodes in
-    subst (λ (n : ℕ). IsCall n (get_or c.args.section.now (c.args.from + c.loop-played.played) other).1) (sym c.loop-played.invariant.nodes)
-    (subst (λ (call : ℕ × Call). IsCall count call.1) (get_or-drop c.args.from c.args.section.now c.loop-played.played other)
-    (each_at count calls c.loop-played.played other c.requires.calls inside))
+    let old = c.args.world.now in
+    let may : MayPlay old (get_or c.args.section.now (c.args.from + c.loop-played.played) other).1 =
+    subst (λ (call : ℕ × Call). MayPlay old call.1) (get_or-drop c.args.from c.args.section.now c.loop-played.played other)
+    (each_at (λ call. MayPlay old call.1) calls c.loop-played.played other c.requires.calls inside) in (
+      subst (λ (n : ℕ). IsCall n (get_or c.args.section.now (c.args.from + c.loop-played.played) other).1) (sym c.loop-played.invariant.nodes) may.0,
+      subst (λ (n : ℕ). Reaches n (get_or c.args.section.now (c.args.from + c.loop-played.played) other).1) (sym c.loop-played.invariant.first) may.1,
+    )
 
 pub overflow_add-refused : goal.overflow_add-refused
 overflow_add-refused g c = omega (arith, c.loop-played.invariant.few, (c.in_ok-refused.ensures (0, Elect 0)).few)
@@ -47,6 +51,7 @@ loop-played-preserved g c =
           (out_more (take k calls) call c.args.world.now c.loop-played.world c.play_at.new.world c.loop-played.refused c.in_ok-refused.field-0 c.loop-played.work.text.items
           c.play_at.new.work.text.items c.loop-played.invariant.out one.played);
       nodes = one.nodes ∙ c.loop-played.invariant.nodes;
+      first = one.first ∙ c.loop-played.invariant.first;
       few = omega (arith, c.loop-played.invariant.few, one.few);
     }
 
@@ -63,6 +68,7 @@ returns-in_err-refused g c =
       begun = λ e. absurd (memory_alone c.in_err-refused.field-0.0 one.only cc);
       untouched = λ e. refl;
       nodes = one.nodes ∙ c.loop-played.invariant.nodes;
+      first = one.first ∙ c.loop-played.invariant.first;
       only = subst IsDeviceFault (sym one.only) tt;
       counted = rw one.only refl;
     })
@@ -86,6 +92,7 @@ returns-in_err-write_all g c =
       );
       untouched = λ e. absurd (memory_alone c.in_err-write_all.field-0.0 (cc) c.in_err-write_all.ensures.only);
       nodes = c.loop-played.invariant.nodes;
+      first = c.loop-played.invariant.first;
       only = subst IsDeviceFault (sym c.in_err-write_all.ensures.only) tt;
       counted = c.in_err-write_all.ensures.counted;
     })

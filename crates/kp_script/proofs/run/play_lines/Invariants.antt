@@ -7,6 +7,7 @@ invariant-loop-played g l = record {
   within : l.played ≤ l.left;
   out : PlayedOut (take l.played (drop l.from l.section)) l.fn.world l.world l.refused l.work.text.items;
   nodes : length l.world.nodes ≡ length l.fn.world.nodes;
+  first : l.world.first ≡ l.fn.world.first;
   few : l.refused ≤ l.played;
 }
 

@@ -13,4 +13,4 @@ pub returns : goal.returns
 returns c =
     let lone = c.args.lone.now in
     line_handed lone.number (append_call true lone).1 c.in_ok-bytes.bytes c.produce-receipt.result _ _ _ _ _ (c.in_ok-bytes.ensures.told lone.node) c.produce-receipt.ensures.step c.produce-receipt.ensures.count
-    c.tell_receipt.ensures
+    c.produce-receipt.ensures.first c.tell_receipt.ensures

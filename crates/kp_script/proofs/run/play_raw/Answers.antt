@@ -13,4 +13,4 @@ returns-in_err-bytes c =
 pub returns : goal.returns
 returns c =
     line_handed c.args.line (Raw c.args.node (bytes_of c.args.digits.now)) c.in_ok-bytes.bytes c.produce-receipt.result _ _ _ _ _ (c.in_ok-bytes.ensures.told c.args.node) c.produce-receipt.ensures.step c.produce-receipt.ensures.count
-    c.tell_receipt.ensures
+    c.produce-receipt.ensures.first c.tell_receipt.ensures

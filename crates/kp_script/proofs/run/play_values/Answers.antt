@@ -9,7 +9,7 @@ use Rattle.kp_script.proofs.run.play_values.Goals as goal
 pub batch_of-requires-clause-short : goal.batch_of-requires-clause-short
 batch_of-requires-clause-short c =
     let line = c.args.line.now in
-    values_short line.node line.time (seen_sender line.sender) line.transactional c.args.lone line.values.now c.requires.short
+    values_short line.node line.time (seen_sender line.sender) line.transactional c.args.lone line.values.now c.requires.0.short
 
 pub returns-in_err-bytes : goal.returns-in_err-bytes
 returns-in_err-bytes c =
@@ -20,4 +20,4 @@ pub returns : goal.returns
 returns c =
     let line = c.args.line.now in
     line_handed line.number (append_call c.args.lone line).1 c.in_ok-bytes.bytes c.produce-receipt.result _ _ _ _ _ (c.in_ok-bytes.ensures.told line.node) c.produce-receipt.ensures.step c.produce-receipt.ensures.count
-    c.tell_receipt.ensures
+    c.produce-receipt.ensures.first c.tell_receipt.ensures

@@ -5,7 +5,8 @@ use Rattle.kp_types.specs.Devices.{CountsFault, IsDeviceFault}
 use Rattle.kp_types.specs.declared.refusal.Refusal.{Refusal}
 use Rattle.kp_script.specs.Reads.{Gives, ReadsInto, read_faults, reader_of}
 use Rattle.kp_script.specs.declared.reader.Piece.{Piece}
-use Rattle.kp_script.proofs.Pieces.{ended_before, kept_fits, kept_more, lacks_append, none_kept, reads_into, reads_last, reads_line, reads_none, some_kept, took_last}
+use Rattle.kp_words.proofs.Splitting.{lacks_append}
+use Rattle.kp_script.proofs.Pieces.{ended_before, kept_fits, kept_more, none_kept, reads_into, reads_last, reads_line, reads_none, some_kept, took_last}
 use Rattle.kp_script.proofs.reader.LineReader.next_line.Goals as goal
 
 pub loop-init : goal.loop-init

@@ -1,6 +1,6 @@
 use Rattle.std.proofs.Common.{◌≡◌, ℕ, List}
 use Rattle.std.specs.Io.KnownBytes.{Consumes}
-use Rattle.kp_script.specs.Read.{Lacks}
+use Rattle.kp_words.specs.Words.{Lacks}
 use Rattle.kp_script.specs.Reads.{kept_of}
 use Rattle.kp_script.proofs.reader.LineReader.next_line.Given as goal
 

@@ -1,0 +1,4 @@
+pub mod Options
+pub mod Splitting
+pub mod Numbers
+pub mod Commas
