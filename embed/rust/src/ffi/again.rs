@@ -74,7 +74,7 @@ impl Cluster {
 
 /// The board of a cluster with the nodes that a store has read back.
 pub(crate) fn open_what_a_store_left(left: Left, leadership: &Leadership, promise: Promise) -> Result<RawCluster, Error> {
-    // SAFETY: a store's folder has, at each moment, what some process has left (rules R1 to R8 of `docs/DURABLE.md`). It was locked until that
+    // SAFETY: a store's folder has, at each moment, what some process has left (the rules of `docs/DURABLE.md`). It was locked until that
     // process ended, each file has its checksum, and what is promised is a checkpoint, or a high watermark that a node had.
     unsafe { left.raw.open_again(&leadership.into(), &promise.into()) }
 }

@@ -41,18 +41,18 @@ impl Keeper {
         &mut self.files
     }
 
-    /// R1. What a node tells others, or counts itself for, rests on its log, which is on the disk then up to its end. One that is down tells
+    /// The rule of sends. What a node tells others, or counts itself for, rests on its log, which is on the disk then up to its end. One that is down tells
     /// nothing. F33 and [`Error::NoRoom`] where the library has no memory to hand the batches out.
     pub(crate) fn before_sending(&mut self, raw: &mut RawNode, state: &NodeState) -> Result<(), Error> {
         if state.status == Status::Down { Ok(()) } else { self.sync(raw, state) }
     }
 
-    /// R3. What it has become is on the disk, as its log was before, until which it does nothing else.
+    /// The rule of states. What it has become is on the disk, as its log was before, until which it does nothing else.
     pub(crate) fn after_change(&mut self, _raw: &mut RawNode, state: &NodeState) -> Result<(), Error> {
         Ok(self.write_state(state)?)
     }
 
-    /// R4. Its state is on the disk as a checkpoint will make it.
+    /// The rule of checkpoints. Its state is on the disk as a checkpoint will make it.
     pub(crate) fn before_checkpoint(&mut self, raw: &mut RawNode, state: &NodeState) -> Result<(), Error> {
         if state.status == Status::Down || state.checkpoint == state.watermark {
             return Ok(());
@@ -61,7 +61,7 @@ impl Keeper {
         Ok(self.write_state(&NodeState { checkpoint: state.watermark, ..*state })?)
     }
 
-    /// R3. Of a node that is up.
+    /// The rule of states. Of a node that is up.
     pub(crate) fn before_stop(&mut self, raw: &mut RawNode, state: &NodeState) -> Result<(), Error> {
         if state.status == Status::Down {
             return Ok(());
@@ -70,7 +70,7 @@ impl Keeper {
         Ok(self.write_state(state)?)
     }
 
-    /// R3. Of a node that is down: its log is on the disk, also where it went down as that failed.
+    /// The rule of states. Of a node that is down: its log is on the disk, also where it went down as that failed.
     pub(crate) fn before_start(&mut self, raw: &mut RawNode, state: &NodeState) -> Result<(), Error> {
         if state.status != Status::Down {
             return Ok(());
@@ -79,7 +79,7 @@ impl Keeper {
         self.sync(raw, state)
     }
 
-    /// R7. Its log's files are cut where the message that it took has cut its log.
+    /// The rule of cuts. Its log's files are cut where the message that it took has cut its log.
     pub(crate) fn after_step(&mut self, _raw: &mut RawNode, state: &NodeState) -> Result<(), Error> {
         Ok(self.follow_cut(state)?)
     }

@@ -7,15 +7,16 @@
 //!
 //! Some orders nothing can tell, so none is here; stores with the first three passed 500 runs, too:
 //!
-//! - R1 at `step` and `alter` alone. Who has the leader's batches from it, or its proposal, counts for itself, and what the leader counts for is
-//!   synced before it raises. That these calls wait, too, `what_a_call_rests_on_is_on_the_disk` sees.
-//! - R3, a log that isn't synced before its state is replaced, where the state says no more than what is on the disk: what is lost nobody has
-//!   heard of. What is found is a state that says more.
-//! - R4, a state that is replaced behind the checkpoint, but before the call returns: nobody sees the node between, as its lock is held.
-//! - R5, several elections at one time, as runs by chance have one thread; `killed.rs` has many.
-//! - R6, but by the number of the life itself: no message of an earlier process is left that a life would tell.
-//! - R7, in which order segments go. Behind the word of a cut all from there on is taken away, whatever is left of it
-//!   (`r7_which_segment_goes_first_is_of_no_account`).
+//! - sends: the log isn't synced at `step` and `alter` alone. Who has the leader's batches from it, or its proposal, counts for itself, and
+//!   what the leader counts for is synced before it raises. That these calls wait, too, `what_a_call_rests_on_is_on_the_disk` sees.
+//! - states: a log that isn't synced before its state is replaced, where the state says no more than what is on the disk: what is lost
+//!   nobody has heard of. What is found is a state that says more.
+//! - checkpoints: a state that is replaced behind the checkpoint, but before the call returns: nobody sees the node between, as its lock is
+//!   held.
+//! - the record: several elections at one time, as runs by chance have one thread; `killed.rs` has many.
+//! - lives, but by the number of the life itself: no message of an earlier process is left that a life would tell.
+//! - cuts: in which order segments go. Behind the word of a cut all from there on is taken away, whatever is left of it
+//!   (`cuts_may_begin_with_any_segment`).
 
 use super::crashes::{self, Wrong, crashes};
 use super::fault::StoreFile;
@@ -209,72 +210,72 @@ fn unsynced_name(deeds: &[Deed], at: usize) -> Option<usize> {
 // ---- what is found
 
 #[test]
-fn r1_a_node_that_sends_before_its_log_is_synced() {
+fn sends_before_the_log_is_synced() {
     finds(CLUSTER, unsynced_before_sending, "lost: ");
     finds(FILES, unsynced_before_sending, "lost: ");
 }
 
 #[test]
-fn r3_a_state_before_its_log_is_synced() {
+fn states_before_the_log_is_synced() {
     finds(CLUSTER, unsynced_before_a_state, "damaged: ");
 }
 
 #[test]
-fn r3_a_state_behind_the_nodes_next_call() {
+fn states_behind_the_nodes_next_call() {
     finds(CLUSTER, late_adoption, "older: ");
 }
 
 #[test]
-fn r4_a_checkpoint_that_is_not_kept() {
+fn checkpoints_that_are_not_kept() {
     finds(CLUSTER, no_checkpoint, "older: ");
     finds(FILES, no_checkpoint, "older: ");
 }
 
 #[test]
-fn r5_an_exchange_before_its_record() {
+fn records_behind_their_exchange() {
     finds(CLUSTER, late_record, "record: ");
 }
 
 #[test]
-fn r6_a_life_that_is_not_kept() {
+fn lives_that_are_not_kept() {
     finds(CLUSTER, no_life, "life: ");
 }
 
 #[test]
-fn r7_a_cut_without_its_word() {
+fn cuts_without_their_word() {
     finds(CLUSTER, no_word_of_a_cut, "damaged: ");
     finds(FILES, no_word_of_a_cut, "no moment: ");
 }
 
 #[test]
-fn r7_a_cut_that_is_not_synced() {
+fn cuts_that_are_not_synced() {
     finds(FILES, unsynced_as_it_is_cut, "no moment: ");
 }
 
 #[test]
-fn r7_a_cut_whose_folder_is_not_synced() {
+fn cuts_whose_folder_is_not_synced() {
     finds(FILES, folder_unsynced_as_it_is_cut, "damaged: ");
 }
 
 #[test]
-fn r7_a_word_of_a_cut_that_stays() {
+fn cuts_whose_word_stays() {
     finds(FILES, late_end_of_a_cut, "lost: ");
 }
 
 #[test]
-fn r7_which_segment_goes_first_is_of_no_account() {
+fn cuts_may_begin_with_any_segment() {
     let Runs(run, seeds) = FILES;
     (0..seeds).for_each(|seed| run(seed, oldest_first).unwrap_or_else(|it| panic!("seed {seed}: {}", it.0)));
 }
 
 #[test]
-fn r8_a_segment_that_is_not_synced_as_the_log_rolls() {
+fn segments_that_are_not_synced_as_the_log_rolls() {
     finds(CLUSTER, unsynced_before_it_rolls, "damaged: ");
     finds(FILES, unsynced_before_it_rolls, "damaged: ");
 }
 
 #[test]
-fn r8_a_segment_whose_folder_is_not_synced() {
+fn segments_whose_folder_is_not_synced() {
     finds(CLUSTER, folder_unsynced_as_it_rolls, "lost: ");
 }
 
