@@ -1,6 +1,6 @@
 //! A node with its pass.
 
-ghost use Rattle.std.specs.Prelude.{◌≡◌, ◌+◌, ◌*◌};
+ghost use Rattle.std.specs.Prelude.{◌≡◌, ◌+◌, ◌*◌, ◌<◌, ◌≤◌};
 ghost use Rattle.kp_model.specs.Log.{IsBoundary};
 ghost use Rattle.kp_model.specs.World.{fresh};
 ghost use Rattle.kp_node.specs.Seated.{SeatedNode};
@@ -88,19 +88,20 @@ impl<B: BoardName> Node<B> {
         }
     }
 
-    // What it is, and its pass. Its share of the board is let go.
-    pub(crate) fn into_parts(self) -> (Broker, NodePass<B>)
-        ensures node { node_at result.0 ≡ self.node }
-        ensures pass { result.1 ≡ self.pass }
-        ensures tied { (self.pass.state ≡ self.node.state) × (self.pass.number ≡ self.node.number) }
+    // Its share of the board, what it is, and its pass.
+    pub(crate) fn into_parts(self) -> (Arc<Board<B>, Global>, Broker, NodePass<B>)
+        ensures node { node_at result.1 ≡ self.node }
+        ensures pass { result.2 ≡ self.pass }
+        ensures tied { (self.pass.state ≡ self.node.state) × (self.pass.number ≡ self.node.number)
+            × (self.node.state.watermark ≤ self.pass.published) × (2 * self.pass.number + 2 < B.table.words) }
     {
         let Node {
             alloc: _,
-            board: _,
+            board,
             broker,
             pass,
         } = self;
-        (broker, pass)
+        (board, broker, pass)
     }
 
     /// The node's log, settled up to its high watermark, which is a boundary of it; of one that is down, what it keeps. Its pass shows

@@ -6,10 +6,6 @@ use Rattle.kp_words.specs.Words.{Lacks, pieces}
 use Rattle.kp_words.proofs.Commas.{first_piece, joined_pieces, pieces_back, some_piece}
 use Rattle.kp_texts.specs.Texts.{listed}
 
-pub all_push : {A : Type 0} (R : A → Type 0) (xs : List A) (x : A) → AllByRecursion R xs → R x → AllByRecursion R (xs ++ x ∷ [])
-all_push R [] x all one = (one, tt)
-all_push R (y ∷ ys) x all one = (all.0, all_push R ys x all.1 one)
-
 -- a piece that was read is a value's text
 pub piece_of : {A : Type 0} (f : A → List ℕ) (R : A → Type 0) (done : List (List ℕ)) (piece : List ℕ) (more : List (List ℕ)) (xs : List A) → done ++ piece ∷ more ≡ map f xs → AllByRecursion R xs →
     (x : A) × R x × (piece ≡ f x)

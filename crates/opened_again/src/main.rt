@@ -165,7 +165,10 @@ fn leave_all<B: BoardName>(
 ) -> Result<Vec<LeftNode<B>>, Refusal> {
     let mut left = Vec::with_capacity(alloc, nodes.len())?;
     for node in nodes {
-        left.push(node.leave())?;
+        match node.leave() {
+            Ok(node) => left.push(node)?,
+            Err((_node, refusal)) => return Err(refusal),
+        }
     }
     Ok(left)
 }
@@ -181,7 +184,9 @@ fn again<B: BoardName>(
     if !are_all(&board, &left) {
         return Err(Refusal::NotInSync);
     }
-    let closed = close(alloc, board, &mut pass, left)?;
+    let Ok(closed) = close(alloc, board, &mut pass, left) else {
+        return Err(Refusal::Memory);
+    };
     let opened = open_again::<Brand, Pass<B>>(alloc, &closed.controller, &closed.nodes, &pass)?;
     second::<Brand>(rt, alloc, opened, closed.nodes)
 }

@@ -16,30 +16,34 @@ use Rattle.kp_model.proofs.Marks.Raised.{node_moved}
 use Rattle.kp_model.specs.Left.{IsOpening, Opening, node_in, LeftNode, LeftBehind, nothing_left, left_node, IsLeft, WasLeft, again, opening_again, LeftOnesGoOn}
 use Rattle.kp_model.proofs.InRuns.Longer.{acted, moved_other}
 
-abbrev up_again : Node → Node
+abbrev pub up_again : Node → Node
 up_again y = record y { watermark = y.checkpoint; life = y.life + 1; mode = Idle }
 
-abbrev down_again : Node → Node
+abbrev pub down_again : Node → Node
 down_again y = record y { watermark = y.checkpoint; life = y.life + 1; mode = Down }
 
-abbrev in_life : Node → ℕ → Node
+abbrev pub in_life : Node → ℕ → Node
 in_life y life = record y { watermark = y.checkpoint; life = life; mode = Down }
 
-restarting : Node → Effect
+pub restarting : Node → Effect
 restarting y = becomes (up_again y) (Restarted (y.life + 1) (end_of y.log) y.checkpoint)
 
-restart_free : (c : LeaderAndIsr) (n : ℕ) (y : Node) (mode : Mode) (full : Bool) → y.mode ≡ mode → mode ≡ Down → leb (2 ^ 64 - 1) y.life ≡ full → full ≡ false → cause c n y Restart ≡ None
+pub restart_free : (c : LeaderAndIsr) (n : ℕ) (y : Node) (mode : Mode) (full : Bool) → y.mode ≡ mode → mode ≡ Down → leb (2 ^ 64 - 1) y.life ≡ full → full ≡ false → cause c n y Restart ≡ None
 restart_free c n y mode full is down so not_so =
     let here : y.mode ≡ Down = is ∙ down in
     let low : leb (2 ^ 64 - 1) y.life ≡ false = so ∙ not_so in
     rw here (rw low refl)
 
-restarts : (c : LeaderAndIsr) (n : ℕ) (y : Node) → y.mode ≡ Down → y.life + 1 < 2 ^ 64 → Local c n y Restart (restarting y)
+pub restarts : (c : LeaderAndIsr) (n : ℕ) (y : Node) → y.mode ≡ Down → y.life + 1 < 2 ^ 64 → Local c n y Restart (restarting y)
 unfolding restarting
 restarts c n y down low = happened c n y Restart (restarting y) (restart_free c n y Down false down refl (lt-leb (2 ^ 64 - 1) y.life (omega arith)) refl) refl
 
-stops : (c : LeaderAndIsr) (n : ℕ) (y : Node) → Local c n (up_again y) Stop (becomes (down_again y) Stopped)
+pub stops : (c : LeaderAndIsr) (n : ℕ) (y : Node) → Local c n (up_again y) Stop (becomes (down_again y) Stopped)
 stops c n y = happened c n (up_again y) Stop (becomes (down_again y) Stopped) refl refl
+
+-- a node that was left, in the life behind it, is that node again
+pub again_is : (a : LeftNode) (y : Node) → IsLeft a y → (life : ℕ) → life ≡ a.life + 1 → in_life y life ≡ again a
+again_is a y f life is i = record { log = f.log i; watermark = f.checkpoint i; checkpoint = f.checkpoint i; life = is i; kept = f.kept i; mode = Down }
 
 -- ---- one node
 
@@ -117,9 +121,6 @@ module _ (x : LeftBehind) (r : Run (length x.nodes)) (was : WasLeft x r) (low : 
     pub controller : (last q).controller ≡ x.controller
     pub done : (k : ℕ) → k < m → k < length x.nodes → (last q).nodes k ≡ again (left_node x k)
     pub left : (k : ℕ) → m ≤ k → k < length x.nodes → IsLeft (left_node x k) ((last q).nodes k)
-
-  again_is : (a : LeftNode) (y : Node) → IsLeft a y → (life : ℕ) → life ≡ a.life + 1 → in_life y life ≡ again a
-  again_is a y f life is i = record { log = f.log i; watermark = f.checkpoint i; checkpoint = f.checkpoint i; life = is i; kept = f.kept i; mode = Down }
 
   go : (m : ℕ) → m ≤ length x.nodes → (q : Run (length x.nodes)) × SomeOn q m
   go zero h = (r, record { among = λ w a. a; controller = was.record_is; done = λ k l i. absurd (omega arith); left = λ k a l. was.nodes k l })

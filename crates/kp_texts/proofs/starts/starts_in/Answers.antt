@@ -2,7 +2,8 @@ use Rattle.std.proofs.Common.{◌++◌, [], List, ℕ, ap, sym, ◌∙◌, map, 
 use Rattle.kp_words.specs.Words.{pieces}
 use Rattle.kp_words.proofs.Commas.{one_piece}
 use Rattle.kp_texts.specs.Texts.{start_text, IsStart}
-use Rattle.kp_texts.proofs.Pieces.{all_push, next_piece, piece_of, told_more}
+use Rattle.kp_types.proofs.Elements.{all_push}
+use Rattle.kp_texts.proofs.Pieces.{next_piece, piece_of, told_more}
 use Rattle.kp_texts.proofs.starts.starts_in.Goals as goal
 
 pub returns-in_default-start_of-clause-none : goal.returns-in_default-start_of-clause-none

@@ -1,0 +1,8 @@
+use Rattle.std.proofs.Common.{◌≡◌, arith}
+use Rattle.kp_node.proofs.NextLives.{numbered_on}
+use Rattle.kp_node.proofs.closing.are_all.Goals as goal
+
+pub loop-index-preserved : goal.loop-index-preserved
+loop-index-preserved g c =
+    numbered_on c.args.nodes.now c.loop-index.index c.index-nodes-index.result c.loop-index-test.true c.index-nodes-index.is
+    (omega (arith, c.number.ensures, c.from.ensures, c.if-from-index.false)) c.loop-index.invariant
