@@ -18,6 +18,8 @@ mod device_tests;
 #[cfg(test)]
 mod epoch_tests;
 #[cfg(test)]
+mod folder_tests;
+#[cfg(test)]
 mod index_tests;
 #[cfg(test)]
 mod log_tests;

@@ -19,6 +19,7 @@ use Rattle.kp_model.specs.Run.{Run, last}
 use Rattle.kp_model.specs.Step.{moved}
 use Rattle.kp_model.proofs.InRuns.Longer.{acted, moved_other}
 use Rattle.kp_model.proofs.InRuns.RunLaws.{count_stays, last_is_of}
+use Rattle.kp_model.proofs.Leaving.Going.{again_is, down_again, in_life, restart_free, stops, up_again}
 use Rattle.kp_model.proofs.Marks.Raised.{node_moved}
 use Rattle.kp_model.proofs.OneStep.Steps.{happened}
 use Rattle.kp_replica.specs.NumberedNode.{NumberedNode}
@@ -29,30 +30,11 @@ use Rattle.kp_world.specs.declared.event.EventAnswer.TheVariants.{Answered}
 use Rattle.kp_world.proofs.Moved.{shown_count}
 use Rattle.kp_world.proofs.Playing.{Gone, gone_more}
 
-abbrev up_again : Node → Node
-up_again y = record y { watermark = y.checkpoint; life = y.life + 1; mode = Idle }
-
-abbrev down_again : Node → Node
-down_again y = record y { watermark = y.checkpoint; life = y.life + 1; mode = Down }
-
-abbrev in_life : Node → ℕ → Node
-in_life y life = record y { watermark = y.checkpoint; life = life; mode = Down }
-
-restarting : Node → Effect
+abbrev restarting : Node → Effect
 restarting y = becomes (up_again y) (Restarted (y.life + 1) (end_of y.log) y.checkpoint)
 
-restart_free : (c : LeaderAndIsr) (n : ℕ) (y : Node) (mode : Mode) (full : Bool) → y.mode ≡ mode → mode ≡ Down → leb (2 ^ 64 - 1) y.life ≡ full → full ≡ false → cause c n y Restart ≡ None
-restart_free c n y mode full is down so not_so =
-    let here : y.mode ≡ Down = is ∙ down in
-    let low : leb (2 ^ 64 - 1) y.life ≡ false = so ∙ not_so in
-    rw here (rw low refl)
-
 restarts : (c : LeaderAndIsr) (n : ℕ) (y : Node) → y.mode ≡ Down → y.life + 1 < 2 ^ 64 → Local c n y Restart (restarting y)
-unfolding restarting
 restarts c n y down low = happened c n y Restart (restarting y) (restart_free c n y Down false down refl (lt-leb (2 ^ 64 - 1) y.life (omega arith)) refl) refl
-
-stops : (c : LeaderAndIsr) (n : ℕ) (y : Node) → Local c n (up_again y) Stop (becomes (down_again y) Stopped)
-stops c n y = happened c n (up_again y) Stop (becomes (down_again y) Stopped) refl refl
 
 abbrev restart_answer : Node → Result EventAnswer Refusal
 restart_answer y = Ok (Answered (answers.Restarted (y.life + 1) (end_of y.log) y.checkpoint))
@@ -86,7 +68,6 @@ module _ {n : ℕ} where
 
   goes_on : (es : List Event) (os : List (Result EventAnswer Refusal)) (r : Run n) (k : ℕ) → Gone n es os r → k < n → ((last r).nodes k).mode ≡ Down → ((last r).nodes k).life + 1 < 2 ^ 64
       → (q : Run n) × GoneOn es os r q k (((last r).nodes k).life + 1)
-  unfolding restarting
   goes_on es os r k g inside down low =
       let y : Node = (last r).nodes k in
       let e : Effect = restarting y in
@@ -154,9 +135,6 @@ module _ {n : ℕ} where
       )
 
 -- ---- all nodes
-
-again_is : (a : LeftNode) (y : Node) → IsLeft a y → (life : ℕ) → life ≡ a.life + 1 → in_life y life ≡ again a
-again_is a y f life is i = record { log = f.log i; watermark = f.checkpoint i; checkpoint = f.checkpoint i; life = is i; kept = f.kept i; mode = Down }
 
 module _ {n : ℕ} (es : List Event) (os : List (Result EventAnswer Refusal)) (x : LeftBehind) (r : Run n) (g : Gone n es os r) (counted : length x.nodes ≡ n)
     (were : (k : ℕ) → k < length x.nodes → IsLeft (left_node x k) ((last r).nodes k)) (low : (k : ℕ) → k < length x.nodes → (left_node x k).life + 1 < 2 ^ 64) where

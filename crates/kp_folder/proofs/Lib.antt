@@ -1,0 +1,4 @@
+pub mod Known
+pub mod Chains
+pub mod NodeRows
+pub mod NodeFacts
