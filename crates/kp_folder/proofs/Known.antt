@@ -4,7 +4,6 @@ use Rattle.std.specs.Prelude.{IfErr, IfSome, IsErrAnd}
 use Rattle.std.specs.Global.{Vec}
 use Rattle.std.proofs.lemmas.Result.{err_from_is_err_and}
 use Rattle.kp_model.specs.Set.{record_of}
-use Rattle.kp_model.specs.World.{LeaderAndIsr}
 use Rattle.kp_texts.specs.Seen.{seen_record}
 use Rattle.kp_texts.specs.Texts.{HasOneRecord, IsRecordInRange, RecordText as SpelledRecord, record_text}
 use Rattle.kp_texts.specs.declared.texts.RecordText.{RecordText}

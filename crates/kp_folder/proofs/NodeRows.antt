@@ -3,9 +3,11 @@ use Rattle.std.proofs.Common.{◌≡◌, ℕ, suc, ◌+◌, ◌<◌, ◌^◌, Li
 use Rattle.kp_types.specs.declared.limits.Limits.{Limits}
 use Rattle.kp_model.specs.Left.{LeftNode, again}
 use Rattle.kp_replica.specs.NumberedNode.{NumberedNode}
+use Rattle.kp_folder.specs.Bad.{NoNode, NoNodes}
 use Rattle.kp_folder.specs.Files.{Files}
 use Rattle.kp_model.specs.Left.{LeftBehind}
 use Rattle.kp_model.specs.World.{LeaderAndIsr}
+use Rattle.kp_folder.specs.declared.fault.FolderFault.{FolderFault}
 use Rattle.kp_folder.specs.Left.{HasLeft, HasNode, HasRecord, HaveLives, HaveNodes, nodes_again}
 
 -- the nodes below so many are there
@@ -73,3 +75,13 @@ all_left files limits count sent c nodes said many has =
       refl,
       has.3,
     )
+
+-- the nodes before one that is at fault are there
+pub nodes_before : (files : Files) (limits : Limits) (count node : ℕ) (nodes : List NumberedNode) (fault : FolderFault) → SomeNodes files limits node nodes → node < count
+    → NoNode files limits.max_batch node fault → NoNodes files limits.max_batch count fault
+nodes_before files limits count node nodes fault some low bad = (
+  some.left,
+  some.have,
+  subst (λ (n : ℕ). n < count) (sym some.many) low,
+  subst (λ (n : ℕ). NoNode files limits.max_batch n fault) (sym some.many) bad,
+)

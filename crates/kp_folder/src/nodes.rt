@@ -7,7 +7,7 @@ ghost use Rattle.kp_model.specs.Log.{logged};
 ghost use Rattle.kp_model.specs.Set.{record_of};
 ghost use Rattle.kp_replica.specs.ReadBack.{read_back_cause};
 ghost use Rattle.kp_texts.specs.Seen.{seen_state};
-ghost use Rattle.kp_folder.specs.Bad.{Differs, IsStop, NoNode, NoneLeft};
+ghost use Rattle.kp_folder.specs.Bad.{Differs, IsStop, NoNode, NoNodes, NoneLeft};
 ghost use Rattle.kp_folder.specs.Left.{HasLeft, HasNode, HaveLives, HaveNodes, left_in, nodes_again, start_pair, starts_of};
 
 use crate::fault::{FolderFault, KeptFile};
@@ -129,7 +129,7 @@ fn read_nodes<F: ReadFolder>(
         × (nodes.items ≡ nodes_again limits.now 0 xs))) }
     ensures count { IfOk result (λ nodes. length nodes.items ≡ count) }
     ensures fault { IfErr result (λ fault. IsStop fault ⊎ IfSome (F.files folder.old)
-        (λ files. (node : ℕ) × (node < count) × NoNode files limits.now.max_batch node fault)) }
+        (λ files. NoNodes files limits.now.max_batch count fault)) }
     ensures same { F.files folder.new ≡ F.files folder.old }
 {
     let mut nodes = Vec::new(alloc);
@@ -142,9 +142,9 @@ fn read_nodes<F: ReadFolder>(
     Ok(nodes)
 }
 
-/// What the folder has of so many nodes, whose logs have these limits: all of it is read before anything is answered, and nothing is
-/// written. The fault names what of it no run has left: the record first, then node after node its state, its segments by their
-/// offsets, and its batches. F32, F33. Takes time proportional to the files, and memory to the logs, which share the segments' bytes.
+/// What the folder has of so many nodes, whose logs have these limits. Nothing is written. The fault is the first one, in this order: the
+/// record; then of each node its state, its life, its segments by their offsets, the row of its batches with the checkpoint, and its
+/// leader epochs. F32, F33. Takes time proportional to the files, and memory to the logs, which share the segments' bytes.
 pub fn read_left<F: ReadFolder>(
     alloc: Global,
     folder: &mut F,

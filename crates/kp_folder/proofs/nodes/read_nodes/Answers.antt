@@ -1,11 +1,11 @@
-use Rattle.std.proofs.Common.{rules, ◌≡◌, ◌∙◌, ◌⊎◌, ℕ, ◌+◌, ◌<◌, ◌^◌, Option, arith, ap, length, subst}
+use Rattle.std.proofs.Common.{rules, ◌≡◌, ◌∙◌, ◌⊎◌, ◌+◌, ◌<◌, ◌^◌, Option, inl, inr, ⊎_elim, subst}
 use Rattle.std.specs.Prelude.{IfSome}
 use Rattle.kp_model.specs.Left.{LeftNode, again}
-use Rattle.kp_folder.specs.Bad.{IsStop, NoNode}
+use Rattle.kp_folder.specs.Bad.{IsStop, NoNode, NoNodes}
 use Rattle.kp_folder.specs.Files.{Files}
 use Rattle.kp_folder.specs.Left.{HasNode}
 use Rattle.kp_folder.proofs.Known.{fault_on, known_both, still}
-use Rattle.kp_folder.proofs.NodeRows.{SomeNodes, one_node_more}
+use Rattle.kp_folder.proofs.NodeRows.{SomeNodes, nodes_before, one_node_more}
 use Rattle.kp_folder.proofs.nodes.read_nodes.Goals as goal
 
 pub returns-in_err-kept-clause-fault : goal.returns-in_err-kept-clause-fault
@@ -15,9 +15,13 @@ returns-in_err-kept-clause-fault g c =
     let max = c.args.limits.now.max_batch in
     let fault = c.in_err-kept.field-0.0 in
     let low : l.node < c.args.count = search rules in
-    fault_on c.from_residual.result fault known (λ files f. NoNode files max l.node f) (λ files f. (n : ℕ) × (n < c.args.count) × NoNode files max n f)
-    c.from_residual.ensures.1 (λ files bad. (l.node, low, bad))
-    (subst (λ (o : Option Files). IsStop fault ⊎ IfSome o (λ files. NoNode files max l.node fault)) l.invariant.same c.in_err-kept.ensures.fault)
+    let bad = subst (λ (o : Option Files). IsStop fault ⊎ IfSome o (λ files. NoNode files max l.node fault)) l.invariant.same c.in_err-kept.ensures.fault in
+    let all : IsStop fault ⊎ IfSome known (λ files. NoNodes files max c.args.count fault) =
+    ⊎_elim (λ stop. inl stop)
+    (λ no. inr (known_both known (λ files. SomeNodes files c.args.limits.now l.node l.nodes.items) (λ files. NoNode files max l.node fault) (λ files. NoNodes files max c.args.count fault)
+    (λ files some one. nodes_before files c.args.limits.now c.args.count l.node l.nodes.items fault some low one) l.invariant.some no)) bad in
+    fault_on c.from_residual.result fault known (λ files f. NoNodes files max c.args.count f) (λ files f. NoNodes files max c.args.count f)
+    c.from_residual.ensures.1 (λ files no. no) all
 
 pub loop-node-preserved : goal.loop-node-preserved
 loop-node-preserved g c =

@@ -1,4 +1,4 @@
-use Rattle.std.proofs.Common.{rules, ◌≡◌, ◌∙◌, sym, subst, inr}
+use Rattle.std.proofs.Common.{rules, ◌∙◌, sym, subst, inr}
 use Rattle.kp_folder.specs.Files.{IsFile, record_name}
 use Rattle.kp_folder.proofs.Known.{has_record, no_record, other_record}
 use Rattle.kp_folder.proofs.record.read_record.Goals as goal
