@@ -41,8 +41,8 @@ impl Keeper {
         &mut self.files
     }
 
-    /// The rule of sends. What a node tells others, or counts itself for, rests on its log, which is on the disk then up to its end. One that is down tells
-    /// nothing. F33 and [`Error::NoRoom`] where the library has no memory to hand the batches out.
+    /// The rule of sends. What a node tells others, or counts itself for, rests on its log, which is on the disk then up to its end. One that
+    /// is down tells nothing. F33 and [`Error::NoRoom`] where the library has no memory to hand the batches out.
     pub(crate) fn before_sending(&mut self, raw: &mut RawNode, state: &NodeState) -> Result<(), Error> {
         if state.status == Status::Down { Ok(()) } else { self.sync(raw, state) }
     }
