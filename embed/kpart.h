@@ -31,7 +31,7 @@
  * a closed one is wanted (KP_IN_USE); a number above its greatest (KP_OUT_OF_RANGE); a length above the greatest, or too small
  * (KP_BAD_LENGTH). Each comes only where what it says is so; where several are so, any of them may be answered. KP_NO_ROOM, that
  * the memory of a handle was refused, comes only where none of them is so. After each of these six nothing has changed.
- * KP_MEMORY is a refusal, as 1 to 34 are: docs/RULES.md has them, and after one a call has done what its contract says.
+ * KP_MEMORY is a refusal, as 1 to 35 are: docs/RULES.md has them, and after one a call has done what its contract says.
  *
  * WHAT A CALL WRITES through a parameter is written at KP_DONE alone, but for `place` of a receipt: kp_produce, kp_produce_handed
  * and kp_mark also write it after a refusal, and then nothing else of the receipt: at 8 where the record begins in the batch, at any
@@ -91,6 +91,7 @@ enum {
     KP_F32_DEVICE = 32,
     KP_F33_MEMORY = 33,
     KP_F34_CHANGE_PENDING = 34,
+    KP_F35_BAD_FOLDER = 35,
     KP_MEMORY = KP_F33_MEMORY,
     KP_CLOSED = 65,
     KP_OTHER_KIND = 66,

@@ -761,6 +761,7 @@ static const struct {
     NAMED(KP_F32_DEVICE),
     NAMED(KP_F33_MEMORY),
     NAMED(KP_F34_CHANGE_PENDING),
+    NAMED(KP_F35_BAD_FOLDER),
 };
 
 /* Writes the header's word for what kp_text says, as KP_F22_STALE_RECORD for "F22 StaleRecord". */
@@ -782,7 +783,7 @@ static void refusals_have_the_librarys_names(void) {
     const uint32_t count = sizeof refusals / sizeof *refusals;
     char word[128];
     uint8_t text[64];
-    WANT(count, 34);
+    WANT(count, 35);
     for (uint32_t i = 0; i < count; i++) {
         header_word(i + 1, word);
         WANT(refusals[i].number, i + 1);

@@ -134,6 +134,12 @@ numbered_on ss i s l is here before =
     let at : (get_or ss i s).node.number ≡ i = ap (λ (x : SeatedNode). x.node.number) (sym is) ∙ here in
     subst (λ (xs : List SeatedNode). AreNumbered 0 (map (λ s. s.node) xs)) (sym (take_more ss i s l)) (numbered_push (take i ss) 0 (get_or ss i s) before (omega arith))
 
+-- each node of numbered ones is at the place of its number
+pub at_its_number : (ss : List SeatedNode) (k i : ℕ) (s : SeatedNode) → AreNumbered k (map (λ s. s.node) ss) → i < length ss → s ≡ get_or ss i s → s.node.number ≡ k + i
+at_its_number [] k i s are low is = absurd (omega arith)
+at_its_number (t ∷ ss) k zero s are low is = ap (λ (x : SeatedNode). x.node.number) is ∙ are.0 ∙ omega arith
+at_its_number (t ∷ ss) k (suc i) s are low is = at_its_number ss (k + 1) i s are.1 (omega arith) is ∙ omega arith
+
 lives : (ss : List SeatedNode) → AreReady ss → (k : ℕ) → k < length (map (λ (p : NodeView). left_of p.state) (map (λ s. s.pass) ss))
     → (slice_index_or (map (λ (p : NodeView). left_of p.state) (map (λ s. s.pass) ss)) k nothing_left).life + 1 < 2 ^ 64
 lives [] ready k l = absurd (omega arith)

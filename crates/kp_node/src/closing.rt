@@ -128,6 +128,8 @@ impl<B: BoardName> LeftNode<B> {
 pub fn are_all<B: BoardName>(board: &Board<B>, nodes: &[LeftNode<B>]) -> bool
     ensures count { result ≡ true → length nodes.now ≡ board.now }
     ensures order { result ≡ true → AreNumbered 0 (map (λ s. s.node) nodes.now) }
+    ensures all { length nodes.now ≡ board.now → AreNumbered 0 (map (λ s. s.node) nodes.now)
+        → result ≡ true }
 {
     for index in 0..nodes.len() {
         if usize::from(nodes[index].number()) != index {

@@ -40,6 +40,7 @@ refusal_row (refusals.BadScript line) = (31, codes "BadScript")
 refusal_row refusals.Device = (32, codes "Device")
 refusal_row refusals.Memory = (33, codes "Memory")
 refusal_row refusals.ChangePending = (34, codes "ChangePending")
+refusal_row refusals.BadFolder = (35, codes "BadFolder")
 
 abbrev pub refusal_number : Refusal → ℕ
 refusal_number refusal = (refusal_row refusal).0

@@ -1,7 +1,7 @@
 //! Why a call was refused.
 
 ghost use Rattle.std.specs.Prelude.{◌≡◌, IfNone, IfSome, Some};
-ghost use Rattle.kp_types.specs.Texts.{IsNoRefusal, place_of, refusal_head, refusal_name, refusal_number, refusal_text};
+ghost use Rattle.kp_types.specs.Texts.{IsNoRefusal, place_of, refusal_head, refusal_number, refusal_text};
 ghost use Rattle.kp_types.specs.declared.refusal.Refusal.TheVariants.{Memory};
 
 use std::alloc::{AllocError, AllocFailed};
@@ -80,92 +80,81 @@ pub enum Refusal {
     Memory,
     /// Another in-sync change of this leader waits for the controller's answer.
     ChangePending,
+    /// The folder isn't one that a run has left.
+    BadFolder,
 }
 
-/// A refusal's number, its name, and both as they are printed.
-#[derive(Clone, Copy)]
-struct Row {
-    number: u32,
-    name: &'static str,
-    head: &'static str,
-}
-
-/// The row of this number and this name.
-macro_rules! row {
-    ($number:literal, $name:literal) => {
-        Row {
-            number: $number,
-            name: $name,
-            head: concat!("F", $number, " ", $name),
+/// What this picks of a refusal's number and name.
+macro_rules! by_refusal {
+    ($refusal:expr, $pick:ident) => {
+        match $refusal {
+            Refusal::Truncated => $pick!(1, "Truncated"),
+            Refusal::BadMagic => $pick!(2, "BadMagic"),
+            Refusal::BadLength => $pick!(3, "BadLength"),
+            Refusal::BadCrc => $pick!(4, "BadCrc"),
+            Refusal::Compressed => $pick!(5, "Compressed"),
+            Refusal::BadAttributes => $pick!(6, "BadAttributes"),
+            Refusal::BadCount => $pick!(7, "BadCount"),
+            Refusal::BadRecord(_) => $pick!(8, "BadRecord"),
+            Refusal::TooLarge => $pick!(9, "TooLarge"),
+            Refusal::BadProducerFields => $pick!(10, "BadProducerFields"),
+            Refusal::InvalidProducerEpoch => $pick!(11, "InvalidProducerEpoch"),
+            Refusal::OutOfOrderSequence => $pick!(12, "OutOfOrderSequence"),
+            Refusal::InvalidTxnState => $pick!(13, "InvalidTxnState"),
+            Refusal::CoordinatorFenced => $pick!(14, "CoordinatorFenced"),
+            Refusal::NotLeader => $pick!(15, "NotLeader"),
+            Refusal::OffsetOutOfRange => $pick!(16, "OffsetOutOfRange"),
+            Refusal::FencedLeaderEpoch => $pick!(17, "FencedLeaderEpoch"),
+            Refusal::UnknownLeaderEpoch => $pick!(18, "UnknownLeaderEpoch"),
+            Refusal::NotBoundary => $pick!(19, "NotBoundary"),
+            Refusal::BelowSettled => $pick!(20, "BelowSettled"),
+            Refusal::NotInSync => $pick!(21, "NotInSync"),
+            Refusal::StaleRecord => $pick!(22, "StaleRecord"),
+            Refusal::NotCaughtUp => $pick!(23, "NotCaughtUp"),
+            Refusal::RecordFull => $pick!(24, "RecordFull"),
+            Refusal::OffsetsExhausted => $pick!(25, "OffsetsExhausted"),
+            Refusal::NotNext => $pick!(26, "NotNext"),
+            Refusal::EpochBack => $pick!(27, "EpochBack"),
+            Refusal::Down => $pick!(28, "Down"),
+            Refusal::StaleAnswer => $pick!(29, "StaleAnswer"),
+            Refusal::ControlFromClient => $pick!(30, "ControlFromClient"),
+            Refusal::BadScript(_) => $pick!(31, "BadScript"),
+            Refusal::Device => $pick!(32, "Device"),
+            Refusal::Memory => $pick!(33, "Memory"),
+            Refusal::ChangePending => $pick!(34, "ChangePending"),
+            Refusal::BadFolder => $pick!(35, "BadFolder"),
         }
     };
 }
 
-impl Refusal {
-    /// Its number and name. O(1).
-    #[tactic(auto, unfolding(crate::proofs::Heads::digits))]
-    fn row(&self) -> Row
-        ensures number { result.number ≡ refusal_number self.now }
-        ensures name { result.name.now ≡ refusal_name self.now }
-        ensures head { result.head.now ≡ refusal_head self.now }
-    {
-        match self {
-            Refusal::Truncated => row!(1, "Truncated"),
-            Refusal::BadMagic => row!(2, "BadMagic"),
-            Refusal::BadLength => row!(3, "BadLength"),
-            Refusal::BadCrc => row!(4, "BadCrc"),
-            Refusal::Compressed => row!(5, "Compressed"),
-            Refusal::BadAttributes => row!(6, "BadAttributes"),
-            Refusal::BadCount => row!(7, "BadCount"),
-            Refusal::BadRecord(_) => row!(8, "BadRecord"),
-            Refusal::TooLarge => row!(9, "TooLarge"),
-            Refusal::BadProducerFields => row!(10, "BadProducerFields"),
-            Refusal::InvalidProducerEpoch => row!(11, "InvalidProducerEpoch"),
-            Refusal::OutOfOrderSequence => row!(12, "OutOfOrderSequence"),
-            Refusal::InvalidTxnState => row!(13, "InvalidTxnState"),
-            Refusal::CoordinatorFenced => row!(14, "CoordinatorFenced"),
-            Refusal::NotLeader => row!(15, "NotLeader"),
-            Refusal::OffsetOutOfRange => row!(16, "OffsetOutOfRange"),
-            Refusal::FencedLeaderEpoch => row!(17, "FencedLeaderEpoch"),
-            Refusal::UnknownLeaderEpoch => row!(18, "UnknownLeaderEpoch"),
-            Refusal::NotBoundary => row!(19, "NotBoundary"),
-            Refusal::BelowSettled => row!(20, "BelowSettled"),
-            Refusal::NotInSync => row!(21, "NotInSync"),
-            Refusal::StaleRecord => row!(22, "StaleRecord"),
-            Refusal::NotCaughtUp => row!(23, "NotCaughtUp"),
-            Refusal::RecordFull => row!(24, "RecordFull"),
-            Refusal::OffsetsExhausted => row!(25, "OffsetsExhausted"),
-            Refusal::NotNext => row!(26, "NotNext"),
-            Refusal::EpochBack => row!(27, "EpochBack"),
-            Refusal::Down => row!(28, "Down"),
-            Refusal::StaleAnswer => row!(29, "StaleAnswer"),
-            Refusal::ControlFromClient => row!(30, "ControlFromClient"),
-            Refusal::BadScript(_) => row!(31, "BadScript"),
-            Refusal::Device => row!(32, "Device"),
-            Refusal::Memory => row!(33, "Memory"),
-            Refusal::ChangePending => row!(34, "ChangePending"),
-        }
-    }
+/// The number.
+macro_rules! number {
+    ($number:literal, $name:literal) => {
+        $number
+    };
+}
 
-    /// Its number, 1 to 34. O(1).
+/// Both, as they are printed.
+macro_rules! head {
+    ($number:literal, $name:literal) => {
+        concat!("F", $number, " ", $name)
+    };
+}
+
+impl Refusal {
+    /// Its number, 1 to 35. O(1).
     pub fn number(&self) -> u32
         ensures { result ≡ refusal_number self.now }
     {
-        self.row().number
-    }
-
-    /// Its name, as `BadRecord`. O(1).
-    pub fn name(&self) -> &'static str
-        ensures { result.now ≡ refusal_name self.now }
-    {
-        self.row().name
+        by_refusal!(self, number)
     }
 
     /// Its number and name, as `F8 BadRecord`. O(1).
+    #[tactic(auto, unfolding(crate::proofs::Heads::digits))]
     pub fn head(&self) -> &'static str
         ensures { result.now ≡ refusal_head self.now }
     {
-        self.row().head
+        by_refusal!(self, head)
     }
 
     /// The refusal of this number, at place 0 where it names a place. O(1).
@@ -208,6 +197,7 @@ impl Refusal {
             32 => Some(Refusal::Device),
             33 => Some(Refusal::Memory),
             34 => Some(Refusal::ChangePending),
+            35 => Some(Refusal::BadFolder),
             _ => None,
         }
     }

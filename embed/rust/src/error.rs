@@ -6,7 +6,7 @@ use std::sync::OnceLock;
 use crate::ffi::Text;
 use crate::store::StoreFault;
 
-/// What the rules say of a call that they refuse, by the numbers F1 to F34 of `docs/RULES.md`. The node or the record is as before
+/// What the rules say of a call that they refuse, by the numbers F1 to F35 of `docs/RULES.md`. The node or the record is as before
 /// but at [`Refusal::Memory`], where a node that took batches is down.
 #[derive(Clone, Copy, Debug, PartialEq, Eq)]
 #[non_exhaustive]
@@ -88,7 +88,7 @@ impl Refusal {
         }
     }
 
-    /// Its number, 1 to 34.
+    /// Its number, 1 to 35.
     pub fn number(self) -> u32 {
         match self {
             Refusal::Other(number) => number,
@@ -135,7 +135,7 @@ fn same_kind(one: Refusal, other: Refusal) -> bool {
 
 /// What the library calls each refusal, as `F22 StaleRecord`: asked for once. No memory is taken.
 fn text(number: u32) -> &'static str {
-    static TEXTS: OnceLock<[Text; 35]> = OnceLock::new();
+    static TEXTS: OnceLock<[Text; 36]> = OnceLock::new();
     let texts = TEXTS.get_or_init(|| std::array::from_fn(|number| Text::of(number as u32)));
     texts.get(number as usize).map_or("", Text::as_str)
 }
@@ -281,7 +281,7 @@ mod tests {
     fn kafkas_codes_are_those_of_the_rules() {
         let rules = std::fs::read_to_string(concat!(env!("CARGO_MANIFEST_DIR"), "/../../docs/RULES.md")).expect("the rules");
         let rows: Vec<(u32, Option<i16>)> = rules.lines().filter_map(row).collect();
-        assert!(rows.iter().map(|(number, _)| *number).eq(1..=34), "each number has its row");
+        assert!(rows.iter().map(|(number, _)| *number).eq(1..=35), "each number has its row");
         assert_eq!(rows.iter().filter(|(_, code)| code.is_some()).count(), 9);
         for (number, code) in rows {
             assert_eq!(Refusal::of(number, 0).kafka_code(), code, "F{number}");
