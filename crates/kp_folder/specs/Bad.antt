@@ -2,7 +2,7 @@
 use Rattle.std.specs.Prelude.{◌≡◌, ◌≢◌, ◌⊎◌, ℕ, ◌+◌, ◌<◌, ◌≤◌, ◌^◌, List, [], length, map, Option, Some, None}
 use Rattle.kp_types.specs.Devices.{IsDeviceFault}
 use Rattle.kp_types.specs.declared.refusal.Refusal.{Refusal}
-use Rattle.kp_types.specs.declared.refusal.Refusal.TheVariants.{RecordFull}
+use Rattle.kp_types.specs.declared.refusal.Refusal.TheVariants.{BadFolder, RecordFull}
 use Rattle.kp_batch.specs.Batch.{Written}
 use Rattle.kp_model.specs.Epochs.{epoch_cache}
 use Rattle.kp_model.specs.Left.{LeftNode}
@@ -16,6 +16,13 @@ use Rattle.kp_folder.specs.Left.{AreSegments, HasBatches, HasRecord, HasState, H
 use Rattle.kp_folder.specs.declared.fault.FolderFault.{FolderFault}
 use Rattle.kp_folder.specs.declared.fault.FolderFault.TheVariants.{Stopped, BadFile, BadBatch, BadNode}
 use Rattle.kp_folder.specs.declared.fault.KeptFile.TheVariants.{Record, State, Segment}
+
+-- the refusal that a fault is
+abbrev pub refusal_of : FolderFault → Refusal
+refusal_of (Stopped refusal) = refusal
+refusal_of (BadFile file) = BadFolder
+refusal_of (BadBatch node from place refusal) = refusal
+refusal_of (BadNode node refusal) = refusal
 
 -- it couldn't be read: F32, F33
 abbrev pub IsStop : FolderFault → Type 0

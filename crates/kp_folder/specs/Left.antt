@@ -1,5 +1,5 @@
 -- What a folder has that a run has left (own rule).
-use Rattle.std.specs.Prelude.{◌≡◌, ℕ, ◌+◌, ◌<◌, ◌^◌, List, [], ◌∷◌, ◌++◌, length, map, Option, Some, None}
+use Rattle.std.specs.Prelude.{◌≡◌, ℕ, ◌+◌, ◌<◌, ◌^◌, List, [], ◌∷◌, length, map, Option, Some, None}
 use Rattle.std.specs.List.{AllByRecursion, flat_map}
 use Rattle.kp_types.specs.declared.limits.Limits.{Limits}
 use Rattle.kp_batch.specs.Batch.{Written, count_of}
@@ -11,7 +11,7 @@ use Rattle.kp_log.specs.BatchesIn.{AreBatchesIn}
 use Rattle.kp_replica.specs.NumberedNode.{NumberedNode}
 use Rattle.kp_replica.specs.ReadBack.{read_back_cause}
 use Rattle.kp_texts.specs.declared.texts.EpochStart.{EpochStart}
-use Rattle.kp_texts.specs.Texts.{IsRecordInRange, IsStateInRange, RecordText, StateText, record_text, state_text}
+use Rattle.kp_texts.specs.Texts.{IsRecordInRange, IsStateInRange, StateText, record_text, state_text}
 use Rattle.kp_folder.specs.Files.{Files, record_name, segment_path, state_name}
 
 -- the offset behind the batches, where this one is before them

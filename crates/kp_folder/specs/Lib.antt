@@ -1,3 +1,4 @@
 pub mod Files
 pub mod Left
 pub mod Bad
+pub mod Kept

@@ -1,5 +1,8 @@
 //! Why a folder isn't read.
 
+ghost use Rattle.std.specs.Prelude.{◌≡◌};
+ghost use Rattle.kp_folder.specs.Bad.{refusal_of};
+
 use kp_types::{NodeId, Offset, Refusal};
 
 /// A file of a folder that a run has left.
@@ -25,4 +28,18 @@ pub enum FolderFault {
     /// The node's batches and its state are those of no node: F26, F27 or F25 of a batch that doesn't stand behind those before it, F19 of a
     /// checkpoint that is no boundary, F24 of the greatest life.
     BadNode(NodeId, Refusal),
+}
+
+impl FolderFault {
+    /// The refusal that it is. O(1).
+    pub fn refusal(&self) -> Refusal
+        ensures { result ≡ refusal_of self.now }
+    {
+        match self {
+            FolderFault::BadFile(_) => Refusal::BadFolder,
+            FolderFault::Stopped(refusal)
+            | FolderFault::BadBatch(_, _, _, refusal)
+            | FolderFault::BadNode(_, refusal) => *refusal,
+        }
+    }
 }

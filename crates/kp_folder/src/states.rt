@@ -14,8 +14,8 @@ use kp_texts::{StateText, state_of};
 use kp_types::{NodeId, Refusal};
 use std::alloc::Global;
 
-// The name of the file of a node's state.
-fn name_of_state(alloc: Global, node: NodeId) -> Result<String, Refusal>
+/// The name of the file of a node's state.
+pub(crate) fn name_of_state(alloc: Global, node: NodeId) -> Result<String, Refusal>
     ensures name { IfOk result (λ name. string_bytes name ≡ state_name node) }
     ensures only { IfErr result (λ refusal. refusal ≡ Memory) }
 {

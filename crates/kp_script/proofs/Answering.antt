@@ -22,13 +22,12 @@ use Rattle.kp_script.specs.Call.{Call, Header, IsCallText, IsHeaderText, SpellsN
 use Rattle.kp_script.specs.Ended.{limits_in}
 use Rattle.kp_script.specs.Lines.{sent_lines}
 use Rattle.kp_script.specs.Piped.{AreSaid, EndsBehind, Heard, IsNoHeader, IsPiped, PipesFirst, PipesFront, PipesTo, Says, answers_text, calls_in, counted_in, counts, fault_line, fault_lines, faults_among}
-use Rattle.kp_script.specs.Piping.{AnswersFront, Stands, StandsCut, StandsOn, Unanswered, logs_of}
+use Rattle.kp_script.specs.Piping.{AnswersFront, Stands, StandsCut, StandsOn, Unanswered, stage_of}
 use Rattle.kp_script.specs.Playing.{CutsOne, HasPlayed, LeadTo, PlayTo, PlayedOut}
 use Rattle.kp_script.specs.Reads.{Reads, ReadsInto, kept_of}
 use Rattle.kp_script.specs.Trace.{trace_line, trace_text}
 use Rattle.kp_script.specs.Transcript.{no_past, numbered, refusals_in}
 use Rattle.kp_script.specs.declared.pipe.Running.{Running}
-use Rattle.kp_script.proofs.Logs.{shown_logs}
 use Rattle.kp_script.proofs.Played.{as_many, played_none, played_on, traced}
 
 -- ---- what lines say, one line more
@@ -259,8 +258,8 @@ reached_nodes keep header done stage refused p =
     sym p.reached.shown.count ∙ keep header.count p.reached.run (last p.reached.run) (last_is_of header.count p.reached.run)
 
 pub is_piped : RunsKeepCount → RunsAreSafe → NoDeliveryIsRefusedOddly → (all : List (ℕ × Option (List ℕ))) (text : List ℕ) (answered : ℕ) (running : Option Running) → Stands all text answered running
-    → IsPiped all text (record { refused = answered; logs = logs_of running })
-is_piped keep safe odd all text answered None s = inl (record { no_header = s.0; text_is = s.1; refused_is = s.2; logs_are = refl })
+    → IsPiped all text (record { refused = answered; stage = stage_of running })
+is_piped keep safe odd all text answered None s = inl (record { no_header = s.0; text_is = s.1; refused_is = s.2; stage_is = refl })
 is_piped keep safe odd all text answered (Some running) s = inr (record {
   heard = s.heard;
   plain = trace_text (numbered (calls_in s.heard.said)) (map outcome_of s.played.answers);
@@ -268,7 +267,7 @@ is_piped keep safe odd all text answered (Some running) s = inr (record {
   trace = traced safe odd no_past s.heard.header (calls_in s.heard.said) running.world s.refused None None s.played;
   text_is = s.text_is;
   refused_is = s.answered_is;
-  logs_are = shown_logs s.heard.header running.world (last s.played.reached.run) s.played.reached.shown (reached_nodes keep s.heard.header (calls_in s.heard.said) running.world s.refused s.played);
+  shown = s.played.reached.shown;
 })
 
 -- ---- what has been read
@@ -364,7 +363,7 @@ whole_cut line whole number old new short is h = subst (λ (l : List ℕ). Stand
 module _ (keep : RunsKeepCount) (safe : RunsAreSafe) (odd : NoDeliveryIsRefusedOddly) (a b c old mid : Option (List ℕ)) (read : List (Option (List ℕ))) (text : List ℕ) (answered : ℕ) (running : Option Running)
     (r : Reads a b read) (s : Stands (counted_in read) text answered running) (w : Appends old mid text) where
   -- all lines have been answered
-  pub pipes_to : IsAtEnd b → PipesTo a old mid (record { refused = answered; logs = logs_of running })
+  pub pipes_to : IsAtEnd b → PipesTo a old mid (record { refused = answered; stage = stage_of running })
   pipes_to end = record {
     read = read;
     all = reads_all a b read r end;
@@ -375,48 +374,48 @@ module _ (keep : RunsKeepCount) (safe : RunsAreSafe) (odd : NoDeliveryIsRefusedO
 
   -- and the next one
   piped_on : (number : ℕ) (line : Option (List ℕ)) (new : Option Running) (refused : ℕ) (answer : List ℕ) → number ≡ length read + 1 → StandsOn (number, line) running new refused answer
-      → IsPiped (counted_in (read ++ line ∷ [])) (text ++ answer) (record { refused = answered + refused; logs = logs_of new })
+      → IsPiped (counted_in (read ++ line ∷ [])) (text ++ answer) (record { refused = answered + refused; stage = stage_of new })
   piped_on number line new refused answer is stands =
       is_piped keep safe odd (counted_in (read ++ line ∷ [])) (text ++ answer) (answered + refused) new
       (subst (λ (all : List (ℕ × Option (List ℕ))). Stands all (text ++ answer) (answered + refused) new) (sym (counted_push read line number is)) (stands (counted_in read) text answered s))
 
-  -- the logs of all lines, or of all and the next one
-  logs_behind : (number : ℕ) (line : Option (List ℕ)) (new : Option Running) → number ≡ length read + 1 → StandsCut (number, line) running new
-      → (logs_of new ≡ logs_of running) ⊎ EndsBehind read text line (logs_of new)
-  logs_behind number line new is (inl same) = inl (ap logs_of same)
-  logs_behind number line new is (inr on) = inr (record {
+  -- the stage behind all lines, or behind all and the next one
+  stage_behind : (number : ℕ) (line : Option (List ℕ)) (new : Option Running) → number ≡ length read + 1 → StandsCut (number, line) running new
+      → (stage_of new ≡ stage_of running) ⊎ EndsBehind read text line (stage_of new)
+  stage_behind number line new is (inl same) = inl (ap stage_of same)
+  stage_behind number line new is (inr on) = inr (record {
     answer = on.1;
-    ended = record { refused = answered + on.0; logs = logs_of new };
+    ended = record { refused = answered + on.0; stage = stage_of new };
     piped = piped_on number line new on.0 on.1 is on.2;
-    logs_are = refl;
+    stage_is = refl;
   })
 
   -- all but the next one, at most
-  pub pipes_first : (number : ℕ) (new : Option Running) → number ≡ length read + 1 → Unanswered number b c running new → PipesFirst a c old mid (logs_of new)
+  pub pipes_first : (number : ℕ) (new : Option Running) → number ≡ length read + 1 → Unanswered number b c running new → PipesFirst a c old mid (stage_of new)
   pipes_first number new is u = record {
     read = read;
     text = text;
-    ended = record { refused = answered; logs = logs_of running };
+    ended = record { refused = answered; stage = stage_of running };
     piped = is_piped keep safe odd (counted_in read) text answered running s;
     written = w;
     last_read = elim u [
-      | inl begun ↦ inl (reads_begun a b c read r begun.0, ap logs_of begun.1)
-      | inr next ↦ inr (next.0, reads_more a b c read (next.0 ∷ []) r next.1, logs_behind number next.0 new is next.2)
+      | inl begun ↦ inl (reads_begun a b c read r begun.0, ap stage_of begun.1)
+      | inr next ↦ inr (next.0, reads_more a b c read (next.0 ∷ []) r next.1, stage_behind number next.0 new is next.2)
     ];
   }
 
   -- all but a part of the next one's answer
-  pub pipes_front : (number : ℕ) (new : Option Running) (now : Option (List ℕ)) → number ≡ length read + 1 → AnswersFront number b c running new mid now → PipesFront a c old now (logs_of new)
+  pub pipes_front : (number : ℕ) (new : Option Running) (now : Option (List ℕ)) → number ≡ length read + 1 → AnswersFront number b c running new mid now → PipesFront a c old now (stage_of new)
   pipes_front number new now is f = record {
     read = read;
     line = f.line;
     last_read = reads_more a b c read (f.line ∷ []) r f.read;
     text = text;
     answer = f.answer;
-    ended = record { refused = answered + f.refused; logs = logs_of new };
+    ended = record { refused = answered + f.refused; stage = stage_of new };
     piped = piped_on number f.line new f.refused f.answer is f.stands;
-    logs_are = refl;
-    earlier = record { refused = answered; logs = logs_of running };
+    stage_is = refl;
+    earlier = record { refused = answered; stage = stage_of running };
     before = is_piped keep safe odd (counted_in read) text answered running s;
     n = f.begun.0;
     written = Appends-trans old mid now text (take f.begun.0 f.answer) w f.begun.1;

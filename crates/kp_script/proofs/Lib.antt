@@ -22,6 +22,6 @@ pub mod Lawful
 pub mod Played
 pub mod Answering
 pub mod Limited
-pub mod KeptLogs
 pub mod LeftCalls
 pub mod Counting
+pub mod Keeping

@@ -25,12 +25,12 @@ use Rattle.kp_replica.specs.declared.act.PlainAct.TheVariants.{Mark, Alter}
 use Rattle.kp_replica.specs.declared.altering.IsrChange.TheVariants.{Join, Leave}
 use Rattle.kp_world.specs.Shown.{Stage, log_of}
 use Rattle.kp_script.specs.Call.{Call, Header, Sender, Elect, Append, Raw, Acts, Deliver}
-use Rattle.kp_script.specs.Ended.{AreLimited, KeepsLimit, limits_in, node_log}
+use Rattle.kp_script.specs.Ended.{AreLimited, KeepsLimit, limits_in}
 use Rattle.kp_record.specs.Made.{plain_record}
 use Rattle.kp_script.specs.Told.{AreTold, IsTold, body_at, offer_of, said_of}
 use Rattle.kp_script.specs.Transcript.{Past, events_before, largest_batch}
 use Rattle.kp_script.proofs.Lawful.{same_body}
-use Rattle.kp_script.proofs.Logs.{shown_logs}
+use Rattle.kp_script.proofs.Logs.{node_log, shown_logs}
 use Rattle.kp_script.specs.Playing.{HasPlayed, WereSmall}
 
 -- ---- what is handed in

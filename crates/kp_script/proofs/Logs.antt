@@ -1,6 +1,7 @@
 -- The nodes' logs at the end of a script's run.
-use Rattle.std.proofs.Common.{◌≡◌, ◌∙◌, ℕ, ◌<◌, List, length, map, sym, ap, arith}
+use Rattle.std.proofs.Common.{◌≡◌, ◌∙◌, ◌<◌, List, length, map, sym, ap, arith}
 use Rattle.std.specs.Prelude.{slice_index_or}
+use Rattle.std.specs.List.{range_with_len}
 use Rattle.std.proofs.lemmas.List.{get_or-map, length-map, same_lists}
 use Rattle.std.proofs.lemmas.List.FromFn.{get_or-map-range_with_len, length-map-range_with_len}
 use Rattle.kp_types.specs.declared.limits.Limits.{Limits}
@@ -9,18 +10,19 @@ use Rattle.kp_model.specs.World.{Node, World, fresh}
 use Rattle.kp_replica.specs.NumberedNode.{NumberedNode}
 use Rattle.kp_world.specs.Shown.{IsShown, Stage, log_of}
 use Rattle.kp_script.specs.Call.{Header}
-use Rattle.kp_script.specs.Ended.{limits_in, logs_in, node_log}
+use Rattle.kp_script.specs.Ended.{limits_in}
 
 -- some member, whose log is as much as any
 some_node : Partition → NumberedNode
 some_node p = record { number = 0; limits = p.limits; state = fresh }
 
--- a member's log stands at its place
-pub log_at : (ms : List NumberedNode) (logs : List Partition) (n : ℕ) (log : Partition) → map log_of ms ≡ logs → n < length logs → ((m : NumberedNode) → log ≡ log_of (slice_index_or ms n m))
-    → (other : Partition) → log ≡ slice_index_or logs n other
-log_at ms logs n log same inside is other =
-    let within : n < length ms = omega (arith, inside, ap length same, length-map ms log_of) in
-    is (some_node other) ∙ sym (get_or-map log_of ms n (some_node other) other within) ∙ ap (λ (all : List Partition). slice_index_or all n other) same
+-- a node's log, cut by these limits and settled up to the node's watermark
+abbrev pub node_log : Limits → Node → Partition
+node_log limits x = record { limits = limits; log = x.log; settled = x.watermark }
+
+-- the logs of the header's nodes in this world
+abbrev pub logs_in : Header → World → List Partition
+logs_in header w = map (λ n. node_log (limits_in header) (w.nodes n)) (range_with_len 0 header.count)
 
 -- what a stage shows of a world has the logs of the world's nodes
 pub shown_logs : (header : Header) (stage : Stage) (w : World) → IsShown (limits_in header) stage w → length stage.nodes ≡ header.count → map log_of stage.nodes ≡ logs_in header w

@@ -16,7 +16,7 @@ use Rattle.kp_types.specs.declared.refusal.Refusal.TheVariants as refusals
 use Rattle.kp_model.specs.Event as model
 use Rattle.kp_model.specs.Event.{Event, Outcome, Produce}
 use Rattle.kp_model.specs.Laws.{NoDeliveryIsRefusedOddly, RunsAreSafe}
-use Rattle.kp_model.specs.Run.{Moment, Run, last}
+use Rattle.kp_model.specs.Run.{Moment, Run}
 use Rattle.kp_model.specs.World.{start}
 use Rattle.kp_replica.specs.Acts.{plain_act}
 use Rattle.kp_replica.specs.declared.act.Act.TheVariants.{Produce as HandsOver}
@@ -29,7 +29,7 @@ use Rattle.kp_world.specs.Events.{IsEvent}
 use Rattle.kp_world.specs.declared.event.Event.TheVariants.{Acts as Happens}
 use Rattle.kp_world.specs.Laws.{MayCome, PlaysGoOn}
 use Rattle.kp_world.specs.Plays.{IsPlayed, IsReached, LeadOn, events_of, outcomes_of}
-use Rattle.kp_world.specs.Shown.{IsShown, Stage, log_of}
+use Rattle.kp_world.specs.Shown.{IsShown, Stage}
 use Rattle.kp_world.specs.declared.event.EventAnswer.{EventAnswer}
 use Rattle.kp_world.proofs.Playing.{all_fit, answered, lead_more, lead_none, nothing_answered, reached_none}
 use Rattle.kp_script.specs.Call.{Call, Header, IsCall, IsCallInRange, node_of, Elect, Append, Raw, Acts, Deliver}
@@ -43,7 +43,6 @@ use Rattle.kp_script.specs.declared.call.Call.{Call as ParsedCall}
 use Rattle.kp_script.specs.declared.script.Line.{Line as ParsedLine}
 use Rattle.kp_script.specs.Transcript.{IsTraceOf, Past, answers_before, events_before, is_refusal, largest_batch, no_past, numbered, refusals_in, WritesFirst, WritesFront}
 use Rattle.kp_script.proofs.Lawful.{lawful_act, lawful_bytes, lawful_values}
-use Rattle.kp_script.proofs.Logs.{shown_logs}
 use Rattle.kp_script.proofs.Telling.{AreTold-length}
 use Rattle.kp_script.proofs.Tracing.{trace_append}
 
@@ -452,7 +451,7 @@ begun_lines safe odd go offers past header all done calls others stage refused o
 
 pub writes_to : RunsAreSafe → NoDeliveryIsRefusedOddly → (past : Past) (input : Option (List ℕ)) (bytes : List ℕ) (script : Script) (stage : Stage) (refused : ℕ) (old now : Option (List ℕ)) → IfSome input (λ all. bytes ≡ all)
     → IsScript bytes script → length stage.nodes ≡ script.header.count → HasPlayed past script.header script.calls stage refused old now
-    → WritesTo past input old now (record { refused = refused; logs = map log_of stage.nodes })
+    → WritesTo past input old now (record { refused = refused; stage = stage })
 writes_to safe odd past None bytes script stage refused old now same spelled count p = tt
 writes_to safe odd past (Some all) bytes script stage refused old now same spelled count p = (
   trace_text (numbered script.calls) (map outcome_of p.answers),
@@ -462,7 +461,7 @@ writes_to safe odd past (Some all) bytes script stage refused old now same spell
       spelled = subst (λ (b : List ℕ). IsScript b script) same spelled;
       trace = traced safe odd past script.header script.calls stage refused old now p;
     };
-    logs_are = shown_logs script.header stage (last p.reached.run) p.reached.shown count;
+    shown = p.reached.shown;
   },
   p.written,
 )
@@ -491,7 +490,7 @@ writes_first past (Some all) bytes script first others refused text old now same
 pub writes_after : RunsAreSafe → NoDeliveryIsRefusedOddly → (past : Past) (input : Option (List ℕ)) (bytes : List ℕ) (script : Script) (ended : RunEnd) (old now : Option (List ℕ)) → IfSome input (λ all. bytes ≡ all)
     → IsScript bytes script → HasPlayedAll past script ended old now → WritesTo past input old now ended
 writes_after safe odd past input bytes script ended old now same spelled p =
-    subst (WritesTo past input old now) (λ i. record { refused = ended.refused; logs = sym p.logs_are i })
+    subst (WritesTo past input old now) (λ i. record { refused = ended.refused; stage = sym p.stage_is i })
     (writes_to safe odd past input bytes script p.stage ended.refused old now same spelled p.nodes p.played)
 
 -- or the first calls

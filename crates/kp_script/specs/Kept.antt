@@ -1,24 +1,27 @@
--- The files in which a run's logs are kept (own rule; of one node they are a broker's).
-use Rattle.std.specs.Prelude.{◌≡◌, ℕ, ◌+◌, List, [], ◌∷◌, ◌++◌, take, Option, codes}
-use Rattle.std.specs.Fmt.{decimal}
+-- What is kept of a run's last stage (own rule).
+use Rattle.std.specs.Prelude.{ℕ, ◌^◌, nat_lt, List, [], ◌∷◌, Option, Some, None, if◌then◌else◌}
 use Rattle.kp_types.specs.Folders.{Entry, Puts, PutsFront}
-use Rattle.kp_log.specs.Files.{AreFilesOf}
-use Rattle.kp_log.specs.Partition.{Partition}
+use Rattle.kp_folder.specs.Kept.{KeepsRun, KeepsRunFront}
+use Rattle.kp_replica.specs.NumberedNode.{NumberedNode}
+use Rattle.kp_world.specs.Shown.{Stage, next_number}
 
--- the name of a node's folder
-abbrev pub node_folder : ℕ → List ℕ
-node_folder node = codes "node-" ++ decimal node
+-- how many messages were sent, which is told where it is a number that a script can name
+abbrev pub messages_kept : Stage → Option ℕ
+messages_kept stage = if nat_lt (next_number stage) (2 ^ 31) then Some (next_number stage) else None
 
--- A folder for each node, in the order of their numbers from this one on, and in it the files of the node's log.
-abbrev pub AreFilesOfNodes : ℕ → List Partition → List Entry → Type 0
-AreFilesOfNodes node [] entries = entries ≡ []
-AreFilesOfNodes node (p ∷ ps) entries =
-    (files others : List Entry) × AreFilesOf (node_folder node) p.limits p.log files × AreFilesOfNodes (node + 1) ps others × (entries ≡ files ++ others)
+-- where there are nodes
+abbrev pub KeepsNodes : List NumberedNode → Stage → Option (List Entry) → Option (List Entry) → Type 0
+KeepsNodes [] stage old new = Puts old new []
+KeepsNodes (m ∷ ms) stage old new = KeepsRun stage.controller stage.nodes (messages_kept stage) old new
 
--- the files of these logs, of the nodes from 0 on, have come behind the known entries
-abbrev pub KeepsLogs : Option (List Entry) → Option (List Entry) → List Partition → Type 0
-KeepsLogs old new logs = (entries : List Entry) × AreFilesOfNodes 0 logs entries × Puts old new entries
+abbrev pub KeepsNodesFront : List NumberedNode → Stage → Option (List Entry) → Option (List Entry) → Type 0
+KeepsNodesFront [] stage old new = PutsFront old new []
+KeepsNodesFront (m ∷ ms) stage old new = KeepsRunFront stage.controller stage.nodes (messages_kept stage) old new
 
--- or a beginning of those of the first nodes
-abbrev pub KeepsLogsFront : Option (List Entry) → Option (List Entry) → List Partition → Type 0
-KeepsLogsFront old new logs = (count : ℕ) × (entries : List Entry) × AreFilesOfNodes 0 (take count logs) entries × PutsFront old new entries
+-- The controller's record, and each node's log and state, have come behind the known entries; nothing where there is no node.
+abbrev pub KeepsStage : Stage → Option (List Entry) → Option (List Entry) → Type 0
+KeepsStage stage = KeepsNodes stage.nodes stage
+
+-- or a beginning of the record and of the first nodes
+abbrev pub KeepsStageFront : Stage → Option (List Entry) → Option (List Entry) → Type 0
+KeepsStageFront stage = KeepsNodesFront stage.nodes stage

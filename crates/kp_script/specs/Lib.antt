@@ -9,8 +9,8 @@ pub mod Trace
 pub mod Told
 pub mod Transcript
 pub mod Ended
-pub mod Playing
 pub mod Kept
+pub mod Playing
 pub mod Reads
 pub mod Parsed
 pub mod Piped

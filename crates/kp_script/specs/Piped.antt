@@ -6,11 +6,11 @@ use Rattle.std.specs.Io.KnownBytes.{Appends}
 use Rattle.kp_types.specs.Texts.{refusal_text}
 use Rattle.kp_types.specs.declared.refusal.Refusal.{Refusal}
 use Rattle.kp_types.specs.declared.refusal.Refusal.TheVariants.{BadScript}
-use Rattle.kp_log.specs.Partition.{Partition}
 use Rattle.kp_model.specs.Event.{Outcome}
 use Rattle.kp_model.specs.Run.{last}
+use Rattle.kp_world.specs.Shown.{IsShown, Stage}
 use Rattle.kp_script.specs.Call.{Call, Header, node_of, IsHeaderText, IsCallText, SpellsNoHeader, SpellsNoCall}
-use Rattle.kp_script.specs.Ended.{RunEnd, logs_in}
+use Rattle.kp_script.specs.Ended.{RunEnd, limits_in, no_stage}
 use Rattle.kp_script.specs.Lines.{sent_lines, is_passed_over}
 use Rattle.kp_script.specs.Reads.{Reads, ReadsInto}
 use Rattle.kp_script.specs.Trace.{trace_line}
@@ -89,7 +89,7 @@ pub record IsHeadless (all : List (ℕ × Option (List ℕ))) (text : List ℕ) 
   pub no_header : AllByRecursion IsNoHeader all
   pub text_is : text ≡ fault_lines all
   pub refused_is : ended.refused ≡ length all
-  pub logs_are : ended.logs ≡ []
+  pub stage_is : ended.stage ≡ no_stage
 
 -- The header has come: the calls have a trace, and the answers are its lines, with the faults of the other lines between them.
 pub record IsHeaded (all : List (ℕ × Option (List ℕ))) (text : List ℕ) (ended : RunEnd) : Type 0 where
@@ -99,9 +99,9 @@ pub record IsHeaded (all : List (ℕ × Option (List ℕ))) (text : List ℕ) (e
   pub trace : IsTraceOf no_past heard.header.count (calls_in heard.said) plain refused
   pub text_is : text ≡ fault_lines heard.before ++ answers_text heard.said trace.outcomes
   pub refused_is : ended.refused ≡ (length heard.before + faults_among heard.said) + refused
-  pub logs_are : ended.logs ≡ logs_in heard.header (last trace.played.run)
+  pub shown : IsShown (limits_in heard.header) ended.stage (last trace.played.run)
 
--- The text answers these lines that count, so many answers are refusals, and the run of the calls leaves these logs.
+-- The text answers these lines that count, so many answers are refusals, and the run of the calls leaves this stage.
 abbrev pub IsPiped : (all : List (ℕ × Option (List ℕ))) → (text : List ℕ) → RunEnd → Type 0
 IsPiped all text ended = IsHeadless all text ended ⊎ IsHeaded all text ended
 
@@ -123,28 +123,28 @@ pub record PipesTo (input old new : Option (List ℕ)) (ended : RunEnd) : Type 0
   pub piped : IsPiped (counted_in read) text ended
   pub written : Appends old new text
 
--- These lines were answered by this text, and the line behind them by none that is out; the logs are those of all of them.
-pub record EndsBehind (read : List (Option (List ℕ))) (text : List ℕ) (line : Option (List ℕ)) (logs : List Partition) : Type 0 where
+-- These lines were answered by this text, and the line behind them by none that is out; the stage is that of all of them.
+pub record EndsBehind (read : List (Option (List ℕ))) (text : List ℕ) (line : Option (List ℕ)) (stage : Stage) : Type 0 where
   pub answer : List ℕ
   pub ended : RunEnd
   pub piped : IsPiped (counted_in (read ++ line ∷ [])) (text ++ answer) ended
-  pub logs_are : logs ≡ ended.logs
+  pub stage_is : stage ≡ ended.stage
 
--- Lines have been read, and the known bytes grew by the answers to all of them: but for one, the last, at most. The logs are those of the
+-- Lines have been read, and the known bytes grew by the answers to all of them: but for one, the last, at most. The stage is that of the
 -- lines that were answered, or of these and the last one.
-pub record PipesFirst (input left old new : Option (List ℕ)) (logs : List Partition) : Type 0 where
+pub record PipesFirst (input left old new : Option (List ℕ)) (stage : Stage) : Type 0 where
   pub read : List (Option (List ℕ))
   pub text : List ℕ
   pub ended : RunEnd
   pub piped : IsPiped (counted_in read) text ended
   pub written : Appends old new text
   pub last_read :
-      (ReadsInto input left read × (logs ≡ ended.logs))
-      ⊎ ((line : Option (List ℕ)) × Reads input left (read ++ line ∷ []) × ((logs ≡ ended.logs) ⊎ EndsBehind read text line logs))
+      (ReadsInto input left read × (stage ≡ ended.stage))
+      ⊎ ((line : Option (List ℕ)) × Reads input left (read ++ line ∷ []) × ((stage ≡ ended.stage) ⊎ EndsBehind read text line stage))
 
--- Lines have been read, and the known bytes grew by the answers to all of them, of the last one's by a beginning alone. The logs are those
+-- Lines have been read, and the known bytes grew by the answers to all of them, of the last one's by a beginning alone. The stage is that
 -- of all lines.
-pub record PipesFront (input left old new : Option (List ℕ)) (logs : List Partition) : Type 0 where
+pub record PipesFront (input left old new : Option (List ℕ)) (stage : Stage) : Type 0 where
   pub read : List (Option (List ℕ))
   pub line : Option (List ℕ)
   pub last_read : Reads input left (read ++ line ∷ [])
@@ -152,7 +152,7 @@ pub record PipesFront (input left old new : Option (List ℕ)) (logs : List Part
   pub answer : List ℕ
   pub ended : RunEnd
   pub piped : IsPiped (counted_in (read ++ line ∷ [])) (text ++ answer) ended
-  pub logs_are : logs ≡ ended.logs
+  pub stage_is : stage ≡ ended.stage
   pub earlier : RunEnd
   pub before : IsPiped (counted_in read) text earlier
   pub n : ℕ

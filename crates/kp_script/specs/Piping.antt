@@ -3,8 +3,8 @@ use Rattle.std.specs.Prelude.{◌≡◌, ◌⊎◌, ℕ, ◌+◌, List, [], ◌�
 use Rattle.std.specs.List.{AllByRecursion}
 use Rattle.kp_types.specs.Devices.{AppendsFront}
 use Rattle.kp_world.specs.Answers.{outcome_of}
-use Rattle.kp_log.specs.Partition.{Partition}
-use Rattle.kp_world.specs.Shown.{Stage, log_of}
+use Rattle.kp_world.specs.Shown.{Stage}
+use Rattle.kp_script.specs.Ended.{no_stage}
 use Rattle.kp_script.specs.Piped.{Heard, IsNoHeader, answers_text, calls_in, counts, fault_lines, faults_among}
 use Rattle.kp_script.specs.Playing.{HasPlayed}
 use Rattle.kp_script.specs.Transcript.{no_past}
@@ -35,10 +35,10 @@ StandsOn line old new refused answer =
 abbrev pub HasNodes : Option Running → Type 0
 HasNodes running = IfSome running (λ some. (length some.world.nodes ≡ some.count) × (some.world.first ≡ 0))
 
--- the nodes' logs, where there are nodes
-abbrev pub logs_of : Option Running → List Partition
-logs_of None = []
-logs_of (Some running) = map log_of running.world.nodes
+-- the stage that it has come to
+abbrev pub stage_of : Option Running → Stage
+stage_of None = no_stage
+stage_of (Some running) = running.world
 
 -- A pipe that was cut off at this line stands as it stood before it, or as behind some answer to it.
 abbrev pub StandsCut : (line : ℕ × Option (List ℕ)) → (old new : Option Running) → Type 0

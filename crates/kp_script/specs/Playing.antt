@@ -10,7 +10,7 @@ use Rattle.kp_model.specs.Event.{Event, Outcome}
 use Rattle.kp_model.specs.Handed.{IsAtMost}
 use Rattle.kp_world.specs.Answers.{outcome_of}
 use Rattle.kp_world.specs.Plays.{IsReached, LeadOn}
-use Rattle.kp_world.specs.Shown.{Stage, log_of}
+use Rattle.kp_world.specs.Shown.{Stage}
 use Rattle.kp_world.specs.declared.event.EventAnswer.{EventAnswer}
 use Rattle.kp_script.specs.Call.{Call, Deliver, Header, IsCall, node_of}
 use Rattle.kp_script.specs.Ended.{RunEnd, limits_in}
@@ -119,7 +119,7 @@ pub record HasPlayedAll (past : Past) (script : Script) (ended : RunEnd) (old no
   pub stage : Stage
   pub nodes : length stage.nodes ≡ script.header.count
   pub played : HasPlayed past script.header script.calls stage ended.refused old now
-  pub logs_are : ended.logs ≡ map log_of stage.nodes
+  pub stage_is : ended.stage ≡ stage
 
 -- The first ones have.
 pub record HasPlayedFirst (past : Past) (script : Script) (old now : Option (List ℕ)) : Type 0 where

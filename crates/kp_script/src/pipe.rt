@@ -9,7 +9,7 @@ ghost use Rattle.kp_world.specs.Shown.{IsShown};
 ghost use Rattle.kp_script.specs.Call.{IsHeader};
 ghost use Rattle.kp_script.specs.Ended.{limits_in};
 ghost use Rattle.kp_script.specs.Piped.{PipesFirst, PipesFront, PipesTo, counts, fault_line, refused_in};
-ghost use Rattle.kp_script.specs.Piping.{AnswersFront, HasNodes, StandsCut, StandsOn, Unanswered, logs_of};
+ghost use Rattle.kp_script.specs.Piping.{AnswersFront, HasNodes, StandsCut, StandsOn, Unanswered, stage_of};
 ghost use Rattle.kp_script.specs.Reads.{Reads, kept_of, read_faults, reader_of};
 ghost use Rattle.kp_script.specs.Seen.{seen_header};
 
@@ -51,24 +51,25 @@ pub struct CutPipe {
 }
 
 impl Model for Piped {
-    ghost use Rattle.kp_script.specs.Ended.{RunEnd, logs_left};
+    ghost use Rattle.kp_script.specs.Ended.{RunEnd, stage_left};
 
     ghost Value = { RunEnd };
 
     ghost view = { λ piped. record {
       refused = piped.refused;
-      logs = logs_left piped.ended;
+      stage = stage_left piped.ended;
     } };
 }
 
 impl Piped {
-    ghost use Rattle.std.specs.Prelude.{◌≡◌, ◌+◌, ◌<◌, ◌^◌, [], IfErr, OnOk, OnErr};
+    ghost use Rattle.std.specs.Prelude.{◌≡◌, ◌+◌, ◌<◌, ◌^◌, IfErr, OnOk, OnErr};
     ghost use Rattle.kp_types.specs.Devices.{CountsFaults, IsDeviceFault, device_of, faults_of};
-    ghost use Rattle.kp_script.specs.Kept.{KeepsLogs, KeepsLogsFront};
+    ghost use Rattle.kp_script.specs.Ended.{no_stage};
+    ghost use Rattle.kp_script.specs.Kept.{KeepsStage, KeepsStageFront};
 
     /// What a pipe leaves that has read nothing.
     pub fn none() -> Piped
-        ensures { result ≡ record { refused = 0; logs = [] } }
+        ensures { result ≡ record { refused = 0; stage = no_stage } }
     {
         Piped {
             refused: 0,
@@ -83,22 +84,22 @@ impl Piped {
         self.refused
     }
 
-    /// Puts the nodes' logs into the folder, as [`Ended::write_logs`] does; nothing where no header came.
-    pub fn write_logs<F: Folder>(
+    /// Puts what it leaves into the folder, as [`Ended::write_left`] does; nothing where no header came.
+    pub fn write_left<F: Folder>(
         &self,
         alloc: Global,
         folder: &mut Counted<F>,
     ) -> Result<(), Refusal>
         requires { faults_of folder.old + 1 < 2 ^ 64 }
-        ensures ok { OnOk result (KeepsLogs (F.entries (device_of folder.old))
-            (F.entries (device_of folder.new)) self.now.logs) }
-        ensures err { OnErr result (KeepsLogsFront (F.entries (device_of folder.old))
-            (F.entries (device_of folder.new)) self.now.logs) }
+        ensures ok { OnOk result (KeepsStage self.now.stage (F.entries (device_of folder.old))
+            (F.entries (device_of folder.new))) }
+        ensures err { OnErr result (KeepsStageFront self.now.stage (F.entries (device_of folder.old))
+            (F.entries (device_of folder.new))) }
         ensures only { IfErr result IsDeviceFault }
         ensures counted { CountsFaults result (faults_of folder.old) (faults_of folder.new) }
     {
         match &self.ended {
-            Some(ended) => ended.write_logs(alloc, folder),
+            Some(ended) => ended.write_left(alloc, folder),
             None => Ok(()),
         }
     }
@@ -305,7 +306,7 @@ fn left(refused: u64, running: Option<Running>) -> Piped
     requires nodes { HasNodes running }
     requires some { IfSome running (λ nodes. 0 < nodes.count) }
     requires most { IfSome running (λ nodes. nodes.count ≤ 7) }
-    ensures { result ≡ record { refused = refused; logs = logs_of running } }
+    ensures { result ≡ record { refused = refused; stage = stage_of running } }
 {
     let ended = match running {
         Some(nodes) => Some(Ended::new(refused, nodes.count, nodes.world)),
@@ -320,7 +321,7 @@ fn cut_off(refusal: Refusal, refused: u64, running: Option<Running>) -> CutPipe
     requires some { IfSome running (λ nodes. 0 < nodes.count) }
     requires most { IfSome running (λ nodes. nodes.count ≤ 7) }
     ensures refusal { result.refusal ≡ refusal }
-    ensures piped { result.piped ≡ record { refused = refused; logs = logs_of running } }
+    ensures piped { result.piped ≡ record { refused = refused; stage = stage_of running } }
 {
     CutPipe {
         refusal,
@@ -347,10 +348,10 @@ pub fn play_pipe<R: BufRead, W: Write>(
         (W.contents (device_of writer.old)) (W.contents (device_of writer.new)) ended) }
     ensures cut { IfErr result (λ cut. ((faults_of writer.new ≡ faults_of writer.old)
         × PipesFirst (R.remaining (reader_of reader.old)) (R.remaining (reader_of reader.new))
-        (W.contents (device_of writer.old)) (W.contents (device_of writer.new)) cut.piped.logs)
+        (W.contents (device_of writer.old)) (W.contents (device_of writer.new)) cut.piped.stage)
         ⊎ ((faults_of writer.new ≡ faults_of writer.old + 1)
         × PipesFront (R.remaining (reader_of reader.old)) (R.remaining (reader_of reader.new))
-        (W.contents (device_of writer.old)) (W.contents (device_of writer.new)) cut.piped.logs)) }
+        (W.contents (device_of writer.old)) (W.contents (device_of writer.new)) cut.piped.stage)) }
     ensures only { IfErr result (λ cut. IsDeviceFault cut.refusal) }
     ensures counted { CountsOne (refused_in result) (read_faults reader.old) (read_faults reader.new)
         (faults_of writer.old) (faults_of writer.new) }

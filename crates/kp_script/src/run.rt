@@ -5,7 +5,7 @@ ghost use Rattle.std.specs.List.{AllByRecursion};
 ghost use Rattle.kp_types.specs.declared.refusal.Refusal.TheVariants.{BadScript, Device as DeviceFault, Memory as WantOfMemory};
 ghost use Rattle.kp_types.specs.Devices.{CountsFaults, CountsOne, IsDeviceFault, device_of, faults_of};
 ghost use Rattle.kp_script.specs.Call.{Call as SpelledCall, Acts, Deliver, Elect, IsHeader, Raw};
-ghost use Rattle.kp_script.specs.Ended.{limits_in, AreLimited, WritesTo};
+ghost use Rattle.kp_script.specs.Ended.{limits_in, AreLimited, WritesTo, logs_of};
 ghost use Rattle.kp_script.specs.Playing.{BeginFrom, Front, HasPlayedAll, HasPlayedFirst, IsFirstWhole, IsWithin, LedTo, MayPlay, PlayTo, PlaysLine, TellsLine, WereSmall, left_in};
 ghost use Rattle.kp_script.specs.Hex.{bytes_of};
 ghost use Rattle.kp_script.specs.Parsed.{IsScriptOf, calls_in, seen_script};
@@ -34,14 +34,16 @@ const TEXT_AT_ONCE: usize = 65_536;
 
 /// What a run uses again and again: what spells its batches, and the text of some lines of its trace.
 #[derive(Drop)]
-pub(crate) struct Work {
-    pub(crate) speller: Speller,
-    pub(crate) text: Vec<u8>,
+pub struct Work {
+    /// What spells the batches.
+    pub speller: Speller,
+    /// The text, behind which each event's line is put.
+    pub text: Vec<u8>,
 }
 
 impl Work {
     /// No text, with this to spell batches.
-    pub(crate) fn new(alloc: Global, speller: Speller) -> Work
+    pub fn new(alloc: Global, speller: Speller) -> Work
         ensures { result.text.items ≡ [] }
     {
         Work {
@@ -59,7 +61,7 @@ pub(crate) struct Played {
 }
 
 /// The limits of the log that the header asks for.
-pub(crate) fn limits_of(header: &Header) -> Limits
+pub fn limits_of(header: &Header) -> Limits
     ensures { result ≡ limits_in (seen_header header.now) }
 {
     Limits {
@@ -253,7 +255,7 @@ fn play_other<'a>(
 
 /// Makes the line's event happen in the world, and puts its line of the trace behind the text. Answers 1 where it was refused, and
 /// else 0. F33. Most lines are appends of one value: those have a way of their own, which has nothing to test.
-pub(crate) fn play_line<'a>(
+pub fn play_line<'a>(
     alloc: Global,
     line: Line<'a>,
     world: &mut World,
@@ -388,7 +390,7 @@ fn play_on<W: Write>(
     ensures played { IfOk result (λ ended. (past : Past) → LedTo past (seen_header script.header) world
         → HasPlayedAll past (seen_script script) ended (W.contents (device_of writer.old)) (W.contents (device_of writer.new))) }
     ensures limited { IfOk result (λ ended. (past : Past) → LedTo past (seen_header script.header) world
-        → WereSmall past → AreLimited ended.logs) }
+        → WereSmall past → AreLimited (logs_of ended.stage)) }
     ensures first { result ≡ Err WantOfMemory → (past : Past) → LedTo past (seen_header script.header) world
         → HasPlayedFirst past (seen_script script) (W.contents (device_of writer.old)) (W.contents (device_of writer.new)) }
     ensures front { OnErr result ((past : Past) → LedTo past (seen_header script.header) world
@@ -433,7 +435,7 @@ pub fn play_script<R: Read, W: Write>(
     requires writes { faults_of writer.old + 1 < 2 ^ 64 }
     ensures played { IfOk result (λ ended. WritesTo no_past (R.remaining (device_of reader.old))
         (W.contents (device_of writer.old)) (W.contents (device_of writer.new)) ended) }
-    ensures limited { IfOk result (λ ended. AreLimited ended.logs) }
+    ensures limited { IfOk result (λ ended. AreLimited (logs_of ended.stage)) }
     ensures fault { (line : ℕ) → result ≡ Err (BadScript line)
         → IfSome (R.remaining (device_of reader.old)) (λ input. IsFaultAt input line) }
     ensures untouched { (line : ℕ) → result ≡ Err (BadScript line) → writer.new ≡ writer.old }

@@ -1,12 +1,13 @@
 -- What the program's record, nodes and messages show of a world.
-use Rattle.std.specs.Prelude.{◌≡◌, ℕ, ◌+◌, ◌<◌, ◌≤◌, List, ◌++◌, drop, length, map, slice_index_or, slice_set, Result, Ok, Err}
+use Rattle.std.specs.Prelude.{◌≡◌, ℕ, ◌+◌, ◌<◌, ◌≤◌, List, ◌++◌, drop, length, map, slice_get, slice_index_or, slice_set, Option, Result, Ok, Err}
+use Rattle.std.specs.Option.{option_and_then}
 use Rattle.kp_types.specs.declared.limits.Limits.{Limits}
 use Rattle.kp_types.specs.declared.refusal.Refusal.{Refusal}
 use Rattle.kp_log.specs.Partition.{Partition}
 use Rattle.kp_model.specs.Log.{Batch}
 use Rattle.kp_model.specs.World.{LeaderAndIsr, Node, World}
 use Rattle.kp_model.specs.Event.{Event, Elect, Acts, Deliver}
-use Rattle.kp_model.specs.Letter.{Letter, letter_of}
+use Rattle.kp_model.specs.Letter.{Letter, goes_to, letter_of}
 use Rattle.kp_replica.specs.NumberedNode.{NumberedNode}
 use Rattle.kp_replica.specs.Acts.{NamesIn, letters_in}
 use Rattle.kp_replica.specs.declared.act.Effect.{Effect}
@@ -29,6 +30,10 @@ pub record Stage : Type 0 where
 -- the number of the next message
 abbrev pub next_number : Stage → ℕ
 next_number stage = stage.first + length stage.letters
+
+-- to which node the letter at a place goes; none where it goes to the controller, or there is none
+abbrev pub addressee_at : List Letter → ℕ → Option ℕ
+addressee_at letters place = option_and_then goes_to (slice_get letters place)
 
 -- what is left where the node at a place came to be this one, with this outcome
 abbrev pub next : Stage → ℕ → NumberedNode → Result Effect Refusal → Stage

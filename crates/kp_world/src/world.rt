@@ -1,6 +1,6 @@
 //! The controller's record, the nodes, and a run over events.
 
-ghost use Rattle.std.specs.Prelude.{◌≡◌, ◌+◌, ◌<◌, ◌≤◌, ◌++◌, ℕ, List, [], ◌∷◌, length, map, take, IfOk, IfErr, OnErr, OnOk, slice_index_or, vec_capacity};
+ghost use Rattle.std.specs.Prelude.{◌≡◌, ◌+◌, ◌<◌, ◌≤◌, ◌^◌, ◌++◌, ℕ, List, [], ◌∷◌, length, map, take, IfNone, IfOk, IfErr, IfSome, OnErr, OnOk, slice_index_or, vec_capacity};
 ghost use Rattle.std.specs.List.{AllByRecursion};
 ghost use Rattle.kp_types.specs.declared.limits.Limits.{Limits as LogLimits};
 ghost use Rattle.kp_model.specs.World.{start};
@@ -16,7 +16,8 @@ ghost use Rattle.kp_world.specs.declared.event.Event.TheVariants.{Acts as EventA
 ghost use Rattle.kp_world.specs.Events.{AreEvents, IsAmong, IsEvent};
 ghost use Rattle.kp_world.specs.Plays.{AnswersFirst, IsAnswered, LeadOn, PlaysFirst};
 ghost use Rattle.kp_replica.specs.NumberedNode.{NumberedNode};
-ghost use Rattle.kp_world.specs.Shown.{IsShown, log_of};
+ghost use Rattle.kp_replica.specs.Broker.{node_at};
+ghost use Rattle.kp_world.specs.Shown.{IsShown, addressee_at, log_of, next_number};
 
 use crate::event::{Event, EventAnswer, Stopped, Trace};
 use kp_batch::Handed;
@@ -203,6 +204,28 @@ impl World {
         })
     }
 
+    /// The controller's record. O(1).
+    pub fn controller(&self) -> &LeaderAndIsr
+        ensures { record_of result.now ≡ self.now.controller }
+    {
+        &self.controller
+    }
+
+    /// The nodes, by their numbers. O(1).
+    pub fn nodes(&self) -> &[Broker]
+        ensures { map node_at result.now ≡ self.now.nodes }
+    {
+        &self.nodes
+    }
+
+    /// The number of the next message: how many were sent, by this process and by those before it. None where it is above 2^64 - 1. O(1).
+    pub fn next_number(&self) -> Option<u64>
+        ensures some { IfSome result (λ number. number ≡ next_number self.now) }
+        ensures none { IfNone result (2 ^ 64 ≤ next_number self.now) }
+    {
+        self.first.checked_add(self.sent() as u64)
+    }
+
     /// The log of a node, up or down, settled up to the node's high watermark. O(1).
     pub fn log(&self, node: NodeId) -> &PartitionLog
         requires { node < length self.now.nodes }
@@ -210,6 +233,25 @@ impl World {
             ≡ log_of (slice_index_or self.now.nodes node other) }
     {
         self.nodes[usize::from(node)].log()
+    }
+
+    /// How many messages were sent since this process began: the last of them has this number, less 1, behind those of processes
+    /// that have ended. O(1).
+    pub fn sent(&self) -> usize
+        ensures { result ≡ length self.now.letters }
+    {
+        self.messages.len()
+    }
+
+    /// The node to which the message at this place goes, of those that were sent since this process began; none where it goes to
+    /// the controller, or there is no such message. O(1).
+    pub fn addressee(&self, place: usize) -> Option<NodeId>
+        ensures { result ≡ addressee_at self.now.letters place }
+    {
+        match self.messages.get(place) {
+            Some(body) => body.addressee(),
+            None => None,
+        }
     }
 
     /// The controller elects this node, and the record that it has then is told: what [`World::step`] does with that event. F21

@@ -6,7 +6,7 @@ use Rattle.kp_types.specs.Devices.{device_of, faults_of}
 use Rattle.kp_types.specs.declared.counted.Counted.{Counted}
 use Rattle.kp_script.specs.Ended.{RunEnd}
 use Rattle.kp_script.specs.Piped.{PipesFirst, PipesFront, PipesTo, counted_in}
-use Rattle.kp_script.specs.Piping.{Stands, StandsOn, logs_of}
+use Rattle.kp_script.specs.Piping.{Stands, StandsOn, stage_of}
 use Rattle.kp_script.specs.Reads.{Reads, reader_of}
 use Rattle.kp_script.specs.declared.pipe.Running.{Running}
 use Rattle.kp_script.proofs.Answering.{counted_push, cut_somewhere, most_nodes, pipes_first, pipes_front, pipes_to, reads_more, reads_nothing, reads_whole, some_nodes}
@@ -50,12 +50,12 @@ returns-in-Ok-None-clause-piped g c =
     let old = g.W.Write.contents (device_of c.args.writer.now) in
     let now = g.W.Write.contents (device_of c.answer_next.new.writer) in
     let refused = c.loop-read.refused in
-    let piped : PipesTo a old (g.W.Write.contents (device_of c.loop-read.writer)) (record { refused = refused; logs = logs_of c.loop-read.running }) =
+    let piped : PipesTo a old (g.W.Write.contents (device_of c.loop-read.writer)) (record { refused = refused; stage = stage_of c.loop-read.running }) =
     pipes_to c.runs_keep_count.ensures c.runs_are_safe.ensures c.no_delivery_is_refused_oddly.ensures a (g.R.Read.remaining (reader_of c.loop-read.reader))
     (g.R.Read.remaining (reader_of c.answer_next.new.reader)) old (g.W.Write.contents (device_of c.loop-read.writer)) t.0 t.1 refused c.loop-read.running t.3 t.4 t.5 (c.in-Ok-None.ensures.end none) in
     subst (λ (ended : RunEnd). PipesTo a old now ended) (sym c.left.ensures)
-    (subst (λ (running : Option Running). PipesTo a old now (record { refused = refused; logs = logs_of running })) (sym (c.in-Ok-None.ensures.same none))
-    (subst (λ (w : Counted g.row.W.Denot). PipesTo a old (g.W.Write.contents (device_of w)) (record { refused = refused; logs = logs_of c.loop-read.running }))
+    (subst (λ (running : Option Running). PipesTo a old now (record { refused = refused; stage = stage_of running })) (sym (c.in-Ok-None.ensures.same none))
+    (subst (λ (w : Counted g.row.W.Denot). PipesTo a old (g.W.Write.contents (device_of w)) (record { refused = refused; stage = stage_of c.loop-read.running }))
     (sym (c.in-Ok-None.ensures.quiet none)) piped))
 
 pub returns-in-Err-clause-cut : goal.returns-in-Err-clause-cut
@@ -68,12 +68,12 @@ returns-in-Err-clause-cut g c =
     let mid = g.W.Write.contents (device_of c.loop-read.writer) in
     let now = g.W.Write.contents (device_of c.answer_next.new.writer) in
     let number : c.loop-read.read + 1 ≡ length t.0 + 1 = omega (arith, t.2) in
-    subst (λ (ended : RunEnd). ((faults_of c.answer_next.new.writer ≡ faults_of c.args.writer.now) × PipesFirst a left old now ended.logs)
-    ⊎ ((faults_of c.answer_next.new.writer ≡ faults_of c.args.writer.now + 1) × PipesFront a left old now ended.logs)) (sym c.cut_off.ensures.piped) (
+    subst (λ (ended : RunEnd). ((faults_of c.answer_next.new.writer ≡ faults_of c.args.writer.now) × PipesFirst a left old now ended.stage)
+    ⊎ ((faults_of c.answer_next.new.writer ≡ faults_of c.args.writer.now + 1) × PipesFront a left old now ended.stage)) (sym c.cut_off.ensures.piped) (
     elim c.in-Err.ensures.cut [
       | inl u ↦ inl (
         ap (λ (w : Counted g.row.W.Denot). faults_of w) u.0 ∙ c.loop-read.invariant.written_same,
-        subst (λ (w : Counted g.row.W.Denot). PipesFirst a left old (g.W.Write.contents (device_of w)) (logs_of c.answer_next.new.running)) (sym u.0)
+        subst (λ (w : Counted g.row.W.Denot). PipesFirst a left old (g.W.Write.contents (device_of w)) (stage_of c.answer_next.new.running)) (sym u.0)
             (pipes_first c.runs_keep_count.ensures c.runs_are_safe.ensures c.no_delivery_is_refused_oddly.ensures a b left old mid t.0 t.1 c.loop-read.refused c.loop-read.running t.3 t.4 t.5
             (c.loop-read.read + 1) c.answer_next.new.running number u.1),
       )
@@ -124,7 +124,7 @@ returns-clause-cut g c =
     let now = g.W.Write.contents (device_of c.loop-read.writer) in
     inl (
       c.loop-read.invariant.written_same,
-      subst (λ (ended : RunEnd). PipesFirst a b old now ended.logs) (sym c.cut_off-2.ensures.piped)
+      subst (λ (ended : RunEnd). PipesFirst a b old now ended.stage) (sym c.cut_off-2.ensures.piped)
           (pipes_first c.runs_keep_count.ensures c.runs_are_safe.ensures c.no_delivery_is_refused_oddly.ensures a b b old now t.0 t.1 c.loop-read.refused c.loop-read.running t.3 t.4 t.5
           (length t.0 + 1) c.loop-read.running refl (inl (reads_whole b b [] (reads_nothing b), refl))),
     )

@@ -1,10 +1,10 @@
 use Rattle.std.proofs.Common.{◌≡◌, ◌∙◌, ℕ, ◌+◌, List, [], ◌++◌, Option, Err, drop, length, length-append, length-drop, length-take-le, take, refl, sym, ap, subst, arith, append_assoc, append-nil}
 use Rattle.std.proofs.lemmas.Result.{err_from_is_err_and}
-use Rattle.kp_types.specs.Devices.{CountsFault, IsDeviceFault, device_of, faults_of}
+use Rattle.kp_types.specs.Devices.{CountsFault, device_of, faults_of}
 use Rattle.kp_types.specs.declared.refusal.Refusal.TheVariants as refusals
 use Rattle.std.specs.List.{AllByRecursion}
 use Rattle.kp_script.specs.Call.{Call, IsCall}
-use Rattle.kp_script.specs.Ended.{AreLimited, RunEnd}
+use Rattle.kp_script.specs.Ended.{AreLimited, RunEnd, logs_of}
 use Rattle.kp_script.proofs.Limited.{limited}
 use Rattle.kp_script.specs.Parsed.{calls_in, seen_script}
 use Rattle.kp_script.specs.Seen.{seen_header}
@@ -162,12 +162,12 @@ returns-clause-played g c = λ past led.
       nodes = c.loop-section.invariant.nodes ∙ c.requires.nodes;
       played = subst (λ (n : ℕ). HasPlayed past script.header script.calls c.loop-section.world n old now) (sym (ap (λ (e : RunEnd). e.refused) c.new.ensures))
           (subst (λ (calls : List (ℕ × Call)). HasPlayed past script.header calls c.loop-section.world c.loop-section.refused old now) whole (played.1.1 past led));
-      logs_are = ap (λ (e : RunEnd). e.logs) c.new.ensures;
+      stage_is = ap (λ (e : RunEnd). e.stage) c.new.ensures;
     }
 
 pub returns-clause-limited : goal.returns-clause-limited
 returns-clause-limited g c = λ past led small.
     let played = c.loop-section.invariant.played in
-    subst (λ (ended : RunEnd). AreLimited ended.logs) (sym c.new.ensures)
+    subst (λ (ended : RunEnd). AreLimited (logs_of ended.stage)) (sym c.new.ensures)
     (limited c.batches_keep_their_size.ensures past (seen_header c.args.script.header) played.0 c.loop-section.world c.loop-section.refused
     (g.W.Write.contents (device_of c.args.writer.now)) (g.W.Write.contents (device_of c.loop-section.writer)) (c.loop-section.invariant.nodes ∙ c.requires.nodes) small (played.1.1 past led))
