@@ -11,7 +11,7 @@ from collections import Counter
 from .chances import lines
 from .check_dumps import check_dump
 from .compare import TOP, Check, Differs, called, compare_all, same, same_lines
-from .kept_files import Head, Marker, Record, by_chance, files, marker_said, of_sizes, play, said
+from .kept_files import Head, Marker, Record, by_chance, files, marker_said, of_sizes, play, record_text, said, state_text
 from .other_library import LISTED, CorruptRecordException, DefaultRecordBatch, MemoryRecords, built, version
 
 
@@ -64,17 +64,22 @@ def check_file(where, data, run):
 
 # Runs
 
-def check_node(where, program, room, folder, run, log):
-    """Compares a node's folder with its log."""
-    wanted = files(run.limit, log)
-    same(f"{where}: files", sorted(os.listdir(folder)), list(wanted))
+def bytes_of(path):
+    with open(path, "rb") as file:
+        return file.read()
+
+
+def check_node(where, program, room, folder, run, node):
+    """Compares a node's folder with its log and its state."""
+    wanted = files(run.limit, node.log)
+    same(f"{where}: files", sorted(os.listdir(folder)), [*wanted, "state"])
+    same(f"{where}: state", bytes_of(f"{folder}/state"), state_text(node))
     tally, joined = Counter(nodes=1), b""
     for name, batches in wanted.items():
-        with open(f"{folder}/{name}", "rb") as file:
-            data = file.read()
+        data = bytes_of(f"{folder}/{name}")
         tally += check_file(f"{where}, {name}", data, batches)
         joined += data
-    check_dump(where, program, room, joined, run.limit, run.interval, log)
+    check_dump(where, program, room, joined, run.limit, run.interval, node.log)
     return tally
 
 
@@ -88,9 +93,10 @@ def check_run(program, room, script):
     out, complaint, status = called(program, "run", path, "--keep", folder)
     same("complaint and status of the run", (complaint, status), ("", run.status))
     same_lines("trace", out, run.trace)
-    nodes = {f"node-{node.number}": node.log for node in run.world.nodes}
-    same("folders", sorted(os.listdir(folder)), list(nodes))
-    found = [check_node(name, program, room, f"{folder}/{name}", run, log) for name, log in nodes.items()]
+    nodes = {f"node-{node.number}": node for node in run.world.nodes}
+    same("folders", sorted(os.listdir(folder)), [*nodes, "record"])
+    same("record", bytes_of(f"{folder}/record"), record_text(run.world))
+    found = [check_node(name, program, room, f"{folder}/{name}", run, node) for name, node in nodes.items()]
     return sum(found, Counter(runs=1))
 
 

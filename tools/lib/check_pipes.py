@@ -102,7 +102,7 @@ def left(program, session, wanted, folder):
 def check_dump(program, room, session, kept):
     """Has the first node's files dumped, joined."""
     limit, interval = limits(lawful(session.data)[0])
-    joined = b"".join(kept[name] for name in sorted(kept) if name.startswith("node-0/"))
+    joined = b"".join(kept[name] for name in sorted(kept) if name.startswith("node-0/") and name.endswith(".log"))
     with open(f"{room}/log", "wb") as file:
         file.write(joined)
     lines, status = inspect(joined, limit, interval)

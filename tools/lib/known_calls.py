@@ -69,6 +69,7 @@ Commands:
   inspect  Reads a log and prints its batches, segments and tables
   race     Runs nodes, producers and elections in threads, and prints whether all nodes agree
   pipe     Plays a script's lines from standard input, and answers each before it reads the next one
+  draw     Runs a script and prints a picture of its run, an SVG
   help     Print this message or the help of the given subcommand(s)
 
 Options:
@@ -84,7 +85,7 @@ Arguments:
   <FILE>  the script to run
 
 Options:
-      --keep <FOLDER>  an empty folder, or a new one, to keep the nodes' logs in
+      --keep <FOLDER>  an empty folder, or a new one, to keep what the nodes leave in
   -h, --help           Print help
 """
 HELP_INSPECT = """\
@@ -118,8 +119,21 @@ Plays a script's lines from standard input, and answers each before it reads the
 Usage: kpart pipe [OPTIONS]
 
 Options:
-      --keep <FOLDER>  an empty folder, or a new one, to keep the nodes' logs in
+      --keep <FOLDER>  an empty folder, or a new one, to keep what the nodes leave in
   -h, --help           Print help
+"""
+HELP_DRAW = """\
+Runs a script and prints a picture of its run, an SVG
+
+Usage: kpart draw [OPTIONS] <FILE>
+
+Arguments:
+  <FILE>  the script to draw
+
+Options:
+      --from <L>  the first line to draw [default: 1]
+      --to <L>    the last line to draw [default: 4294967295]
+  -h, --help      Print help
 """
 VERSION = "kpart 0.1.0\n"
 
@@ -149,7 +163,7 @@ def not_provided(*options):
 
 # Words that are no call, the kind that clap gives their refusal, and its text as it is shown.
 NO_CALL = {f"kpart{' ' if words else ''}{words}": (kind, text) for words, kind, text in (
-    ("", "MissingSubcommand", mistake("'kpart' requires a subcommand but one was not provided\n  [subcommands: run, inspect, race, pipe, help]", "<COMMAND>")),
+    ("", "MissingSubcommand", mistake("'kpart' requires a subcommand but one was not provided\n  [subcommands: run, inspect, race, pipe, draw, help]", "<COMMAND>")),
     ("walk x.script", "InvalidSubcommand", mistake("unrecognized subcommand 'walk'", "<COMMAND>")),
     ("run", MISSING, mistake("the following required arguments were not provided:\n  <FILE>", "run <FILE>")),
     ("run a b", UNKNOWN, unexpected("b", RUN)),
@@ -197,6 +211,12 @@ NO_CALL = {f"kpart{' ' if words else ''}{words}": (kind, text) for words, kind, 
     ("pipe --help", "DisplayHelp", HELP_PIPE),
     ("help pipe", "DisplayHelp", HELP_PIPE),
     ("pipe x", UNKNOWN, unexpected("x", "pipe [OPTIONS]")),
+    ("draw --help", "DisplayHelp", HELP_DRAW),
+    ("help draw", "DisplayHelp", HELP_DRAW),
+    ("draw", MISSING, mistake("the following required arguments were not provided:\n  <FILE>", "draw <FILE>")),
+    ("draw x --from 0", VALUE, invalid("0", "from <L>", "0 is not in 1..=4294967295")),
+    ("draw x --to 4294967296", VALUE, invalid("4294967296", "to <L>", "4294967296 is not in 1..=4294967295")),
+    ("draw x --keep kept", UNKNOWN, unexpected("--keep", "draw <FILE>")),
     ("race --nodes 0 --producers 1 --batches 0 --moves 0", VALUE, invalid("0", "nodes <N>", "0 is not in 1..=7")),
     ("race --nodes 8 --producers 1 --batches 0 --moves 0", VALUE, invalid("8", "nodes <N>", "8 is not in 1..=7")),
     ("race --nodes 257 --producers 1 --batches 0 --moves 0", VALUE, invalid("257", "nodes <N>", "257 is not in 1..=7")),
@@ -214,6 +234,7 @@ NO_FILE = {f"kpart {words}": path for words, path in (
     ("run no/such.script", "no/such.script"),
     ("run no.script --keep full", "no.script"),
     ("inspect no.log --segment 1024", "no.log"),
+    ("draw no.script --from 2", "no.script"),
 )}
 
 # Rows whose folder isn't empty

@@ -157,16 +157,11 @@ class Run(Row):
             self.kept = self.kept_by(next(scripts.ends(self.world.with_room(None), self.events, self.out.splitlines())))
 
     def kept_by(self, world):
-        """What is left once the logs of this world are kept, in the order in which it is made."""
+        """What is left once this world is kept, in the order in which it is made."""
         if not self.folder:
             return {}
-        found = dict(self.taken)
-        for number, node in enumerate(world.nodes):
-            place = f"{self.folder}/node-{number}"
-            found[place] = None
-            for name, batches in kept_files.files(self.limit, node.log).items():
-                found[f"{place}/{name}"] = b"".join(it.data for it in batches)
-        return found
+        kept = kept_files.entries_of(world, self.limit)
+        return self.taken | {f"{self.folder}/{name}": data for name, data in kept}
 
     def worlds(self, out):
         """The worlds of the rules that this beginning of a trace may leave."""

@@ -11,8 +11,10 @@ use Rattle.kp_types.specs.declared.refusal.Refusal.{Refusal}
 use Rattle.kp_types.specs.declared.refusal.Refusal.TheVariants as refusals
 use Rattle.kp_types.specs.declared.limits.Limits.{Limits}
 use Rattle.kp_types.specs.Devices.{CountsFault, IsDeviceFault, device_of}
+use Rattle.kp_draw.specs.Pictured.{WritesPictureFront}
+use Rattle.kp_draw.specs.declared.lines.Lines.{Lines}
 use Rattle.kp_inspect.specs.Inspected.{WritesFront}
-use Rattle.kp_cli.specs.Perform.{CountsOneOfThree, Inspects, RunsScript}
+use Rattle.kp_cli.specs.Perform.{CountsOneOfThree, Draws, Inspects, RunsScript}
 
 pub inspects_front : (limits : Limits) (input old new : Option (List ℕ)) (refusal : Refusal) → IsDeviceFault refusal → WritesFront limits input old new
     → Inspects limits input old new (Err refusal)
@@ -33,6 +35,15 @@ run_refused input old new (refusals.BadScript line) only fault first front = fau
 run_refused input old new refusals.Device only fault first front = front
 run_refused input old new refusals.Memory only fault first front = (first refl, front)
 run_refused input old new _ only fault first front = absurd only
+
+-- a picture that isn't drawn has come to nothing for a fault of the script or a want of memory, and else to a beginning
+pub draw_refused : (part : Lines) (input old new : Option (List ℕ)) (refusal : Refusal) → IsRunRefusal refusal
+    → ((line : ℕ) → refusal ≡ refusals.BadScript line → IfSome input (λ bytes. IsFaultAt bytes line) × Keeps old new)
+    → (refusal ≡ refusals.Memory → Keeps old new) → WritesPictureFront part input old new → Draws part input old new (Err refusal)
+draw_refused part input old new (refusals.BadScript line) only fault nothing front = fault line refl
+draw_refused part input old new refusals.Device only fault nothing front = front
+draw_refused part input old new refusals.Memory only fault nothing front = nothing refl
+draw_refused part input old new _ only fault nothing front = absurd only
 
 -- a writer that is the same keeps what it holds
 pub same_kept : {W : Type 0} (contents : W → Option (List ℕ)) (a b : Counted W) → b ≡ a → Keeps (contents (device_of a)) (contents (device_of b))

@@ -9,7 +9,7 @@ use Rattle.kp_types.specs.declared.counted.Counted.{Counted}
 use Rattle.kp_types.specs.declared.refusal.Refusal.{Refusal}
 use Rattle.kp_types.specs.declared.refusal.Refusal.TheVariants as refusals
 use Rattle.kp_types.specs.Devices.{CountsOne, IsDeviceFault, device_of, faults_of}
-use Rattle.kp_script.specs.Ended.{RunEnd}
+use Rattle.kp_script.specs.Ended.{RunEnd, no_stage}
 use Rattle.kp_script.specs.Piped.{PipesFirst, PipesFront, PipesTo, refused_in}
 use Rattle.kp_script.specs.Reads.{ReadsInto}
 use Rattle.kp_script.specs.declared.pipe.CutPipe.{CutPipe}
@@ -32,19 +32,19 @@ failed _ read read_new written written_new only counted rose = absurd only
 -- what was played of an input is what it leaves
 pub answers : {W : Type 0} (held : W → Option (List ℕ)) (input known left : Option (List ℕ)) (out out_new : Counted W) (read read_new : ℕ) (r : Result RunEnd CutPipe) → known ≡ input
     → IfOk r (λ ended. PipesTo known (held (device_of out)) (held (device_of out_new)) ended)
-    → IfErr r (λ cut. ((faults_of out_new ≡ faults_of out) × PipesFirst known left (held (device_of out)) (held (device_of out_new)) cut.piped.logs)
-    ⊎ ((faults_of out_new ≡ faults_of out + 1) × PipesFront known left (held (device_of out)) (held (device_of out_new)) cut.piped.logs))
+    → IfErr r (λ cut. ((faults_of out_new ≡ faults_of out) × PipesFirst known left (held (device_of out)) (held (device_of out_new)) cut.piped.stage)
+    ⊎ ((faults_of out_new ≡ faults_of out + 1) × PipesFront known left (held (device_of out)) (held (device_of out_new)) cut.piped.stage))
     → IfErr r (λ cut. IsDeviceFault cut.refusal) → CountsOne (refused_in r) read read_new (faults_of out) (faults_of out_new) → Answers held input out out_new r
 answers held input known left out out_new read read_new (Ok ended) same to cut only counted =
     (subst (λ (i : Option (List ℕ)). PipesTo i (held (device_of out)) (held (device_of out_new)) ended) same to, counted.1)
 answers held input known left out out_new read read_new (Err p) same to (inl first) only counted =
-    (only, (left, inl (subst (λ (i : Option (List ℕ)). PipesFirst i left (held (device_of out)) (held (device_of out_new)) p.piped.logs) same first.1, first.0)))
+    (only, (left, inl (subst (λ (i : Option (List ℕ)). PipesFirst i left (held (device_of out)) (held (device_of out_new)) p.piped.stage) same first.1, first.0)))
 answers held input known left out out_new read read_new (Err p) same to (inr front) only counted = (
   only,
   (
     left,
     inr (
-      subst (λ (i : Option (List ℕ)). PipesFront i left (held (device_of out)) (held (device_of out_new)) p.piped.logs) same front.1,
+      subst (λ (i : Option (List ℕ)). PipesFront i left (held (device_of out)) (held (device_of out_new)) p.piped.stage) same front.1,
       front.0,
       failed p.refusal read read_new (faults_of out) (faults_of out_new) only counted front.0,
     ),
@@ -56,7 +56,7 @@ none_read None = tt
 none_read (Some all) = ([], tt, refl)
 
 -- nothing was read
-pub unread : {W : Type 0} (held : W → Option (List ℕ)) (input : Option (List ℕ)) (out : Counted W) (none : RunEnd) → none ≡ record { refused = 0; logs = [] } → Answers held input out out (Err (record { refusal = refusals.Memory; piped = none }))
+pub unread : {W : Type 0} (held : W → Option (List ℕ)) (input : Option (List ℕ)) (out : Counted W) (none : RunEnd) → none ≡ record { refused = 0; stage = no_stage } → Answers held input out out (Err (record { refusal = refusals.Memory; piped = none }))
 unread held input out none is = (
   tt,
   (
@@ -64,10 +64,10 @@ unread held input out none is = (
     inl (
       record {
         read = [];
-        last_read = inl (none_read input, ap (λ (ended : RunEnd). ended.logs) is);
+        last_read = inl (none_read input, ap (λ (ended : RunEnd). ended.stage) is);
         text = [];
-        ended = record { refused = 0; logs = [] };
-        piped = inl (record { no_header = tt; text_is = refl; refused_is = refl; logs_are = refl });
+        ended = record { refused = 0; stage = no_stage };
+        piped = inl (record { no_header = tt; text_is = refl; refused_is = refl; stage_is = refl });
         written = Appends-nil (held (device_of out));
       },
       refl,

@@ -164,6 +164,77 @@ inspect_has_interval words e =
     (level_filled (Suits interval) inspect_shape interval_uses interval_defaults words e)
     (has_interval (settled inspect_shape.rules (walk inspect_shape.rules [] nothing_held words).held).rows))
 
+-- ---- `draw FILE`
+
+abbrev draw_shape : Shape
+draw_shape = slice_index_or (built kpart).subs 4 kpart.top
+
+abbrev from_line : Rule
+from_line = slice_index_or draw_shape.rules 1 file_rule
+
+abbrev to_line : Rule
+to_line = slice_index_or draw_shape.rules 2 file_rule
+
+from_uses : EachRule (FillsItself (Suits from_line) false) draw_shape.rules
+from_uses = (
+  takes_one from_line file (λ e. absurd cc),
+  (takes_one from_line from_line (λ e. refl), (takes_one from_line to_line (λ e. absurd cc), ((λ values rows e filled. filled), tt))),
+)
+
+to_uses : EachRule (FillsItself (Suits to_line) false) draw_shape.rules
+to_uses = (
+  takes_one to_line file (λ e. absurd cc),
+  (takes_one to_line from_line (λ e. absurd cc), (takes_one to_line to_line (λ e. refl), ((λ values rows e filled. filled), tt))),
+)
+
+from_defaults : EachRule (FillsByDefault (Suits from_line)) draw_shape.rules
+from_defaults = (
+  (λ rows filled. filled),
+  (
+    by_default from_line from_line (λ e. refl) (codes "1") refl,
+    (by_default from_line to_line (λ e. absurd cc) (codes "4294967295") refl, ((λ rows filled. filled), tt)),
+  ),
+)
+
+to_defaults : EachRule (FillsByDefault (Suits to_line)) draw_shape.rules
+to_defaults = (
+  (λ rows filled. filled),
+  (
+    by_default to_line from_line (λ e. absurd cc) (codes "1") refl,
+    (by_default to_line to_line (λ e. refl) (codes "4294967295") refl, ((λ rows filled. filled), tt)),
+  ),
+)
+
+has_from : (rows : List Row) → has_row from_line.id (fold with_default rows draw_shape.rules) ≡ true
+has_from rows =
+    let before = with_default rows file in
+    row_stays from_line.id help (with_default (with_default before from_line) to_line)
+    (row_stays from_line.id to_line (with_default before from_line) (row_by_default from_line (codes "1") [] before refl))
+
+has_to : (rows : List Row) → has_row to_line.id (fold with_default rows draw_shape.rules) ≡ true
+has_to rows =
+    let before = with_default (with_default rows file) from_line in
+    row_stays to_line.id help (with_default before to_line) (row_by_default to_line (codes "4294967295") [] before refl)
+
+draw_has_file : (words : List Text) → level_fault draw_shape [] nothing_held words false [] ≡ [] → HasFile (rows_after draw_shape.rules [] words)
+draw_has_file words e =
+    has_value from_line _ (level_filled (Suits from_line) draw_shape from_uses from_defaults words e)
+    (given (rows_after draw_shape.rules [] words) (level_checked draw_shape words e))
+
+draw_has_from : (words : List Text) → level_fault draw_shape [] nothing_held words false [] ≡ []
+    → HasNumber (codes "from") 1 4294967295 (rows_after draw_shape.rules [] words)
+draw_has_from words e =
+    number_there _ 1 4294967295 (text_there from_line refl (rows_after draw_shape.rules [] words)
+    (level_filled (Suits from_line) draw_shape from_uses from_defaults words e)
+    (has_from (settled draw_shape.rules (walk draw_shape.rules [] nothing_held words).held).rows))
+
+draw_has_to : (words : List Text) → level_fault draw_shape [] nothing_held words false [] ≡ []
+    → HasNumber (codes "to") 1 4294967295 (rows_after draw_shape.rules [] words)
+draw_has_to words e =
+    number_there _ 1 4294967295 (text_there to_line refl (rows_after draw_shape.rules [] words)
+    (level_filled (Suits to_line) draw_shape to_uses to_defaults words e)
+    (has_to (settled draw_shape.rules (walk draw_shape.rules [] nothing_held words).held).rows))
+
 -- ---- `race`
 
 abbrev race_shape : Shape
@@ -268,7 +339,7 @@ is_used rows true e = refl
 is_used rows false e = refuses _ _ _ e
 
 abbrev help_shape : Shape
-help_shape = slice_index_or (built kpart).subs 4 kpart.top
+help_shape = slice_index_or (built kpart).subs 5 kpart.top
 
 abbrev pipe_shape : Shape
 pipe_shape = slice_index_or (built kpart).subs 3 kpart.top
@@ -276,28 +347,30 @@ pipe_shape = slice_index_or (built kpart).subs 3 kpart.top
 swapped : (xs ys : Text) → bytes_eq xs ys ≡ bytes_eq ys xs
 swapped xs ys = same_from_decides _ _ (bytes_eq-Decides xs ys) (Decides-like _ sym sym (bytes_eq-Decides ys xs))
 
--- the subcommand of which the tests say that it is `run`, `inspect`, `race`, `pipe` or `help`
-abbrev chosen : (run inspect race pipe help : Bool) → Option Shape
-chosen b d r p h =
+-- the subcommand of which the tests say that it is `run`, `inspect`, `race`, `pipe`, `draw` or `help`
+abbrev chosen : (run inspect race pipe draw help : Bool) → Option Shape
+chosen b d r p w h =
     cond (b || false) (Some run_shape)
-    (cond (d || false) (Some inspect_shape) (cond (r || false) (Some race_shape) (cond (p || false) (Some pipe_shape) (cond (h || false) (Some help_shape) None))))
+    (cond (d || false) (Some inspect_shape)
+    (cond (r || false) (Some race_shape) (cond (p || false) (Some pipe_shape) (cond (w || false) (Some draw_shape) (cond (h || false) (Some help_shape) None)))))
 
 answered : (stop : Option (Text × List Text)) → StopsAside stop → is_some (entered (built kpart) stop) ≡ true
     → entered_fault (built kpart) stop ≡ [] → NamesCall (entered (built kpart) stop)
 answered None aside has e = absurd (true≢false (sym has))
 answered (Some p) aside has e =
-    go (bytes_eq (codes "run") p.0) (bytes_eq (codes "inspect") p.0) (bytes_eq (codes "race") p.0) (bytes_eq (codes "pipe") p.0) (bytes_eq (codes "help") p.0)
-    (swapped (codes "help") p.0 ∙ aside) has e
+    go (bytes_eq (codes "run") p.0) (bytes_eq (codes "inspect") p.0) (bytes_eq (codes "race") p.0) (bytes_eq (codes "pipe") p.0) (bytes_eq (codes "draw") p.0)
+    (bytes_eq (codes "help") p.0) (swapped (codes "help") p.0 ∙ aside) has e
   where
-    go : (b d r q h : Bool) → h ≡ false → is_some (option_map (λ s. rows_at s p.1) (chosen b d r q h)) ≡ true
-        → option_map_or (λ s. level_fault s [] nothing_held p.1 false []) (chosen b d r q h) [] ≡ []
-        → NamesCall (option_map (λ s. rows_at s p.1) (chosen b d r q h))
-    go true d r q h n some f = inl (refl, run_has_file p.1 f)
-    go false true r q h n some f = inr (inl (refl, inspect_has_file p.1 f, inspect_has_segment p.1 f, inspect_has_interval p.1 f))
-    go false false true q h n some f = inr (inr (inl (refl, race_is_there p.1 f)))
-    go false false false true h n some f = inr (inr (inr refl))
-    go false false false false true n some f = absurd (true≢false n)
-    go false false false false false n some f = absurd (true≢false (sym some))
+    go : (b d r q w h : Bool) → h ≡ false → is_some (option_map (λ s. rows_at s p.1) (chosen b d r q w h)) ≡ true
+        → option_map_or (λ s. level_fault s [] nothing_held p.1 false []) (chosen b d r q w h) [] ≡ []
+        → NamesCall (option_map (λ s. rows_at s p.1) (chosen b d r q w h))
+    go true d r q w h n some f = inl (refl, run_has_file p.1 f)
+    go false true r q w h n some f = inr (inl (refl, inspect_has_file p.1 f, inspect_has_segment p.1 f, inspect_has_interval p.1 f))
+    go false false true q w h n some f = inr (inr (inl (refl, race_is_there p.1 f)))
+    go false false false true w h n some f = inr (inr (inr (inl refl)))
+    go false false false false true h n some f = inr (inr (inr (inr (refl, draw_has_file p.1 f, draw_has_from p.1 f, draw_has_to p.1 f))))
+    go false false false false false true n some f = absurd (true≢false n)
+    go false false false false false false n some f = absurd (true≢false (sym some))
 
 pub taken : (words : List Text) → fault_of kpart words ≡ [] → NamesCall (subcommand_of kpart words)
 taken words e =

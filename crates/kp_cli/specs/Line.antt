@@ -5,7 +5,7 @@ use Rattle.std.specs.Str.Parse.{digits_value, without_leading_plus}
 use Rattle.clap.specs.Words.{App, IsUnsignedIn, Row, Rule, Text, first_of, new_app, new_rule, one_of, with_rule, with_subcommand}
 use Rattle.clap.specs.declared.builder.value_parser.ValueParser.TheVariants.{Unsigned}
 use Rattle.kp_cli.specs.declared.call.Call.{Call}
-use Rattle.kp_cli.specs.declared.call.Call.TheVariants.{Inspect, Pipe, Race, Run}
+use Rattle.kp_cli.specs.declared.call.Call.TheVariants.{Draw, Inspect, Pipe, Race, Run}
 
 -- the path of a file, a required word
 abbrev pub file_rule : Rule
@@ -39,6 +39,18 @@ interval_rule = number_rule (codes "interval") 0 1048576 (codes "4096")
 -- `inspect FILE [--segment S] [--interval I]`
 abbrev pub inspect_app : App
 inspect_app = with_rule (with_rule (with_rule (new_app (codes "inspect")) file_rule) segment_rule) interval_rule
+
+-- `--from L`
+abbrev pub from_rule : Rule
+from_rule = number_rule (codes "from") 1 4294967295 (codes "1")
+
+-- `--to L`
+abbrev pub to_rule : Rule
+to_rule = number_rule (codes "to") 1 4294967295 (codes "4294967295")
+
+-- `draw FILE [--from L] [--to L]`
+abbrev pub draw_app : App
+draw_app = with_rule (with_rule (with_rule (new_app (codes "draw")) file_rule) from_rule) to_rule
 
 -- `--NAME NUMBER`, a number from `least` to `greatest` that has to be given
 abbrev pub race_rule : (name : Text) → (least greatest : ℕ) → Rule
@@ -77,9 +89,13 @@ kpart_reading = with_subcommand
 abbrev pub kpart_racing : App
 kpart_racing = with_subcommand kpart_reading race_app.top
 
+-- and with a pipe
+abbrev pub kpart_piping : App
+kpart_piping = with_subcommand kpart_racing pipe_app.top
+
 -- the whole command line
 abbrev pub kpart : App
-kpart = with_subcommand kpart_racing pipe_app.top
+kpart = with_subcommand kpart_piping draw_app.top
 
 -- the text of this name is a decimal numeral from `least` to `greatest`
 abbrev pub HasNumber : (name : Text) → (least greatest : ℕ) → List Row → Type 0
@@ -110,6 +126,10 @@ IsCallOf (Some entered) (Inspect file segment_bytes index_interval) =
     × HasTheNumber (codes "segment") 1024 1073741824 entered.1 segment_bytes
     × HasTheNumber (codes "interval") 0 1048576 entered.1 index_interval
 IsCallOf (Some entered) (Pipe keep) = (entered.0 ≡ codes "pipe") × (first_of (codes "keep") entered.1 ≡ option_map string_bytes keep)
+IsCallOf (Some entered) (Draw file from to) =
+    (entered.0 ≡ codes "draw") × (first_of (codes "FILE") entered.1 ≡ Some (string_bytes file))
+    × HasTheNumber (codes "from") 1 4294967295 entered.1 from
+    × HasTheNumber (codes "to") 1 4294967295 entered.1 to
 IsCallOf (Some entered) (Race nodes plan) = (entered.0 ≡ codes "race") × IsRaceOf entered.1 (Race nodes plan)
 
 -- the matches have a file
@@ -132,4 +152,7 @@ NamesCall (Some entered) = ((entered.0 ≡ codes "run") × HasFile entered.1)
     × HasNumber (codes "segment") 1024 1073741824 entered.1
     × HasNumber (codes "interval") 0 1048576 entered.1)
     ⊎ (((entered.0 ≡ codes "race") × NamesRace entered.1)
-    ⊎ (entered.0 ≡ codes "pipe")))
+    ⊎ ((entered.0 ≡ codes "pipe")
+    ⊎ ((entered.0 ≡ codes "draw") × HasFile entered.1
+    × HasNumber (codes "from") 1 4294967295 entered.1
+    × HasNumber (codes "to") 1 4294967295 entered.1))))

@@ -8,9 +8,11 @@ use Rattle.kp_types.specs.Devices.{CountsOne, IsDeviceFault, Tells, device_of, f
 use Rattle.kp_types.specs.Folders.{Entry, Puts}
 use Rattle.kp_types.specs.declared.counted.Counted.{Counted}
 use Rattle.kp_script.specs.Ended.{RunEnd, WritesTo}
-use Rattle.kp_script.specs.Kept.{KeepsLogs, KeepsLogsFront}
+use Rattle.kp_script.specs.Kept.{KeepsStage, KeepsStageFront}
 use Rattle.kp_script.specs.Script.{IsFaultAt}
 use Rattle.kp_script.specs.Transcript.{largest_batch, no_past, Writes, WritesFirst, WritesFront}
+use Rattle.kp_draw.specs.Pictured.{WritesPicture, WritesPictureFront}
+use Rattle.kp_draw.specs.declared.lines.Lines.{Lines}
 use Rattle.kp_inspect.specs.Inspected.{Writes as WritesDump, WritesFront as WritesDumpFront}
 use Rattle.kp_cli.specs.Told.{complaint, reason_of, status_of_refusal}
 use Rattle.kp_cli.specs.declared.fault.Fault.{Fault}
@@ -25,14 +27,14 @@ RunsScript input old new (Err refusals.Device) = WritesFront no_past input old n
 RunsScript input old new (Err refusals.Memory) = WritesFirst no_past input old new × WritesFront no_past input old new
 RunsScript input old new (Err _) = ⊥
 
--- What the nodes' logs leave in a folder once a run has ended, with how many of its events were refused: all their files, or a
+-- What a run leaves in a folder once it has ended, with how many of its events were refused: the controller's record and each node, or a
 -- beginning of them where the folder failed or a growth was refused.
 abbrev pub KeepsEnd : (before after : Option (List Entry)) → RunEnd → Result ℕ Refusal → Type 0
-KeepsEnd before after ended (Ok refused) = (refused ≡ ended.refused) × KeepsLogs before after ended.logs
-KeepsEnd before after ended (Err refusal) = IsDeviceFault refusal × KeepsLogsFront before after ended.logs
+KeepsEnd before after ended (Ok refused) = (refused ≡ ended.refused) × KeepsStage ended.stage before after
+KeepsEnd before after ended (Err refusal) = IsDeviceFault refusal × KeepsStageFront ended.stage before after
 
--- What a run leaves whose logs are kept. Where it is refused before its end, on standard output what it leaves else, and
--- nothing in the folder; and where it ends, its trace, and in the folder its logs.
+-- What a run leaves that is kept. Where it is refused before its end, on standard output what it leaves else, and
+-- nothing in the folder; and where it ends, its trace, and in the folder its last stage.
 abbrev pub RunsKeeping : (input old new : Option (List ℕ)) → (before after : Option (List Entry)) → Result ℕ Refusal → Type 0
 RunsKeeping input old new before after outcome =
     ((refusal : Refusal) × (outcome ≡ Err refusal) × RunsScript input old new outcome × Puts before after [])
@@ -57,6 +59,19 @@ Inspects limits input old new (Ok faults) = (fault : Option Refusal) × (faults 
 Inspects limits input old new (Err refusals.Device) = WritesDumpFront limits input old new
 Inspects limits input old new (Err refusals.Memory) = WritesDumpFront limits input old new
 Inspects limits input old new (Err _) = ⊥
+
+-- the lines from this one to that one
+abbrev pub part_of : (from to : ℕ) → Lines
+part_of from to = record { from = from; to = to }
+
+-- What drawing lines of a script leaves on standard output, where the input is known: with an answer the picture, with a fault of the
+-- script nothing, nor where a growth was refused, and a beginning of the picture where a device failed.
+abbrev pub Draws : Lines → Option (List ℕ) → Option (List ℕ) → Option (List ℕ) → Result ℕ Refusal → Type 0
+Draws part input old new (Ok refused) = (refused ≡ 0) × WritesPicture part input old new
+Draws part input old new (Err (refusals.BadScript line)) = IfSome input (λ bytes. IsFaultAt bytes line) × Keeps old new
+Draws part input old new (Err refusals.Device) = WritesPictureFront part input old new
+Draws part input old new (Err refusals.Memory) = Keeps old new
+Draws part input old new (Err _) = ⊥
 
 -- Nothing has happened to standard error without a refusal. With one its complaint is out, and this second line, or a call of
 -- standard error failed, and a beginning of them is.
@@ -99,7 +114,7 @@ PerformsReading streams path Written file file_new out out_new err err_new statu
     × Complains streams.told err err_new outcome (reason_of streams.file_fault path (faults_of file) file_new)
     × (status ≡ status_of outcome)
 
--- What a run leaves whose script is the file at this path, and whose logs are kept in the folder at that one.
+-- What a run leaves whose script is the file at this path, and which is kept in the folder at that one.
 abbrev pub RunsAndKeeps : {F K W E : Type 0} → Streams F W E → Shelf K → (path keep : List ℕ)
     → (file file_new : Counted F) → (folder folder_new : Counted K) → (out out_new : Counted W) → (err err_new : Counted E)
     → (status : ℕ) → Type 0

@@ -12,12 +12,12 @@ use Rattle.kp_race.specs.declared.outcome.Outcome.{Outcome}
 use Rattle.kp_race.specs.declared.outcome.Plan.{Plan}
 use Rattle.kp_cli.specs.Faults.{refusal_of}
 use Rattle.kp_cli.specs.Line.{IsCallOf, kpart}
-use Rattle.kp_cli.specs.Perform.{Inspects, PerformsReading, RunsAndKeeps, RunsScript, Shelf, Streams, limits_of}
+use Rattle.kp_cli.specs.Perform.{Draws, Inspects, PerformsReading, RunsAndKeeps, RunsScript, Shelf, Streams, limits_of, part_of}
 use Rattle.kp_cli.specs.Piped.{EndsPipe, PipesAndKeeps}
 use Rattle.kp_cli.specs.Raced.{EndsRace}
 use Rattle.kp_cli.specs.Told.{Prints, complaint, file_complaint, lone_reason, tamed}
 use Rattle.kp_cli.specs.declared.call.Call.{Call}
-use Rattle.kp_cli.specs.declared.call.Call.TheVariants.{Inspect, Pipe, Race, Run}
+use Rattle.kp_cli.specs.declared.call.Call.TheVariants.{Draw, Inspect, Pipe, Race, Run}
 use Rattle.kp_cli.specs.declared.fault.Fault.{Fault}
 use Rattle.kp_cli.specs.declared.fault.Fault.TheVariants as faults
 
@@ -77,6 +77,8 @@ PerformsCall streams races input (Run path keep) file file_new out out_new err e
     PerformsReading streams (string_bytes path) RunsScript file file_new out out_new err err_new status
 PerformsCall streams races input (Inspect path segment_bytes index_interval) file file_new out out_new err err_new status =
     PerformsReading streams (string_bytes path) (Inspects (limits_of segment_bytes index_interval)) file file_new out out_new err err_new status
+PerformsCall streams races input (Draw path from to) file file_new out out_new err err_new status =
+    PerformsReading streams (string_bytes path) (Draws (part_of from to)) file file_new out out_new err err_new status
 PerformsCall streams races input (Pipe keep) file file_new out out_new err err_new status =
     (file_new ≡ file) × EndsPipe streams.held streams.told input out out_new err err_new status
 PerformsCall streams races input (Race nodes plan) file file_new out out_new err err_new status =
@@ -186,6 +188,7 @@ EndsAsked known races input (Run path None) around status = Reads known (string_
 EndsAsked known races input (Run path (Some keep)) around status = RunsInto known (string_bytes path) (string_bytes keep) around status
 EndsAsked known races input (Inspect path segment_bytes index_interval) around status =
     Reads known (string_bytes path) (Inspects (limits_of segment_bytes index_interval)) around status
+EndsAsked known races input (Draw path from to) around status = Reads known (string_bytes path) (Draws (part_of from to)) around status
 EndsAsked known races input (Pipe None) around status =
     TouchesNone around × EndsPipe known.streams.held known.streams.told input around.out around.out_left around.err around.err_left status
 EndsAsked known races input (Pipe (Some keep)) around status = PipesInto known (string_bytes keep) input around status

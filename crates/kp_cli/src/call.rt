@@ -22,6 +22,15 @@ pub enum Call {
         /// How many bytes lie between two entries of an index, up to 1,048,576.
         index_interval: u32,
     },
+    /// Run the script at the path `file` and print the picture of its run.
+    Draw {
+        /// The path of the script, as it was written.
+        file: String,
+        /// The number of the first line that is drawn, from 1.
+        from: u32,
+        /// The number of the last line that is drawn.
+        to: u32,
+    },
     /// Play a script whose lines come one by one on standard input, and answer each at once.
     Pipe {
         /// The path of the folder that the nodes' logs are kept in, as it was written, if they are.

@@ -8,6 +8,7 @@ ghost use Rattle.clap.specs.Words.{App, FailsBy, Rule, app_of, fault_of, first_o
 ghost use Rattle.clap.specs.Words.{subcommand_of, subcommand_rows_of, with_rule, with_subcommand};
 ghost use Rattle.clap.specs.declared.builder.command.Command.TheViews.{out-Command};
 ghost use Rattle.kp_cli.specs.Line.{IsCallOf, IsRaceOf, NamesCall, NamesRace, file_rule, inspect_app, interval_rule, keep_rule, kpart, pipe_app};
+ghost use Rattle.kp_cli.specs.Line.{draw_app, from_rule, to_rule};
 ghost use Rattle.kp_cli.specs.Line.{kpart_app, race_app, race_rule, racers_app, run_app, segment_rule};
 
 use crate::Call;
@@ -29,6 +30,9 @@ const MOST_BATCHES: u64 = 10_000;
 
 /// The most elections of a race. (Own rule.)
 const MOST_MOVES: u64 = 1_000;
+
+/// The greatest number of a line that can be named.
+const LAST_LINE: u64 = u32::MAX as u64;
 
 /// The version of the program, which `kpart --version` prints.
 pub const VERSION: &str = "0.1.0";
@@ -67,6 +71,30 @@ fn interval_argument<'a>(alloc: Global) -> Arg<'a>
         .help("the bytes between two entries of an index")
 }
 
+fn from_argument<'a>(alloc: Global) -> Arg<'a>
+    ensures rule { rule_of result ≡ from_rule }
+    ensures local { result.global ≡ false }
+{
+    Arg::new(alloc, "from")
+        .long("from")
+        .value_name("L")
+        .value_parser(ValueParser::unsigned(1, LAST_LINE))
+        .default_value("1")
+        .help("the first line to draw")
+}
+
+fn to_argument<'a>(alloc: Global) -> Arg<'a>
+    ensures rule { rule_of result ≡ to_rule }
+    ensures local { result.global ≡ false }
+{
+    Arg::new(alloc, "to")
+        .long("to")
+        .value_name("L")
+        .value_parser(ValueParser::unsigned(1, LAST_LINE))
+        .default_value("4294967295")
+        .help("the last line to draw")
+}
+
 fn keep_argument<'a>(alloc: Global) -> Arg<'a>
     ensures rule { rule_of result ≡ keep_rule }
     ensures local { result.global ≡ false }
@@ -74,7 +102,7 @@ fn keep_argument<'a>(alloc: Global) -> Arg<'a>
     Arg::new(alloc, "keep")
         .long("keep")
         .value_name("FOLDER")
-        .help("an empty folder, or a new one, to keep the nodes' logs in")
+        .help("an empty folder, or a new one, to keep what the nodes leave in")
 }
 
 /// A number that has to be given.
@@ -138,6 +166,17 @@ fn inspect_command<'a>(alloc: Global) -> Result<Command<'a>, AllocError>
     let command = with_argument(Ok(command), file_argument(alloc, "the log to read"));
     let command = with_argument(command, segment_argument(alloc));
     with_argument(command, interval_argument(alloc))
+}
+
+fn draw_command<'a>(alloc: Global) -> Result<Command<'a>, AllocError>
+    ensures rule { IfOk result (λ command. app_of command ≡ draw_app) }
+    ensures local { IfOk result (λ command. (out-Command command).has_globals ≡ false) }
+{
+    let about = "Runs a script and prints a picture of its run, an SVG";
+    let command = named_command(alloc, "draw", about);
+    let command = with_argument(Ok(command), file_argument(alloc, "the script to draw"));
+    let command = with_argument(command, from_argument(alloc));
+    with_argument(command, to_argument(alloc))
 }
 
 /// What a race is told of who takes part: `race --nodes N --producers P`.
@@ -209,7 +248,8 @@ fn whole_command<'a>(alloc: Global) -> Result<Command<'a>, AllocError>
     let running = add_subcommand(Ok(program(alloc)), run_command(alloc));
     let reading = add_subcommand(running, inspect_command(alloc));
     let racing = add_subcommand(reading, race_command(alloc));
-    add_subcommand(racing, pipe_command(alloc))
+    let piping = add_subcommand(racing, pipe_command(alloc));
+    add_subcommand(piping, draw_command(alloc))
 }
 
 /// The matches that clap has for `words`, of which the first is the program's name.
@@ -307,6 +347,12 @@ fn call_in(alloc: Global, matches: &ArgMatches<'_>) -> Result<Call, AllocError>
             file,
             segment_bytes: number_value(found, "segment"),
             index_interval: number_value(found, "interval"),
+        })
+    } else if name == "draw" {
+        Ok(Call::Draw {
+            file,
+            from: number_value(found, "from"),
+            to: number_value(found, "to"),
         })
     } else {
         unreachable!()

@@ -51,10 +51,10 @@ pub fn pipe<I: Read + Drop, W: Write, E: Write>(
     }
 }
 
-/// Plays the lines of the input, as [`pipe`] does, and puts the nodes' logs into the folder, as [`kp_script::Ended::write_logs`] does: at
-/// its end, and also where it was cut off; nothing where no header came. So the folder has the logs of all lines that were answered,
-/// whatever ended the pipe, and those of the last line that was read besides, if it was played. Answers the exit status that `pipe` does;
-/// where the folder fails, or a growth is refused there, standard error has that in place of the pipe's refusal, as logs are missing
+/// Plays the lines of the input, as [`pipe`] does, and puts what it leaves into the folder, as [`kp_script::Ended::write_left`] does: at
+/// its end, and also where it was cut off; nothing where no header came. So the folder has what all lines that were answered left,
+/// whatever ended the pipe, and the last line that was read besides, if it was played. Answers the exit status that `pipe` does;
+/// where the folder fails, or a growth is refused there, standard error has that in place of the pipe's refusal, as files are missing
 /// then, and the status is 1.
 pub fn pipe_and_keep<I: Read + Drop, K: Folder + Explained, W: Write, E: Write>(
     alloc: Global,
@@ -72,11 +72,11 @@ pub fn pipe_and_keep<I: Read + Drop, K: Folder + Explained, W: Write, E: Write>(
 {
     let put = folder.faults();
     match play_input(alloc, input, out) {
-        Ok(piped) => match piped.write_logs(alloc, folder) {
+        Ok(piped) => match piped.write_left(alloc, folder) {
             Ok(()) => end(piped.refused(), piped),
             Err(refusal) => refuse_since(err, refusal, keep, folder, put),
         },
-        Err(cut) => match cut.piped.write_logs(alloc, folder) {
+        Err(cut) => match cut.piped.write_left(alloc, folder) {
             Ok(()) => refuse(err, cut.refusal),
             Err(refusal) => refuse_since(err, refusal, keep, folder, put),
         },

@@ -4,7 +4,7 @@ ghost use Rattle.std.specs.Prelude.{◌≡◌, ◌+◌, ◌<◌, ◌≤◌, ◌^
 ghost use Rattle.kp_types.specs.Devices.{faults_of};
 ghost use Rattle.kp_race.specs.declared.outcome.Plan.{Plan as SomePlan};
 ghost use Rattle.kp_cli.specs.declared.call.Call.TheVariants.{Race};
-ghost use Rattle.kp_cli.specs.Perform.{Inspects, RunsScript};
+ghost use Rattle.kp_cli.specs.Perform.{Draws, Inspects, RunsScript};
 ghost use Rattle.kp_cli.specs.Program.{Asked, Ends, EndsAsked, Explains, ExplainsBy, IsAsked, IsLeft, RunsInto, PipesInto, Reads};
 
 use crate::Call;
@@ -13,9 +13,10 @@ use crate::fault::Fault;
 use crate::line::call_of;
 use crate::piping::{pipe, pipe_and_keep};
 use crate::racing::race_and_tell;
-use crate::running::{dump, limits, play, run_and_keep};
+use crate::running::{draw, dump, limits, part, play, run_and_keep};
 use crate::telling::{refuse, refuse_path, refuse_words, tame};
 use clap::error::ErrorKind;
+use kp_draw::Lines;
 use kp_race::{Outcome, Plan};
 use kp_types::{Counted, Limits, NodeId, Refusal};
 use std::alloc::Global;
@@ -192,6 +193,19 @@ fn called<
             let limits = limits(*segment_bytes, *index_interval);
             inspected(alloc, path.as_str(), &limits, file, folder, out, err)
         }
+        Call::Draw {
+            file: path,
+            from,
+            to,
+        } => drawn(
+            alloc,
+            path.as_str(),
+            part(*from, *to),
+            file,
+            folder,
+            out,
+            err,
+        ),
         Call::Pipe { keep: None } => leave(pipe(alloc, input, out, err), file, folder),
         Call::Pipe { keep: Some(keep) } => {
             piped_and_kept(alloc, keep.as_str(), input, file, folder, out, err)
@@ -276,6 +290,47 @@ fn inspected<F: Source + Drop, K: KeptFolder + Drop, W: Write, E: Write>(
     }
     let mut file = Counted::new(file);
     let status = dump(alloc, log, limits, &mut file, out, err);
+    Left {
+        status,
+        file,
+        folder: Counted::new(folder),
+    }
+}
+
+/// Draws these lines of the script at this path.
+fn drawn<F: Source + Drop, K: KeptFolder + Drop, W: Write, E: Write>(
+    alloc: Global,
+    script: &str,
+    lines: Lines,
+    file: F,
+    folder: K,
+    out: &mut Counted<W>,
+    err: &mut Counted<E>,
+) -> Left<F, K>
+    requires writes { faults_of out.old + 1 < 2 ^ 64 }
+    requires complaints { faults_of err.old + 1 < 2 ^ 64 }
+    ensures { Reads (record {
+      opens = F.opens;
+      takes = K.takes;
+      streams = record { remaining = F.remaining; file_fault = F.fault_is; held = W.contents; told = E.contents };
+      shelf = record { entries = K.entries; folder_fault = K.fault_is };
+    }) script.now (Draws lines) (record {
+      file = file;
+      file_left = result.file;
+      folder = folder;
+      folder_left = result.folder;
+      out = out.old;
+      out_left = out.new;
+      err = err.old;
+      err_left = err.new;
+    }) result.status }
+{
+    let mut file = file;
+    if let Err(fault) = file.open(script) {
+        return leave(refuse_path(err, script, fault), file, folder);
+    }
+    let mut file = Counted::new(file);
+    let status = draw(alloc, script, lines, &mut file, out, err);
     Left {
         status,
         file,

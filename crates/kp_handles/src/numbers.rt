@@ -6,7 +6,7 @@ ghost use Rattle.kp_handles.specs.Numbers.{IsName, IsNoMisuse, misuse_name, misu
 use crate::misuse::Misuse;
 use kp_types::Refusal;
 
-/// A refusal's number, 1 to 34. O(1).
+/// A refusal's number, 1 to 35. O(1).
 pub fn refusal_number(refusal: &Refusal) -> u32
     ensures { result ≡ refusal_number refusal.now }
 {

@@ -330,7 +330,7 @@ fn dump_kept(
     let mut joined = Vec::new(rt.alloc());
     for (name, bytes) in &folder.device().folder.entries {
         if let Some(bytes) = bytes {
-            if name.starts_with(place.as_str()) {
+            if name.starts_with(place.as_str()) && name.ends_with(".log") {
                 joined.extend_from_slice(bytes.as_slice())?;
             }
         }

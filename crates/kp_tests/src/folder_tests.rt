@@ -115,20 +115,21 @@ static FOLDERS: [&[File]; 8] = [
 
 fn push_file(text: &mut String, file: KeptFile) -> Result<(), AllocError> {
     match file {
-        KeptFile::Record => text.push_str("record\n"),
-        KeptFile::State(node) => writeln!(text, "state of {node}"),
-        KeptFile::Segment(node, from) => writeln!(text, "segment {from} of {node}"),
+        KeptFile::Record => text.push_str(" record\n"),
+        KeptFile::State(node) => writeln!(text, " state of {node}"),
+        KeptFile::Segment(node, from) => writeln!(text, " segment {from} of {node}"),
     }
 }
 
 fn push_fault(text: &mut String, fault: FolderFault) -> Result<(), AllocError> {
+    write!(text, "{}", fault.refusal())?;
     match fault {
-        FolderFault::Stopped(refusal) => writeln!(text, "{refusal}"),
+        FolderFault::Stopped(_) => text.push('\n'),
         FolderFault::BadFile(file) => push_file(text, file),
-        FolderFault::BadBatch(node, from, place, refusal) => {
-            writeln!(text, "{refusal} at {place} of segment {from} of {node}")
+        FolderFault::BadBatch(node, from, place, _) => {
+            writeln!(text, " at {place} of segment {from} of {node}")
         }
-        FolderFault::BadNode(node, refusal) => writeln!(text, "{refusal} of {node}"),
+        FolderFault::BadNode(node, _) => writeln!(text, " of {node}"),
     }
 }
 
@@ -160,7 +161,7 @@ fn a_folder_is_read(rt: HostRuntime) {
     is(
         &rt,
         all_read(rt.alloc()),
-        "version 3, life 7 end 2 mark 1, sent 4\nrecord\nstate of 0\nsegment 1 of 0\nF4 BadCrc at 0 of segment 1 of 0\n\
-         state of 0\nsegment 1 of 0\nF24 RecordFull of 0\n",
+        "version 3, life 7 end 2 mark 1, sent 4\nF35 BadFolder record\nF35 BadFolder state of 0\nF35 BadFolder segment 1 of 0\n\
+         F4 BadCrc at 0 of segment 1 of 0\nF35 BadFolder state of 0\nF35 BadFolder segment 1 of 0\nF24 RecordFull of 0\n",
     );
 }

@@ -16,6 +16,8 @@ mod control_tests;
 #[cfg(test)]
 mod device_tests;
 #[cfg(test)]
+mod draw_tests;
+#[cfg(test)]
 mod epoch_tests;
 #[cfg(test)]
 mod folder_tests;

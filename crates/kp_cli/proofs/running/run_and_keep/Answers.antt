@@ -28,25 +28,25 @@ returns-in-Err g c = (
   c.refuse_since.ensures.status,
 )
 
-pub returns-in-Ok-write_logs : goal.returns-in-Ok-write_logs
-returns-in-Ok-write_logs g c = (
+pub returns-in-Ok-write_left : goal.returns-in-Ok-write_left
+returns-in-Ok-write_left g c = (
   Ok c.in-Ok.ended.refused,
-  inr (c.in-Ok.ended, c.in-Ok.ensures.played, (refl, c.in-Ok-write_logs.ensures.ok)),
-  inl (c.in-Ok.ensures.counted, c.in-Ok-write_logs.ensures.counted),
+  inr (c.in-Ok.ended, c.in-Ok.ensures.played, (refl, c.in-Ok-write_left.ensures.ok)),
+  inl (c.in-Ok.ensures.counted, c.in-Ok-write_left.ensures.counted),
   refl,
   c.end.ensures ∙ ap (λ (n : ℕ). status_of (Ok n)) c.refused.ensures,
 )
 
-pub returns-in-Err-write_logs : goal.returns-in-Err-write_logs
-returns-in-Err-write_logs g c = (
-  Err c.in-Err-write_logs.refusal,
-  inr (c.in-Ok.ended, c.in-Ok.ensures.played, (c.in-Err-write_logs.ensures.only, c.in-Err-write_logs.ensures.err)),
-  kept_counted c.in-Err-write_logs.refusal c.in-Err-write_logs.ensures.only _ _ _ _ _ _ c.in-Ok.ensures.counted c.in-Err-write_logs.ensures.counted,
-  told_second g.E.Write.contents c.args.err.now c.refuse_since-in-Err-write_logs.new.err c.in-Err-write_logs.refusal
+pub returns-in-Err-write_left : goal.returns-in-Err-write_left
+returns-in-Err-write_left g c = (
+  Err c.in-Err-write_left.refusal,
+  inr (c.in-Ok.ended, c.in-Ok.ensures.played, (c.in-Err-write_left.ensures.only, c.in-Err-write_left.ensures.err)),
+  kept_counted c.in-Err-write_left.refusal c.in-Err-write_left.ensures.only _ _ _ _ _ _ c.in-Ok.ensures.counted c.in-Err-write_left.ensures.counted,
+  told_second g.E.Write.contents c.args.err.now c.refuse_since-in-Err-write_left.new.err c.in-Err-write_left.refusal
       (reason_of g.R.Explained.fault_is c.args.file.now (faults_of c.args.reader.now) c.play_script.new.reader)
-      (reason_of g.K.Explained.fault_is c.args.keep.now (faults_of c.args.folder.now) c.write_logs.new.folder)
+      (reason_of g.K.Explained.fault_is c.args.keep.now (faults_of c.args.folder.now) c.write_left.new.folder)
       (no_reason g.R.Explained.fault_is c.args.file.now (faults_of c.args.reader.now) c.play_script.new.reader c.in-Ok.ensures.counted.0)
-      (told_since g.K.Explained.fault_is g.E.Write.contents c.args.err.now c.refuse_since-in-Err-write_logs.new.err c.in-Err-write_logs.refusal
-      c.write_logs.new.folder c.args.keep.now c.args.keep.now c.faults-put.result (faults_of c.args.folder.now) refl c.faults-put.ensures c.refuse_since-in-Err-write_logs.ensures.told),
-  c.refuse_since-in-Err-write_logs.ensures.status,
+      (told_since g.K.Explained.fault_is g.E.Write.contents c.args.err.now c.refuse_since-in-Err-write_left.new.err c.in-Err-write_left.refusal
+      c.write_left.new.folder c.args.keep.now c.args.keep.now c.faults-put.result (faults_of c.args.folder.now) refl c.faults-put.ensures c.refuse_since-in-Err-write_left.ensures.told),
+  c.refuse_since-in-Err-write_left.ensures.status,
 )

@@ -1,0 +1,6 @@
+use Rattle.std.proofs.lemmas.Result.{on_ok_weaker}
+use Rattle.kp_draw.proofs.Growing.{draws_element}
+use Rattle.kp_draw.proofs.shapes.push_tip.Goals as goal
+
+pub returns : goal.returns
+returns c = on_ok_weaker c.push_end.result (draws_element c.in_ok-push_start.ensures c.in_ok-push_element.ensures) c.push_end.ensures
