@@ -13,8 +13,8 @@ ghost use Rattle.kp_handles.specs.declared.misuse.Misuse.{Misuse};
 
 use crate::answers::{done, number, told};
 use kp_handles::{
-    Called, Handle, KeptIn, LeadershipOut, LimitsIn, Misuse, PromiseIn, is_open, keep, leave,
-    next_decided, next_elected, open_left, recall, take_left,
+    Called, Handle, KeptIn, LeadershipOut, LimitsIn, Misuse, PromiseIn, Recall, is_open, keep,
+    leave, next_decided, next_elected, open_left, take_left, with_pass,
 };
 use kp_types::Limits;
 use std::alloc::Global;
@@ -97,7 +97,7 @@ pub extern "C" fn kp_recall(alloc: Global, pass: &mut Handle) -> u32
         × CallerCalled pass.old.object pass.new.object answer (λ _ c d. Answers (λ _. Recalls pass.old.table.opening.promised c d)) }
     ensures cluster { pass.new.table ≡ pass.old.table }
 {
-    number(recall::<Brand>(alloc, pass))
+    number(with_pass::<Brand, _, _>(alloc, pass, Recall))
 }
 
 /// What the record becomes by a node's election.

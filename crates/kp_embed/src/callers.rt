@@ -11,8 +11,8 @@ ghost use Rattle.kp_handles.specs.Outs.{WritesMark, WritesOut, leadership_out};
 
 use crate::answers::{done, told};
 use kp_handles::{
-    Handle, LeadershipOut, Misuse, elect, leadership, misuse_number, refusal_number, tell_receipts,
-    watermark,
+    Elect, Handle, Leadership, LeadershipOut, Misuse, Watermark, misuse_number, refusal_number,
+    tell_receipts, with_pass,
 };
 use std::alloc::Global;
 use std::marker::Brand;
@@ -30,7 +30,7 @@ pub extern "C" fn kp_elect(
         × WritesOut leadership_out answer found.old found.new }
     ensures cluster { pass.new.table ≡ pass.old.table }
 {
-    told(elect::<Brand>(alloc, pass, node), found)
+    told(with_pass::<Brand, _, _>(alloc, pass, Elect { node }), found)
 }
 
 /// Looks at the controller's record.
@@ -41,7 +41,7 @@ pub extern "C" fn kp_leadership(alloc: Global, pass: &mut Handle, found: &mut Le
         × WritesOut leadership_out answer found.old found.new }
     ensures cluster { pass.new.table ≡ pass.old.table }
 {
-    told(leadership::<Brand>(alloc, pass), found)
+    told(with_pass::<Brand, _, _>(alloc, pass, Leadership), found)
 }
 
 /// Looks at a node's high watermark.
@@ -52,7 +52,7 @@ pub extern "C" fn kp_watermark(alloc: Global, pass: &mut Handle, node: u8, offse
         × WritesMark answer offset.old offset.new }
     ensures cluster { pass.new.table ≡ pass.old.table }
 {
-    match watermark::<Brand>(alloc, pass, node) {
+    match with_pass::<Brand, _, _>(alloc, pass, Watermark { node }) {
         Ok(Ok(Some(seen))) => {
             *offset = seen;
             0

@@ -10,7 +10,10 @@ ghost use Rattle.kp_handles.specs.Outs.{WritesOut};
 ghost use Rattle.kp_handles.specs.declared.misuse.Misuse.{Misuse};
 
 use crate::answers::{number, told};
-use kp_handles::{Handle, KnownOut, ProducerOut, known, log_from, open_transactions, producer};
+use kp_handles::{
+    AskKnown, AskProducer, Handle, KnownOut, ListOpen, ProducerOut, ReadLog, give_by_node,
+    with_node,
+};
 use std::alloc::Global;
 use std::marker::Brand;
 
@@ -22,7 +25,7 @@ pub extern "C" fn kp_known(alloc: Global, node: &mut Handle, found: &mut KnownOu
         × WritesOut known_out answer found.old found.new }
     ensures cluster { node.new.table ≡ node.old.table }
 {
-    told(known::<Brand>(alloc, node), found)
+    told(with_node::<Brand, _, _>(alloc, node, AskKnown), found)
 }
 
 /// What the node's log has of a producer.
@@ -38,7 +41,10 @@ pub extern "C" fn kp_producer(
         × WritesOut producer_out answer found.old found.new }
     ensures cluster { node.new.table ≡ node.old.table }
 {
-    told(producer::<Brand>(alloc, node, producer_id), found)
+    let call = AskProducer {
+        producer: producer_id,
+    };
+    told(with_node::<Brand, _, _>(alloc, node, call), found)
 }
 
 /// Lists the transactions that are open in the node's log into a closed handle.
@@ -52,7 +58,7 @@ pub extern "C" fn kp_open_transactions(
         × OpenCalled node.old.object node.new.object transactions.old.object transactions.new.object answer }
     ensures cluster { node.new.table ≡ node.old.table }
 {
-    number(open_transactions::<Brand>(alloc, node, transactions))
+    number(give_by_node::<Brand, _>(alloc, node, transactions, ListOpen))
 }
 
 /// Reads batches of the node's log, also those that aren't committed, into a closed handle.
@@ -68,5 +74,5 @@ pub extern "C" fn kp_log_from(
         × LogCalled from most_bytes node.old.object node.new.object batches.old.object batches.new.object answer }
     ensures cluster { node.new.table ≡ node.old.table }
 {
-    number(log_from::<Brand>(alloc, node, from, most_bytes, batches))
+    number(give_by_node::<Brand, _>(alloc, node, batches, ReadLog { from, most_bytes }))
 }

@@ -13,8 +13,9 @@ ghost use Rattle.kp_handles.specs.declared.saying.SaidOut.{SaidOut};
 
 use crate::answers::{done, seen};
 use kp_handles::{
-    AbortedOut, FetchedOut, Handle, HeadOut, OpenOut, SaidOut, ValueOut, aborted_at, addressee,
-    batch_size, count, fetched_at, head_at, open_at, record_at, said, write_batch, write_value,
+    AbortedAt, AbortedOut, Addressee, BatchSize, Count, FetchedAt, FetchedOut, Handle, HeadAt,
+    HeadOut, OpenAt, OpenOut, SaidOut, Saying, ValueAt, ValueOut, WriteBatch, WriteValue, look,
+    look_into,
 };
 use std::alloc::Global;
 use std::marker::Brand;
@@ -27,7 +28,7 @@ pub extern "C" fn kp_count(alloc: Global, handle: &mut Handle, found: &mut usize
         × IfErr answer (BadCount handle.old.object) × OnErr answer (found.new ≡ found.old) }
     ensures same { handle.new.object ≡ handle.old.object }
 {
-    seen(count::<Brand>(alloc, handle), found)
+    seen(look::<Brand, _, _>(alloc, handle, Count), found)
 }
 
 /// How many bytes one of the batches has.
@@ -43,7 +44,10 @@ pub extern "C" fn kp_batch_size(
         × IfErr answer (NoBatch index batches.old.object) × OnErr answer (size.new ≡ size.old) }
     ensures same { batches.new.object ≡ batches.old.object }
 {
-    seen(batch_size::<Brand>(alloc, batches, index), size)
+    seen(
+        look::<Brand, _, _>(alloc, batches, BatchSize { index }),
+        size,
+    )
 }
 
 /// The head of one of the batches.
@@ -59,7 +63,7 @@ pub extern "C" fn kp_batch_head(
         × IfErr answer (NoBatch index batches.old.object) × OnErr answer (found.new ≡ found.old) }
     ensures same { batches.new.object ≡ batches.old.object }
 {
-    seen(head_at::<Brand>(alloc, batches, index), found)
+    seen(look::<Brand, _, _>(alloc, batches, HeadAt { index }), found)
 }
 
 /// Copies one of the batches.
@@ -69,7 +73,7 @@ pub extern "C" fn kp_batch(alloc: Global, batches: &mut Handle, index: usize, to
         × IfErr answer (BadBatch index (length to.old) batches.old.object) × OnErr answer (to.new ≡ to.old) }
     ensures same { batches.new.object ≡ batches.old.object }
 {
-    done(write_batch::<Brand>(alloc, batches, index, to))
+    done(look_into::<Brand, _>(alloc, batches, WriteBatch { index }, to))
 }
 
 /// One of the records, but for the bytes of its value.
@@ -85,7 +89,10 @@ pub extern "C" fn kp_committed(
         × IfErr answer (NoRecord index records.old.object) × OnErr answer (found.new ≡ found.old) }
     ensures same { records.new.object ≡ records.old.object }
 {
-    seen(record_at::<Brand>(alloc, records, index), found)
+    seen(
+        look::<Brand, _, _>(alloc, records, ValueAt { index }),
+        found,
+    )
 }
 
 /// Copies the value of one of the records.
@@ -95,7 +102,7 @@ pub extern "C" fn kp_value(alloc: Global, records: &mut Handle, index: usize, to
         × IfErr answer (BadValue index (length to.old) records.old.object) × OnErr answer (to.new ≡ to.old) }
     ensures same { records.new.object ≡ records.old.object }
 {
-    done(write_value::<Brand>(alloc, records, index, to))
+    done(look_into::<Brand, _>(alloc, records, WriteValue { index }, to))
 }
 
 /// What a fetch gave, but for its batches and the aborted transactions.
@@ -106,7 +113,7 @@ pub extern "C" fn kp_fetched(alloc: Global, fetched: &mut Handle, found: &mut Fe
         × IfErr answer (BadFetched fetched.old.object) × OnErr answer (found.new ≡ found.old) }
     ensures same { fetched.new.object ≡ fetched.old.object }
 {
-    seen(fetched_at::<Brand>(alloc, fetched), found)
+    seen(look::<Brand, _, _>(alloc, fetched, FetchedAt), found)
 }
 
 /// One of the aborted transactions that go with what was fetched.
@@ -122,7 +129,10 @@ pub extern "C" fn kp_aborted(
         × IfErr answer (NoAborted index fetched.old.object) × OnErr answer (found.new ≡ found.old) }
     ensures same { fetched.new.object ≡ fetched.old.object }
 {
-    seen(aborted_at::<Brand>(alloc, fetched, index), found)
+    seen(
+        look::<Brand, _, _>(alloc, fetched, AbortedAt { index }),
+        found,
+    )
 }
 
 /// One of the transactions that are open.
@@ -138,7 +148,10 @@ pub extern "C" fn kp_open_transaction(
         × IfErr answer (NoOpen index transactions.old.object) × OnErr answer (found.new ≡ found.old) }
     ensures same { transactions.new.object ≡ transactions.old.object }
 {
-    seen(open_at::<Brand>(alloc, transactions, index), found)
+    seen(
+        look::<Brand, _, _>(alloc, transactions, OpenAt { index }),
+        found,
+    )
 }
 
 /// What a message says, and who sent it.
@@ -150,7 +163,7 @@ pub extern "C" fn kp_said(alloc: Global, message: &mut Handle, found: &mut SaidO
     ensures same { message.new.object ≡ message.old.object }
     ensures cluster { message.new.table ≡ message.old.table }
 {
-    seen(said::<Brand>(alloc, message), found)
+    seen(look::<Brand, _, _>(alloc, message, Saying), found)
 }
 
 /// The node that a message goes to, or 255 for the controller.
@@ -162,5 +175,5 @@ pub extern "C" fn kp_addressee(alloc: Global, message: &mut Handle, found: &mut 
     ensures same { message.new.object ≡ message.old.object }
     ensures cluster { message.new.table ≡ message.old.table }
 {
-    seen(addressee::<Brand>(alloc, message), found)
+    seen(look::<Brand, _, _>(alloc, message, Addressee), found)
 }

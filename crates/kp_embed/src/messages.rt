@@ -9,7 +9,7 @@ ghost use Rattle.kp_handles.specs.Outs.{change_in};
 ghost use Rattle.kp_handles.specs.declared.misuse.Misuse.{Misuse};
 
 use crate::answers::number;
-use kp_handles::{Handle, change_in, decide, repeat, send, step};
+use kp_handles::{Handle, SendMessage, change_in, decide, give_by_node, repeat, step};
 use std::alloc::Global;
 use std::marker::Brand;
 
@@ -21,7 +21,8 @@ pub extern "C" fn kp_ask(alloc: Global, node: &mut Handle, message: &mut Handle)
     ensures cluster { node.new.table ≡ node.old.table }
     ensures named { result ≡ 0 → message.new.table ≡ node.old.table }
 {
-    number(send::<Brand>(alloc, node, None, message))
+    let call = SendMessage { proposed: None };
+    number(give_by_node::<Brand, _>(alloc, node, message, call))
 }
 
 /// A node proposes a change of the in-sync replicas, into a closed handle.
@@ -38,7 +39,10 @@ pub extern "C" fn kp_alter(
     ensures cluster { node.new.table ≡ node.old.table }
     ensures named { result ≡ 0 → message.new.table ≡ node.old.table }
 {
-    number(send::<Brand>(alloc, node, Some(change_in(joins, which)), message))
+    let call = SendMessage {
+        proposed: Some(change_in(joins, which)),
+    };
+    number(give_by_node::<Brand, _>(alloc, node, message, call))
 }
 
 /// A message comes to a node; its handle holds the answer then, or is closed.

@@ -10,7 +10,7 @@ ghost use Rattle.kp_handles.specs.Numbers.{answer_number};
 ghost use Rattle.kp_handles.specs.Outs.{WritesOut, restart_out, role_out};
 
 use crate::answers::{number, told};
-use kp_handles::{Handle, RestartOut, RoleOut, adopt, checkpoint, raise, restart, stop};
+use kp_handles::{Adopt, Checkpoint, Handle, Raise, Restart, RestartOut, RoleOut, Stop, with_node};
 use std::alloc::Global;
 use std::marker::Brand;
 
@@ -22,7 +22,7 @@ pub extern "C" fn kp_adopt(alloc: Global, node: &mut Handle, role: &mut RoleOut)
         × WritesOut role_out answer role.old role.new }
     ensures cluster { node.new.table ≡ node.old.table }
 {
-    told(adopt::<Brand>(alloc, node), role)
+    told(with_node::<Brand, _, _>(alloc, node, Adopt), role)
 }
 
 /// Raises the high watermark.
@@ -33,7 +33,7 @@ pub extern "C" fn kp_raise(alloc: Global, node: &mut Handle, offset: &mut u64) -
         × WritesOut (λ mark. mark) answer offset.old offset.new }
     ensures cluster { node.new.table ≡ node.old.table }
 {
-    told(raise::<Brand>(alloc, node), offset)
+    told(with_node::<Brand, _, _>(alloc, node, Raise), offset)
 }
 
 /// Notes the high watermark as the checkpoint.
@@ -44,7 +44,7 @@ pub extern "C" fn kp_checkpoint(alloc: Global, node: &mut Handle, offset: &mut u
         × WritesOut (λ mark. mark) answer offset.old offset.new }
     ensures cluster { node.new.table ≡ node.old.table }
 {
-    told(checkpoint::<Brand>(alloc, node), offset)
+    told(with_node::<Brand, _, _>(alloc, node, Checkpoint), offset)
 }
 
 /// Stops the node.
@@ -54,7 +54,7 @@ pub extern "C" fn kp_stop(alloc: Global, node: &mut Handle) -> u32
         × NodeCalled node.old.object node.new.object answer Stops }
     ensures cluster { node.new.table ≡ node.old.table }
 {
-    number(stop::<Brand>(alloc, node))
+    number(with_node::<Brand, _, _>(alloc, node, Stop))
 }
 
 /// Starts the node again.
@@ -65,5 +65,5 @@ pub extern "C" fn kp_restart(alloc: Global, node: &mut Handle, restarted: &mut R
         × WritesOut restart_out answer restarted.old restarted.new }
     ensures cluster { node.new.table ≡ node.old.table }
 {
-    told(restart::<Brand>(alloc, node), restarted)
+    told(with_node::<Brand, _, _>(alloc, node, Restart), restarted)
 }

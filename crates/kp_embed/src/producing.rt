@@ -14,8 +14,8 @@ ghost use Rattle.kp_handles.specs.declared.misuse.Misuse.{Misuse};
 
 use crate::answers::{done, told};
 use kp_handles::{
-    Called, Handle, MarkerIn, ReceiptOut, acked, hand, mark_in, misuse_number, produce,
-    produce_handed, refusal_number,
+    Acked, Called, Handle, MarkerIn, ReceiptOut, hand, mark_in, misuse_number, produce,
+    produce_handed, refusal_number, with_pair,
 };
 use kp_replica::Receipt;
 use std::alloc::Global;
@@ -131,5 +131,8 @@ pub extern "C" fn kp_acked(
         × WritesOut ack_out answer ack.old ack.new }
     ensures cluster { (node.new.table ≡ node.old.table) × (pass.new.table ≡ pass.old.table) }
 {
-    told(acked::<Brand>(alloc, node, pass, &receipt.receipt()), ack)
+    let call = Acked {
+        receipt: receipt.receipt(),
+    };
+    told(with_pair::<Brand, _, _>(alloc, node, pass, call), ack)
 }

@@ -7,7 +7,7 @@ ghost use Rattle.kp_handles.specs.Reading.{CommittedCalled, FetchCalled, ReadCal
 ghost use Rattle.kp_handles.specs.declared.misuse.Misuse.{Misuse};
 
 use crate::answers::number;
-use kp_handles::{Handle, fetch, read, read_committed};
+use kp_handles::{Fetch, Handle, Read, ReadCommitted, give_by_pair, isolation_in};
 use std::alloc::Global;
 use std::marker::Brand;
 
@@ -26,7 +26,7 @@ pub extern "C" fn kp_read(
         × ReadCalled from node.old.object node.new.object pass.old.object pass.new.object batches.old.object batches.new.object answer }
     ensures cluster { (node.new.table ≡ node.old.table) × (pass.new.table ≡ pass.old.table) }
 {
-    number(read::<Brand>(alloc, node, pass, from, batches))
+    number(give_by_pair::<Brand, _>(alloc, node, pass, batches, Read { from }))
 }
 
 /// Reads the records that a read-committed consumer gets into a closed handle.
@@ -44,7 +44,7 @@ pub extern "C" fn kp_read_committed(
         × CommittedCalled from node.old.object node.new.object pass.old.object pass.new.object records.old.object records.new.object answer }
     ensures cluster { (node.new.table ≡ node.old.table) × (pass.new.table ≡ pass.old.table) }
 {
-    number(read_committed::<Brand>(alloc, node, pass, from, records))
+    number(give_by_pair::<Brand, _>(alloc, node, pass, records, ReadCommitted { from }))
 }
 
 /// Fetches for a consumer into a closed handle.
@@ -64,5 +64,10 @@ pub extern "C" fn kp_fetch(
         × FetchCalled from most_bytes read_committed node.old.object node.new.object pass.old.object pass.new.object fetched.old.object fetched.new.object answer }
     ensures cluster { (node.new.table ≡ node.old.table) × (pass.new.table ≡ pass.old.table) }
 {
-    number(fetch::<Brand>(alloc, node, pass, from, most_bytes, read_committed, fetched))
+    let call = Fetch {
+        from,
+        most_bytes,
+        isolation: isolation_in(read_committed),
+    };
+    number(give_by_pair::<Brand, _>(alloc, node, pass, fetched, call))
 }

@@ -7,7 +7,9 @@ ghost use Rattle.kp_handles.specs.declared.records.PartOut.{PartOut};
 ghost use Rattle.kp_handles.specs.declared.records.RecordOut.{RecordOut};
 
 use crate::answers::{done, seen};
-use kp_handles::{Handle, PartOut, RecordAt, RecordOut, part_at, record_in, write_part};
+use kp_handles::{
+    Handle, PartAt, PartOut, RecordAt, RecordIn, RecordOut, WritePart, look, look_into,
+};
 use std::alloc::Global;
 use std::marker::Brand;
 
@@ -24,7 +26,10 @@ pub extern "C" fn kp_record(
         × IfErr answer (NoRecordAt place.now batches.old.object) × OnErr answer (found.new ≡ found.old) }
     ensures same { batches.new.object ≡ batches.old.object }
 {
-    seen(record_in::<Brand>(alloc, batches, *place), found)
+    seen(
+        look::<Brand, _, _>(alloc, batches, RecordIn { at: *place }),
+        found,
+    )
 }
 
 /// A part of the record at a place, but for its bytes.
@@ -41,7 +46,8 @@ pub extern "C" fn kp_record_part(
         × IfErr answer (NoPartAt place.now part batches.old.object) × OnErr answer (found.new ≡ found.old) }
     ensures same { batches.new.object ≡ batches.old.object }
 {
-    seen(part_at::<Brand>(alloc, batches, *place, part), found)
+    let what = PartAt { at: *place, part };
+    seen(look::<Brand, _, _>(alloc, batches, what), found)
 }
 
 /// Copies a part of the record at a place.
@@ -58,5 +64,6 @@ pub extern "C" fn kp_record_bytes(
         × IfErr answer (BadPartAt place.now part (length to.old) batches.old.object) × OnErr answer (to.new ≡ to.old) }
     ensures same { batches.new.object ≡ batches.old.object }
 {
-    done(write_part::<Brand>(alloc, batches, *place, part, to))
+    let what = WritePart { at: *place, part };
+    done(look_into::<Brand, _>(alloc, batches, what, to))
 }

@@ -6,7 +6,7 @@ ghost use Rattle.kp_handles.specs.Segments.{SegmentCalled, SegmentsCalled};
 ghost use Rattle.kp_handles.specs.declared.misuse.Misuse.{Misuse};
 
 use crate::answers::number;
-use kp_handles::{Handle, segment, segments_of};
+use kp_handles::{Handle, ShareSegments, give_by_node, segment};
 use std::alloc::Global;
 use std::marker::Brand;
 
@@ -17,7 +17,7 @@ pub extern "C" fn kp_segments(alloc: Global, node: &mut Handle, segments: &mut H
         × SegmentsCalled node.old.object node.new.object segments.old.object segments.new.object answer }
     ensures cluster { node.new.table ≡ node.old.table }
 {
-    number(segments_of::<Brand>(alloc, node, segments))
+    number(give_by_node::<Brand, _>(alloc, node, segments, ShareSegments { alloc }))
 }
 
 /// Writes the name of a segment's file, and puts the segment's batches into a closed handle.

@@ -12,7 +12,10 @@ ghost use Rattle.kp_handles.specs.Telling.{EndsFor, Shows, epoch_out, state_out,
 ghost use Rattle.kp_handles.specs.declared.misuse.Misuse.{Misuse};
 
 use crate::answers::told;
-use kp_handles::{EpochOut, Handle, StateOut, TimeOut, end_for, offset_for_time, show};
+use kp_handles::{
+    EndFor, EpochOut, Handle, OffsetForTime, Show, StateOut, TimeOut, isolation_in, with_node,
+    with_pair,
+};
 use std::alloc::Global;
 use std::marker::Brand;
 
@@ -24,7 +27,7 @@ pub extern "C" fn kp_show(alloc: Global, node: &mut Handle, found: &mut StateOut
         × WritesOut state_out answer found.old found.new }
     ensures cluster { node.new.table ≡ node.old.table }
 {
-    told(show::<Brand>(alloc, node), found)
+    told(with_node::<Brand, _, _>(alloc, node, Show), found)
 }
 
 /// Where a leader epoch ends.
@@ -40,7 +43,10 @@ pub extern "C" fn kp_end_for(
         × WritesOut epoch_out answer found.old found.new }
     ensures cluster { node.new.table ≡ node.old.table }
 {
-    told(end_for::<Brand>(alloc, node, epoch), found)
+    told(
+        with_node::<Brand, _, _>(alloc, node, EndFor { epoch }),
+        found,
+    )
 }
 
 /// The offset for a time.
@@ -60,8 +66,9 @@ pub extern "C" fn kp_offset_for_time(
         × WritesOut time_out answer found.old found.new }
     ensures cluster { (node.new.table ≡ node.old.table) × (pass.new.table ≡ pass.old.table) }
 {
+    let isolation = isolation_in(read_committed);
     told(
-        offset_for_time::<Brand>(alloc, node, pass, time, read_committed),
+        with_pair::<Brand, _, _>(alloc, node, pass, OffsetForTime { time, isolation }),
         found,
     )
 }

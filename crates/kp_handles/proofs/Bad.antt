@@ -1,6 +1,7 @@
 -- Why calls aren't made.
-use Rattle.std.proofs.Common.{◌≡◌, ◌⊎◌, ℕ, List, refl, sym, ap, subst, ◌∙◌}
+use Rattle.std.proofs.Common.{◌≡◌, ℕ, List, refl, sym, ap, subst, ◌∙◌}
 use mathlib.Core.Logic.{inl, inr}
+use Rattle.std.specs.Global.{Box}
 use Rattle.std.specs.Prelude.{Option, Some, None, Result, Ok, Err, IfOk, IfErr, OnErr, length, slice_get}
 use Rattle.kp_batch.specs.Batch.{Written}
 use Rattle.kp_segment.specs.declared.name.SegmentName.{SegmentName}
@@ -8,22 +9,20 @@ use Rattle.kp_model.specs.World.{Message as ModelMessage}
 use Rattle.kp_model.specs.declared.message.MessageBody.{MessageBody}
 use Rattle.kp_board.specs.Views.{CallerView}
 use Rattle.kp_node.specs.Seated.{SeatedNode}
-use Rattle.kp_types.specs.declared.limits.Limits.{Limits}
 use Rattle.kp_types.specs.declared.refusal.Refusal.{Refusal}
-use Rattle.kp_board.specs.Views.{NodeView}
 use Rattle.kp_replica.specs.declared.producing.Receipt.{Receipt}
-use Rattle.kp_handles.specs.Again.{BadKeep, HoldsNoneLeft, KeepCalled}
+use Rattle.kp_handles.specs.Again.{HoldsNoneLeft, KeepCalled}
 use Rattle.kp_handles.specs.Left.{LeftView}
-use Rattle.kp_handles.specs.CallerCalls.{BadCallers, ReceiptsTold}
-use Rattle.kp_handles.specs.Called.{BadCaller, BadNode, BadPair, BadRoom, PairCalled}
+use Rattle.kp_handles.specs.CallerCalls.{ReceiptsTold}
+use Rattle.kp_handles.specs.Called.{BadCaller, BadNode, BadPair, BadRoom, PairCalled, done_of, made_of}
 use Rattle.kp_handles.specs.Handing.{BadHand, BadHanded, BadShare, HandedCalled, IsFree}
-use Rattle.kp_handles.specs.Holding.{BadCount, BadFetched, BadLetter, BadPart, BadPartOf, segments_in}
+use Rattle.kp_handles.specs.Holding.{segments_in}
 use Rattle.kp_handles.specs.Messages.{BadDecide, BadRepeat, BadStep}
 use Rattle.kp_handles.specs.Objects.{ObjectView, caller, cluster, handed, is_open, left, message, node, segments}
 use Rattle.kp_handles.specs.Opening.{BadCallerOpening, BadNodeOpening}
 use Rattle.kp_node.specs.CallerCalls.{Produces}
 use Rattle.kp_handles.specs.PairCalls.{BadBytes, FitsBatch}
-use Rattle.kp_handles.specs.Segments.{BadName, BadSegment}
+use Rattle.kp_handles.specs.Segments.{BadName, BadSegment, GivesSegment, SegmentCalled, SegmentMet}
 use Rattle.kp_handles.specs.declared.left.KeptIn.{KeptIn}
 use Rattle.kp_handles.specs.declared.misuse.Misuse.{Misuse}
 use Rattle.kp_handles.specs.declared.misuse.Misuse.TheVariants.{Closed, OtherKind, InUse, NoRoom, OutOfRange, BadLength}
@@ -35,28 +34,6 @@ unwrap d (Some o) = o
 pub same_object : (o p : ObjectView) (x : Option ObjectView) → x ≡ Some o → x ≡ Some p → o ≡ p
 unfolding unwrap
 same_object o p x e f = ap (unwrap o) (sym e ∙ f)
-
-module _ (why : Misuse) (n m : Option ObjectView) where
-  pub pair_closed : (Own : Misuse → Type 0) → why ≡ Closed → (n ≡ None) ⊎ (m ≡ None) → BadPair Own n m why
-  pair_closed Own e none = subst (BadPair Own n m) (sym e) none
-
-  pub step_closed : why ≡ Closed → (n ≡ None) ⊎ (m ≡ None) → BadStep n m why
-  step_closed e none = subst (BadStep n m) (sym e) none
-
-  pub decide_closed : why ≡ Closed → (n ≡ None) ⊎ (m ≡ None) → BadDecide n m why
-  decide_closed e none = subst (BadDecide n m) (sym e) none
-
-  pub repeat_closed : (out : Option ObjectView) → why ≡ Closed → (n ≡ None) ⊎ (m ≡ None) → BadRepeat n m out why
-  repeat_closed out e none = subst (BadRepeat n m out) (sym e) none
-
-  pub callers_closed : why ≡ Closed → (n ≡ None) ⊎ (m ≡ None) → BadCallers n m why
-  callers_closed e none = subst (BadCallers n m) (sym e) none
-
-  pub node_closed : (Own : Misuse → Type 0) → why ≡ Closed → n ≡ None → BadNode Own n why
-  node_closed Own e none = subst (BadNode Own n) (sym e) none
-
-  pub caller_closed : why ≡ Closed → n ≡ None → BadCaller n why
-  caller_closed e none = subst (BadCaller n) (sym e) none
 
 -- what is so of objects is so of the handles that hold them
 module _ (why : Misuse) (n m out : Option ObjectView) (o l : ObjectView) (en : n ≡ Some o) where
@@ -147,15 +124,6 @@ module _ (n : Option ObjectView) (o : ObjectView) where
   hand_used never (inr (was, e)) = never was (same_object o (handed was) (Some o) refl e)
 
 module _ (held : Option ObjectView) where
-  pub share_closed : (why : Misuse) → why ≡ Closed → held ≡ None → BadShare held why
-  share_closed why e none = subst (BadShare held) (sym e) none
-
-  pub share_bad : (o : ObjectView) (why : Misuse) → held ≡ Some o → BadShare (Some o) why → BadShare held why
-  share_bad o why e bad = subst (λ (x : Option ObjectView). BadShare x why) (sym e) bad
-
-  pub handed_closed : (n m : Option ObjectView) (why : Misuse) → why ≡ Closed → (n ≡ None) ⊎ (m ≡ None) → BadHanded held n m why
-  handed_closed n m why e none = subst (BadHanded held n m) (sym e) (inr none)
-
   bad_share : (n m : Option ObjectView) (x : SeatedNode) (k : ℕ) (c : CallerView) (why : Misuse)
       → n ≡ Some (node x) → m ≡ Some (caller k c) → BadShare held why → BadHanded held n m why
   bad_share n m x k c Closed e f bad = inl bad
@@ -205,42 +173,10 @@ module _ (why : Misuse) (n m : Option ObjectView) (o l : ObjectView) (is : why �
 -- ---- of clusters
 
 module _ (old out : Option ObjectView) (why : Misuse) where
-  pub node_opening_closed : why ≡ Closed → old ≡ None → BadNodeOpening old out why
-  node_opening_closed e none = subst (BadNodeOpening old out) (sym e) none
-
-  pub caller_opening_closed : why ≡ Closed → old ≡ None → BadCallerOpening old out why
-  caller_opening_closed e none = subst (BadCallerOpening old out) (sym e) none
-
   pub caller_room : (n : ℕ) (waiting : List SeatedNode) (callers : ℕ) → why ≡ NoRoom → old ≡ Some (cluster n waiting callers) → out ≡ None → BadCallerOpening old out why
   caller_room n waiting callers e is none = subst (BadCallerOpening old out) (sym e) (n, waiting, callers, is, none)
 
--- ---- of what stands in a handle
-
-pub closed_count : (old : Option ObjectView) (why : Misuse) → why ≡ Closed → old ≡ None → BadCount old why
-closed_count old why e none = subst (BadCount old) (sym e) none
-
-pub closed_letter : (old : Option ObjectView) (why : Misuse) → why ≡ Closed → old ≡ None → BadLetter old why
-closed_letter old why e none = subst (BadLetter old) (sym e) none
-
-pub closed_fetched : (old : Option ObjectView) (why : Misuse) → why ≡ Closed → old ≡ None → BadFetched old why
-closed_fetched old why e none = subst (BadFetched old) (sym e) none
-
-module _ {X : Type 0} (inside : ObjectView → Option (List X)) (size : X → ℕ) (index places : ℕ) where
-  pub bad_part : (o : ObjectView) (old : Option ObjectView) (why : Misuse) → old ≡ Some o → BadPartOf inside size index places o why → BadPart inside size index places old why
-  bad_part o old OtherKind e bad = (o, e, bad)
-  bad_part o old OutOfRange e bad = (o, e, bad)
-  bad_part o old BadLength e bad = (o, e, bad)
-  bad_part o old NoRoom e bad = absurd bad
-  bad_part o old Closed e bad = absurd bad
-  bad_part o old InUse e bad = absurd bad
-
-  pub closed_part : (old : Option ObjectView) (why : Misuse) → why ≡ Closed → old ≡ None → BadPart inside size index places old why
-  closed_part old why e none = subst (BadPart inside size index places old) (sym e) none
-
 module _ (index places : ℕ) (out : Option ObjectView) where
-  pub segment_closed : (old : Option ObjectView) (why : Misuse) → why ≡ Closed → old ≡ None → BadSegment index places old out why
-  segment_closed old why e none = subst (BadSegment index places old out) (sym e) none
-
   pub segment_name_bad : (ss : List (SegmentName × List Written)) (s : SegmentName × List Written) (o : ObjectView) (why : Misuse)
       → o ≡ segments ss → slice_get ss index ≡ Some s → BadName s places why → BadSegment index places (Some o) None why
   segment_name_bad ss s o BadLength e at bad = (o, refl, (ss, s, ap segments_in e, at, bad))
@@ -261,12 +197,31 @@ told_called o o' l l' n n' m m' r told en en' em em' =
 -- ---- of nodes that were read back
 
 module _ (bytes : List ℕ) (k : KeptIn) (old : Option ObjectView) where
-  pub keep_closed : (why : Misuse) → why ≡ Closed → old ≡ None → BadKeep old why
-  keep_closed why e none = subst (BadKeep old) (sym e) none
-
   pub keep_called : (new : Option ObjectView) (o p : ObjectView) (answer : Result (Result (Unit {0}) Refusal) Misuse) → old ≡ Some o → new ≡ Some p
       → KeepCalled bytes k (Some o) (Some p) answer → KeepCalled bytes k old new answer
   keep_called new o p answer e f called = subst (λ (x : Option ObjectView × Option ObjectView). KeepCalled bytes k x.0 x.1 answer) (λ i. (sym e i, sym f i)) called
 
 pub no_left : (old : Option ObjectView) (o : ObjectView) (why : Misuse) → why ≡ OtherKind → old ≡ Some o → ((x : LeftView) → o ≡ left x → ⊥) → HoldsNoneLeft old why
 no_left old o why is e never = subst (HoldsNoneLeft old) (sym is) (ap is_open e, λ x f. never x (same_object o (left x) old e f))
+
+-- ---- of segments
+
+-- one of what an object holds is one of what its handle holds
+module _ (index : ℕ) (o : ObjectView) (from to : List ℕ) where
+  pub segment_met : (ss : List (SegmentName × List Written)) (s : SegmentName × List Written) (answer : Result (Result (Box ObjectView) Refusal) Misuse)
+      → o ≡ segments ss → slice_get ss index ≡ Some s → GivesSegment s from to answer → SegmentMet o index from to answer
+  segment_met ss s (Ok (Ok made)) e at (wrote, is) = (o, ss, s, refl, ap segments_in e, at, (wrote, is))
+  segment_met ss s (Ok (Err refusal)) e at (same, is) = (same, (o, ss, s, refl, ap segments_in e, at, is))
+  segment_met ss s (Err why) e at (same, bad) = (same, segment_name_bad index (length from) None ss s o why e at bad)
+
+  called_by : (old out wrote : Option ObjectView) (answer : Result (Result (Box ObjectView) Refusal) Misuse)
+      → SegmentMet o index from to answer → old ≡ Some o → out ≡ None → wrote ≡ made_of answer → SegmentCalled old index from to out wrote (done_of answer)
+  called_by old out wrote (Ok (Ok made)) (p, ss, s, e, f, at, (front, is)) held none came =
+      (none, (p, ss, s, held ∙ e, f, at, (front, came ∙ ap (λ (v : ObjectView). Some v) is)))
+  called_by old out wrote (Ok (Err refusal)) (same, (p, ss, s, e, f, at, is)) held none came = (same, came ∙ sym none, (p, ss, s, held ∙ e, f, at, is))
+  called_by old out wrote (Err why) (same, bad) held none came = (same, came ∙ sym none, segment_bad why old None out o o held index (length from) none bad)
+
+  pub segment_called : (old out wrote : Option ObjectView) (answer : Result (Result (Box ObjectView) Refusal) Misuse) (r : Result (Result (Unit {0}) Refusal) Misuse)
+      → SegmentMet o index from to answer → old ≡ Some o → out ≡ None → wrote ≡ made_of answer → r ≡ done_of answer → SegmentCalled old index from to out wrote r
+  segment_called old out wrote answer r met held none came e =
+      subst (λ (d : Result (Result (Unit {0}) Refusal) Misuse). SegmentCalled old index from to out wrote d) (sym e) (called_by old out wrote answer met held none came)

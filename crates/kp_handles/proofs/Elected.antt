@@ -1,5 +1,5 @@
 -- What the record becomes, by what is told of it.
-use Rattle.std.proofs.Common.{◌≡◌, ℕ, Option, Some, None, Result, Ok, Err, IfOk, IfErr, ap, subst, sym}
+use Rattle.std.proofs.Common.{◌≡◌, ℕ, Option, Some, Result, Ok, Err, IfOk, IfErr, ap, subst, sym}
 use Rattle.kp_types.specs.Causes.{IsRefusedOnlyBy}
 use Rattle.kp_types.proofs.Causes.{only_cause, only_none}
 use Rattle.kp_types.specs.declared.refusal.Refusal.{Refusal}
@@ -14,7 +14,7 @@ use Rattle.kp_model.specs.declared.record.LeaderAndIsr.{LeaderAndIsr}
 use Rattle.kp_handles.specs.Again.{DecidesNext, IsProposal, NextDecided, NextElected}
 use Rattle.kp_handles.specs.Objects.{ObjectView, is_open}
 use Rattle.kp_handles.specs.declared.misuse.Misuse.{Misuse}
-use Rattle.kp_handles.specs.declared.misuse.Misuse.TheVariants.{Closed, OtherKind}
+use Rattle.kp_handles.specs.declared.misuse.Misuse.TheVariants.{OtherKind}
 use Rattle.kp_handles.specs.Outs.{leadership_out}
 use Rattle.kp_handles.specs.declared.outs.LeadershipOut.{LeadershipOut}
 
@@ -38,9 +38,6 @@ module _ (c : ModelRecord) (p : ModelProposal) where
   decides_none refusal cause = only_cause SaidDecision (decide_cause c p) refusal cause
 
 module _ (known : LeadershipOut) (old : Option ObjectView) where
-  pub next_closed : (why : Misuse) → why ≡ Closed → old ≡ None → NextDecided known old (Err why)
-  next_closed why e none = subst (λ (w : Misuse). NextDecided known old (Err w)) (sym e) none
-
   pub next_decided : (r : LeaderAndIsr) (o : ObjectView) (answer : Result (Result LeaderAndIsr Refusal) Misuse) → known ≡ leadership_out r → old ≡ Some o
       → IfOk answer (λ next. (p : SaidProposal) × IsProposal (Some o) p × DecidesNext (record_of r) (proposal_of p) next)
       → IfErr answer (λ why. (why ≡ OtherKind) × ((p : SaidProposal) → IsProposal (Some o) p → ⊥)) → NextDecided known old answer

@@ -1,11 +1,11 @@
 -- What a node and a caller's pass give into a handle.
 use Rattle.std.proofs.Common.{◌≡◌, ℕ, refl, sym, ap, subst, ◌∙◌}
-use Rattle.std.specs.Prelude.{Option, Some, None, Result, Ok, Err, IfOk, IfErr, OnErr}
+use Rattle.std.specs.Prelude.{Some, None, Result, Ok, Err, IfOk, IfErr, OnErr}
 use Rattle.std.specs.Global.{Box}
 use Rattle.kp_board.specs.Views.{CallerView}
 use Rattle.kp_node.specs.Seated.{SeatedNode}
 use Rattle.kp_types.specs.declared.refusal.Refusal.{Refusal}
-use Rattle.kp_handles.specs.Called.{BadPair, BadRoom, GiveCalled, IsMade, done_of, made_of}
+use Rattle.kp_handles.specs.Called.{BadPair, BadRoom, GiveCalled, IsBoxed, done_of, made_of}
 use Rattle.kp_handles.specs.Objects.{ObjectView, caller, node}
 use Rattle.kp_handles.specs.declared.misuse.Misuse.{Misuse}
 use Rattle.kp_handles.specs.declared.misuse.Misuse.TheVariants.{NoRoom, OtherKind}
@@ -32,7 +32,7 @@ module _ {X : Type 0} (hold : X → ObjectView) (P : SeatedNode → SeatedNode �
   no_room : (why : Misuse) → why ≡ NoRoom → BadPair (BadRoom None) (Some old) (Some other) why
   no_room why is = subst (BadPair (BadRoom None) (Some old) (Some other)) (sym is) ((x, k, c, some old (node x) e, some other (caller k c) f), refl)
 
-  pub pair_made : (r : Result (Result (Box ObjectView) Refusal) Misuse) → IfOk r (IsMade hold (P x y c d)) → OnErr r ((y ≡ x) × (d ≡ c))
+  pub pair_made : (r : Result (Result (Box ObjectView) Refusal) Misuse) → IfOk r (IsBoxed hold (P x y c d)) → OnErr r ((y ≡ x) × (d ≡ c))
       → IfErr r (λ why. why ≡ NoRoom) → GiveCalled hold P (Some old) (Some new) (Some other) (Some then) None (made_of r) (done_of r)
   pair_made (Ok (Ok made)) (found, gave, is) same only =
       (x, y, k, c, d, found, some old (node x) e, some new (node y) e', some other (caller k c) f, some then (caller k d) f', refl, gave, some made.value (hold found) is)
@@ -44,12 +44,3 @@ module _ {X : Type 0} (hold : X → ObjectView) (P : SeatedNode → SeatedNode �
     refl,
     no_room why only,
   )
-
--- what a node and a pass gave is what they are said to give
-module _ {X : Type 0} (hold : X → ObjectView) (P Q : SeatedNode → SeatedNode → CallerView → CallerView → Result X Refusal → Type 0)
-    (old new other then out wrote : Option ObjectView) where
-  pub gives_as : (r : Result (Result (Unit {0}) Refusal) Misuse) → GiveCalled hold P old new other then out wrote r
-      → ((x y : SeatedNode) → (c d : CallerView) → (answer : Result X Refusal) → P x y c d answer → Q x y c d answer) → GiveCalled hold Q old new other then out wrote r
-  gives_as (Ok (Ok done)) (x, y, n, c, d, found, e, e', f, f', was, gave, is) does = (x, y, n, c, d, found, e, e', f, f', was, does x y c d (Ok found) gave, is)
-  gives_as (Ok (Err refusal)) (x, y, n, c, d, e, e', f, f', is, gave) does = (x, y, n, c, d, e, e', f, f', is, does x y c d (Err refusal) gave)
-  gives_as (Err why) called does = called

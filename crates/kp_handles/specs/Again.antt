@@ -1,13 +1,8 @@
 -- How a host opens again what a process has left (own rule).
-use Rattle.std.specs.Prelude.{◌≡◌, ◌⊎◌, ℕ, ◌+◌, ◌<◌, ◌≤◌, ◌^◌, true, if◌then◌else◌, List, [], ◌∷◌, ◌++◌, map, length, slice_get, Option, Some, None, Result, Ok, Err}
-use Rattle.std.specs.Option.{option_map_or}
-use Rattle.kp_types.specs.declared.limits.Limits.{Limits}
+use Rattle.std.specs.Prelude.{◌≡◌, ◌⊎◌, ℕ, ◌≤◌, true, List, length, Option, Some, None, Result, Ok, Err}
 use Rattle.kp_types.specs.declared.refusal.Refusal.{Refusal}
-use Rattle.kp_types.specs.declared.refusal.Refusal.TheVariants.{Memory, RecordFull}
-use Rattle.kp_batch.specs.Batch.{Written}
+use Rattle.kp_types.specs.declared.refusal.Refusal.TheVariants.{Memory}
 use Rattle.kp_model.specs.Controller.{elected}
-use Rattle.kp_model.specs.Left.{again}
-use Rattle.kp_model.specs.Log.{Batch, below, logged}
 use Rattle.kp_model.specs.Set.{record_of}
 use Rattle.kp_model.specs.Step.{decide_cause, decided_on, elect_cause}
 use Rattle.kp_model.specs.Letter.{proposal_of}
@@ -15,10 +10,7 @@ use Rattle.kp_model.specs.World.{LeaderAndIsr as ModelRecord, Message as ModelMe
 use Rattle.kp_model.specs.declared.message.MessageBody.TheVariants.{Proposal}
 use Rattle.kp_model.specs.declared.message.Proposal.{Proposal as SaidProposal}
 use Rattle.kp_model.specs.declared.record.LeaderAndIsr.{LeaderAndIsr}
-use Rattle.kp_log.specs.BatchesIn.{AreBatchesIn}
 use Rattle.kp_board.specs.Opening.{BoardId}
-use Rattle.kp_replica.specs.NumberedNode.{NumberedNode}
-use Rattle.kp_replica.specs.ReadBack.{either_cause, read_back_cause}
 use Rattle.kp_node.specs.Again.{WereLeft, opening_of}
 use Rattle.kp_node.specs.Seats.{left_seats}
 use Rattle.kp_handles.specs.Left.{KeepsNode, KeepsNone, LeftView, promised_of}

@@ -95,9 +95,14 @@ GiveCalled hold P old new other then out wrote (Ok (Err refusal)) =
 GiveCalled hold P old new other then out wrote (Err why) = (new ≡ old) × (then ≡ other) × (wrote ≡ out) × BadPair (BadRoom out) old other why
 
 -- what was made, or why it was refused
-abbrev pub IsMade : {X : Type 0} → (X → ObjectView) → (Result X Refusal → Type 0) → Result (Box ObjectView) Refusal → Type 0
-IsMade {X} hold P (Ok made) = (found : X) × P (Ok found) × (made.value ≡ hold found)
+abbrev pub IsMade : {X : Type 0} → (X → ObjectView) → (Result X Refusal → Type 0) → Result ObjectView Refusal → Type 0
+IsMade {X} hold P (Ok made) = (found : X) × P (Ok found) × (made ≡ hold found)
 IsMade hold P (Err refusal) = P (Err refusal)
+
+-- the same in its room
+abbrev pub IsBoxed : {X : Type 0} → (X → ObjectView) → (Result X Refusal → Type 0) → Result (Box ObjectView) Refusal → Type 0
+IsBoxed {X} hold P (Ok made) = (found : X) × P (Ok found) × (made.value ≡ hold found)
+IsBoxed hold P (Err refusal) = P (Err refusal)
 
 -- what was made, and what of an answer is left once that stands in a handle
 abbrev pub made_of : Result (Result (Box ObjectView) Refusal) Misuse → Option ObjectView

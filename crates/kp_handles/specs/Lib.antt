@@ -1,6 +1,5 @@
 pub mod Again
 pub mod Called
-pub mod Calling
 pub mod CallerCalls
 pub mod Describing
 pub mod Finding

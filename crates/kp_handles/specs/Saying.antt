@@ -1,6 +1,6 @@
 -- What a message says, and who sent it, as the caller is told (own rule).
-use Rattle.std.specs.Prelude.{◌≡◌, ℕ, Bool, false, List, replicate, unwrap_or, Option, Some, None}
-use Rattle.std.specs.Option.{option_map, option_map_or}
+use Rattle.std.specs.Prelude.{◌≡◌, ℕ, Bool, false, List, replicate, unwrap_or, Option, Some}
+use Rattle.std.specs.Option.{option_map_or}
 use Rattle.kp_model.specs.Calls.{said_reply, sent_reply}
 use Rattle.kp_model.specs.Letter.{Deciding, Fetching, Letter, Proposing, letter}
 use Rattle.kp_model.specs.World.{Message as ModelMessage, most_nodes}

@@ -39,7 +39,9 @@ pub fn leave<B: BoardName + Unnamed>(
     ensures same { OnErr result (handle.new ≡ handle.old) }
     ensures only { IfErr result (λ why. why ≡ NoRoom) }
 {
-    let made = room::<B>(alloc)?;
+    let Some(made) = room::<B>(alloc) else {
+        return Err(Misuse::NoRoom);
+    };
     let kind = Kind::Left(LeftNodes::new(alloc, limits));
     put(handle, filled(made, Object { kind }));
     Ok(())
@@ -68,7 +70,7 @@ fn keep_object<B: BoardName>(
 /// behind the one that was kept. F24 where there is none; the bytes' first fault, F1 to F10; F26, F27 or F25 by the first batch that
 /// doesn't stand behind those before it; F19 where the checkpoint is no boundary; F33. Closed, OtherKind; OutOfRange where it holds 7.
 /// O(bytes).
-#[tactic(auto, using(crate::proofs::Bad::keep_closed, crate::proofs::Bad::keep_called))]
+#[tactic(auto, using(crate::proofs::Bad::keep_called))]
 pub fn keep<B: BoardName + Unnamed>(
     alloc: Global,
     handle: &mut Handle,
@@ -78,7 +80,9 @@ pub fn keep<B: BoardName + Unnamed>(
     requires { IfSome handle.old.object (λ _. handle.old.table ≡ B.table) }
     ensures called { KeepCalled bytes.now kept.now handle.old.object handle.new.object result }
 {
-    let mut object = take::<B>(alloc, handle)?;
+    let Some(mut object) = take::<B>(alloc, handle) else {
+        return Err(Misuse::Closed);
+    };
     let answer = keep_object(alloc, &mut object, bytes, kept);
     put(handle, object);
     answer
@@ -107,7 +111,9 @@ pub fn take_left<B: BoardName + Unnamed>(
     ensures same { OnErr result (handle.new.object ≡ handle.old.object) }
     ensures only { IfErr result (HoldsNoneLeft handle.old.object) }
 {
-    let mut place = take::<B>(alloc, handle)?;
+    let Some(mut place) = take::<B>(alloc, handle) else {
+        return Err(Misuse::Closed);
+    };
     let came = Box::replace(&mut place, Object { kind: Kind::Empty });
     match left_of(came) {
         Ok(nodes) => Ok(nodes),
@@ -130,11 +136,13 @@ fn seated<B: BoardName>(
     ensures made { IfOk result (λ b. b.value ≡ cluster (length nodes.nodes) (left_seats opened.opening 0 nodes.nodes) 0) }
     ensures only { IfErr result (λ refusal. refusal ≡ Memory) }
 {
-    let Ok(made) = room::<B>(alloc) else {
+    let Some(made) = room::<B>(alloc) else {
         return Err(Refusal::Memory);
     };
-    let seats = seat_again::<B>(alloc, opened, nodes.into_nodes())?;
-    Ok(filled(made, of_seats(seats)))
+    match seat_again::<B>(alloc, opened, nodes.into_nodes()) {
+        Ok(seats) => Ok(filled(made, of_seats(seats))),
+        Err(refusal) => Err(refusal),
+    }
 }
 
 /// Puts a board that was opened again, under its name, into a closed handle, with these nodes, each down, as it was left. F33 is the only
@@ -153,9 +161,13 @@ pub fn open_left<B: BoardName + Unnamed>(
     ensures same { OnErr result (handle.new ≡ handle.old) }
     ensures only { IfErr result (λ refusal. refusal ≡ Memory) }
 {
-    let made = seated::<B>(alloc, opened, nodes)?;
-    put(handle, made);
-    Ok(())
+    match seated::<B>(alloc, opened, nodes) {
+        Ok(made) => {
+            put(handle, made);
+            Ok(())
+        }
+        Err(refusal) => Err(refusal),
+    }
 }
 
 /// What the record that is told becomes by this node's election: so a host can keep it before the election is tried. F21, F24;
@@ -196,7 +208,6 @@ fn decided_by<B: BoardName>(object: &Object<B>, record: &LeaderAndIsr) -> Called
 
 /// What the record that is told becomes by a decision on the proposal that the handle holds, which stays. F24; Closed; OtherKind where it
 /// holds no proposal; OutOfRange where no record is told. O(1), and no memory.
-#[tactic(auto, using(crate::proofs::Elected::next_closed))]
 pub fn next_decided<B: BoardName + Unnamed>(
     alloc: Global,
     letter: &mut Handle,
@@ -209,7 +220,9 @@ pub fn next_decided<B: BoardName + Unnamed>(
     let Some(record) = known.record() else {
         return Err(Misuse::OutOfRange);
     };
-    let object = take::<B>(alloc, letter)?;
+    let Some(object) = take::<B>(alloc, letter) else {
+        return Err(Misuse::Closed);
+    };
     let next = decided_by(&object, &record);
     put(letter, object);
     next

@@ -1,12 +1,12 @@
 //! What a call of handles does with what they hold.
 
 ghost use Rattle.std.specs.Prelude.{◌≡◌, IfErr, IfOk, IfSome, None, OnErr, OnOk, Some};
-ghost use Rattle.kp_handles.specs.Called.{CallerCalled, GiveCalled, IsMade, NoReason, NodeCalled, NodeGives, PairCalled, done_of, made_of};
+ghost use Rattle.kp_handles.specs.Called.{CallerCalled, GiveCalled, IsBoxed, NoReason, NodeCalled, NodeGives, PairCalled, done_of, made_of};
 ghost use Rattle.kp_handles.specs.declared.misuse.Misuse.TheVariants.{NoRoom};
 
 use crate::handle::{Handle, Unnamed, is_open, put, take, take_two};
 use crate::misuse::Misuse;
-use crate::object::{Held, Kind, Object, filled, room};
+use crate::object::{Kind, Object, filled, room};
 use kp_board::{Board, BoardName, Pass};
 use kp_node::Node;
 use kp_types::Refusal;
@@ -38,153 +38,132 @@ pub(crate) fn put_made<B: BoardName + Unnamed>(
     }
 }
 
-/// What a call does with one thing that a handle holds.
-pub(crate) trait Ask<N, T> {
+/// What a node does.
+pub trait OfNode<T> {
     ghost use Rattle.std.specs.Prelude.{Result};
     ghost use Rattle.kp_types.specs.declared.refusal.Refusal.{Refusal};
+    ghost use Rattle.kp_node.specs.Seated.{SeatedNode};
 
-    ghost ready: { Self → Type 0 };
+    ghost gives: { Self → (old new : SeatedNode) → Result T Refusal → Type 0 };
 
-    ghost gives: { Self → (old new : N) → Result T Refusal → Type 0 };
-
-    fn ask(self, one: &mut N) -> Result<T, Refusal>
-        requires { Self.ready self }
-        ensures { Self.gives self one.old one.new result };
+    fn ask<B: BoardName>(self, node: &mut Node<B>) -> Result<T, Refusal>
+        ensures { Self.gives self node.old node.new result };
 }
 
-impl<N, T, F: FnOnce(&mut N) -> Result<T, Refusal>> Ask<N, T> for F {
-    ghost use Rattle.std.specs.Fn.{FnOnceReturnsAtMut};
+/// What a caller's pass does, beside its board of so many nodes, which has this table.
+pub trait OfPass<T> {
+    ghost use Rattle.std.specs.Prelude.{ℕ, Result};
+    ghost use Rattle.kp_types.specs.declared.refusal.Refusal.{Refusal};
+    ghost use Rattle.kp_board.specs.Opening.{BoardId};
+    ghost use Rattle.kp_board.specs.Views.{CallerView};
 
-    ghost ready = { F.IsAlwaysCallable };
+    ghost gives: { Self → BoardId → ℕ → (old new : CallerView) → Result T Refusal → Type 0 };
 
-    ghost gives = { λ f x y r. FnOnceReturnsAtMut F.FnOnce f x r y };
-
-    fn ask(self, one: &mut N) -> Result<T, Refusal> {
-        self(one)
-    }
+    fn ask<B: BoardName>(self, board: &Board<B>, pass: &mut Pass<B>) -> Result<T, Refusal>
+        ensures { Self.gives self B.table board.now pass.old pass.new result };
 }
 
-/// What it does with one thing beside another, which it only reads. One lifetime for both is what the check of a closure wants.
-pub(crate) trait AskBeside<M, N, T> {
+/// What a node and a caller's pass do.
+pub trait OfPair<T> {
     ghost use Rattle.std.specs.Prelude.{Result};
     ghost use Rattle.kp_types.specs.declared.refusal.Refusal.{Refusal};
+    ghost use Rattle.kp_board.specs.Views.{CallerView};
+    ghost use Rattle.kp_node.specs.Seated.{SeatedNode};
 
-    ghost ready: { Self → Type 0 };
+    ghost gives: { Self → (old new : SeatedNode) → (was is : CallerView) → Result T Refusal → Type 0 };
 
-    ghost gives: { Self → M → (old new : N) → Result T Refusal → Type 0 };
-
-    fn ask<'a>(self, read: &'a M, one: &'a mut N) -> Result<T, Refusal>
-        requires { Self.ready self }
-        ensures { Self.gives self read.now one.old one.new result };
+    fn ask<B: BoardName>(self, node: &mut Node<B>, pass: &mut Pass<B>) -> Result<T, Refusal>
+        ensures { Self.gives self node.old node.new pass.old pass.new result };
 }
 
-impl<M, N, T, F: for<'a> FnOnce(&'a M, &'a mut N) -> Result<T, Refusal>> AskBeside<M, N, T> for F {
-    ghost use Rattle.kp_handles.specs.Calling.{ReturnsBeside};
-
-    ghost ready = { F.IsAlwaysCallable };
-
-    ghost gives = { ReturnsBeside F.FnOnce };
-
-    fn ask<'a>(self, read: &'a M, one: &'a mut N) -> Result<T, Refusal> {
-        self(read, one)
-    }
-}
-
-/// What it does with two things, at one lifetime likewise.
-pub(crate) trait AskBoth<M, N, T> {
+/// What a node gives into a handle.
+pub trait GivenByNode {
     ghost use Rattle.std.specs.Prelude.{Result};
     ghost use Rattle.kp_types.specs.declared.refusal.Refusal.{Refusal};
+    ghost use Rattle.kp_node.specs.Seated.{SeatedNode};
+    ghost use Rattle.kp_handles.specs.Called.{IsMade};
+    ghost use Rattle.kp_handles.specs.Objects.{ObjectView};
 
-    ghost ready: { Self → Type 0 };
+    ghost Found: { Type 0 };
 
-    ghost gives: { Self → (old new : M) → (was is : N) → Result T Refusal → Type 0 };
+    ghost held: { Found → ObjectView };
 
-    fn ask<'a>(self, one: &'a mut M, other: &'a mut N) -> Result<T, Refusal>
-        requires { Self.ready self }
-        ensures { Self.gives self one.old one.new other.old other.new result };
+    ghost gives: { Self → (old new : SeatedNode) → Result Found Refusal → Type 0 };
+
+    fn ask<B: BoardName>(self, node: &mut Node<B>) -> Result<Object<B>, Refusal>
+        ensures { IsMade Self.held (Self.gives self node.old node.new) result };
 }
 
-impl<M, N, T, F: for<'a> FnOnce(&'a mut M, &'a mut N) -> Result<T, Refusal>> AskBoth<M, N, T>
-    for F {
-    ghost use Rattle.kp_handles.specs.Calling.{ReturnsAtPair};
+/// What a node and a caller's pass give into a handle.
+pub trait GivenByPair {
+    ghost use Rattle.std.specs.Prelude.{Result};
+    ghost use Rattle.kp_types.specs.declared.refusal.Refusal.{Refusal};
+    ghost use Rattle.kp_board.specs.Views.{CallerView};
+    ghost use Rattle.kp_node.specs.Seated.{SeatedNode};
+    ghost use Rattle.kp_handles.specs.Called.{IsMade};
+    ghost use Rattle.kp_handles.specs.Objects.{ObjectView};
 
-    ghost ready = { F.IsAlwaysCallable };
+    ghost Found: { Type 0 };
 
-    ghost gives = { ReturnsAtPair F.FnOnce };
+    ghost held: { Found → ObjectView };
 
-    fn ask<'a>(self, one: &'a mut M, other: &'a mut N) -> Result<T, Refusal> {
-        self(one, other)
-    }
-}
+    ghost gives: { Self → (old new : SeatedNode) → (was is : CallerView) → Result Found Refusal → Type 0 };
 
-fn call_node<B: BoardName, T, Q: Ask<Node<B>, T> + Drop>(
-    object: &mut Object<B>,
-    call: Q,
-) -> Called<T>
-    requires { Q.ready call }
-    ensures { NodeCalled (Some object.old) (Some object.new) result (Q.gives call) }
-{
-    match &mut object.kind {
-        Kind::Node(node) => Ok(call.ask(node)),
-        _ => Err(Misuse::OtherKind),
-    }
+    fn ask<B: BoardName>(self, node: &mut Node<B>, pass: &mut Pass<B>) -> Result<Object<B>, Refusal>
+        ensures { IsMade Self.held (Self.gives self node.old node.new pass.old pass.new) result };
 }
 
 /// The node of the handle does this.
-#[tactic(auto, using(crate::proofs::Bad::node_closed, crate::proofs::Bad::node_bad))]
-pub(crate) fn with_node<B: BoardName + Unnamed, T, Q: Ask<Node<B>, T> + Drop>(
+#[tactic(auto, using(crate::proofs::Bad::node_bad))]
+pub fn with_node<B: BoardName + Unnamed, T, Q: OfNode<T> + Drop>(
     alloc: Global,
     handle: &mut Handle,
     call: Q,
 ) -> Called<T>
-    requires ready { Q.ready call }
-    requires table { IfSome handle.old.object (λ _. handle.old.table ≡ B.table) }
+    requires { IfSome handle.old.object (λ _. handle.old.table ≡ B.table) }
     ensures called { NodeCalled handle.old.object handle.new.object result (Q.gives call) }
     ensures cluster { handle.new.table ≡ handle.old.table }
 {
-    let mut object = take::<B>(alloc, handle)?;
-    let answer = call_node(&mut object, call);
+    let Some(mut object) = take::<B>(alloc, handle) else {
+        return Err(Misuse::Closed);
+    };
+    let Kind::Node(node) = &mut object.kind else {
+        put(handle, object);
+        return Err(Misuse::OtherKind);
+    };
+    let answer = call.ask(node);
     put(handle, object);
-    answer
-}
-
-fn call_pass<B: BoardName, T, Q: AskBeside<Board<B>, Pass<B>, T> + Drop>(
-    object: &mut Object<B>,
-    call: Q,
-) -> Called<T>
-    requires { Q.ready call }
-    ensures { CallerCalled (Some object.old) (Some object.new) result (Q.gives call) }
-{
-    match &mut object.kind {
-        Kind::Caller(caller) => Ok(call.ask(&caller.board, &mut caller.pass)),
-        _ => Err(Misuse::OtherKind),
-    }
+    Ok(answer)
 }
 
 /// The caller's pass of the handle, beside its board, does this.
-#[tactic(auto, using(crate::proofs::Bad::caller_closed, crate::proofs::Bad::caller_bad))]
-pub(crate) fn with_pass<B: BoardName + Unnamed, T, Q: AskBeside<Board<B>, Pass<B>, T> + Drop>(
+#[tactic(auto, using(crate::proofs::Bad::caller_bad))]
+pub fn with_pass<B: BoardName + Unnamed, T, Q: OfPass<T> + Drop>(
     alloc: Global,
     handle: &mut Handle,
     call: Q,
 ) -> Called<T>
-    requires ready { Q.ready call }
-    requires table { IfSome handle.old.object (λ _. handle.old.table ≡ B.table) }
-    ensures called { CallerCalled handle.old.object handle.new.object result (Q.gives call) }
+    requires { IfSome handle.old.object (λ _. handle.old.table ≡ B.table) }
+    ensures called { CallerCalled handle.old.object handle.new.object result (Q.gives call B.table) }
     ensures cluster { handle.new.table ≡ handle.old.table }
 {
-    let mut object = take::<B>(alloc, handle)?;
-    let answer = call_pass(&mut object, call);
+    let Some(mut object) = take::<B>(alloc, handle) else {
+        return Err(Misuse::Closed);
+    };
+    let Kind::Caller(caller) = &mut object.kind else {
+        put(handle, object);
+        return Err(Misuse::OtherKind);
+    };
+    let answer = call.ask(&caller.board, &mut caller.pass);
     put(handle, object);
-    answer
+    Ok(answer)
 }
 
-fn call_pair<B: BoardName, T, Q: AskBoth<Node<B>, Pass<B>, T> + Drop>(
+fn call_pair<B: BoardName, T, Q: OfPair<T> + Drop>(
     one: &mut Object<B>,
     other: &mut Object<B>,
     call: Q,
 ) -> Called<T>
-    requires { Q.ready call }
     ensures { PairCalled NoReason (Some one.old) (Some one.new) (Some other.old) (Some other.new) result
         (Q.gives call) }
 {
@@ -198,44 +177,43 @@ fn call_pair<B: BoardName, T, Q: AskBoth<Node<B>, Pass<B>, T> + Drop>(
 }
 
 /// The node and the caller's pass of two handles do this.
-#[tactic(auto, using(crate::proofs::Bad::pair_closed, crate::proofs::Bad::pair_bad))]
-pub(crate) fn with_pair<B: BoardName + Unnamed, T, Q: AskBoth<Node<B>, Pass<B>, T> + Drop>(
+#[tactic(auto, using(crate::proofs::Bad::pair_bad))]
+pub fn with_pair<B: BoardName + Unnamed, T, Q: OfPair<T> + Drop>(
     alloc: Global,
     node: &mut Handle,
     caller: &mut Handle,
     call: Q,
 ) -> Called<T>
-    requires ready { Q.ready call }
     requires node { IfSome node.old.object (λ _. node.old.table ≡ B.table) }
     requires caller { IfSome caller.old.object (λ _. caller.old.table ≡ B.table) }
     ensures called { PairCalled NoReason node.old.object node.new.object caller.old.object caller.new.object result
         (Q.gives call) }
     ensures cluster { (node.new.table ≡ node.old.table) × (caller.new.table ≡ caller.old.table) }
 {
-    let (mut first, mut second) = take_two::<B>(alloc, node, caller)?;
+    let Some((mut first, mut second)) = take_two::<B>(alloc, node, caller) else {
+        return Err(Misuse::Closed);
+    };
     let answer = call_pair(&mut first, &mut second, call);
     put(node, first);
     put(caller, second);
     answer
 }
 
-fn make_by_node<B: BoardName, T: Held<B>, Q: Ask<Node<B>, T> + Drop>(
+fn make_by_node<B: BoardName, Q: GivenByNode + Drop>(
     alloc: Global,
     object: &mut Object<B>,
     call: Q,
 ) -> Called<Box<Object<B>>>
-    requires { Q.ready call }
-    ensures { NodeGives T.held (Q.gives call)
+    ensures { NodeGives Q.held (Q.gives call)
         (Some object.old) (Some object.new) None (made_of result) (done_of result) }
 {
     match &mut object.kind {
         Kind::Node(node) => {
-            let made = room::<B>(alloc)?;
+            let Some(made) = room::<B>(alloc) else {
+                return Err(Misuse::NoRoom);
+            };
             match call.ask(node) {
-                Ok(found) => {
-                    let kind = found.into_kind();
-                    Ok(Ok(filled(made, Object { kind })))
-                }
+                Ok(found) => Ok(Ok(filled(made, found))),
                 Err(refusal) => Ok(Err(refusal)),
             }
         }
@@ -244,16 +222,15 @@ fn make_by_node<B: BoardName, T: Held<B>, Q: Ask<Node<B>, T> + Drop>(
 }
 
 /// The node of the handle does this, and what comes of it goes into a closed handle.
-#[tactic(auto, using(crate::proofs::Bad::node_closed, crate::proofs::Bad::node_room))]
-pub(crate) fn give_by_node<B: BoardName + Unnamed, T: Held<B>, Q: Ask<Node<B>, T> + Drop>(
+#[tactic(auto, using(crate::proofs::Bad::node_room))]
+pub fn give_by_node<B: BoardName + Unnamed, Q: GivenByNode + Drop>(
     alloc: Global,
     node: &mut Handle,
     out: &mut Handle,
     call: Q,
 ) -> Called<()>
-    requires ready { Q.ready call }
-    requires table { IfSome node.old.object (λ _. node.old.table ≡ B.table) }
-    ensures called { NodeGives T.held (Q.gives call)
+    requires { IfSome node.old.object (λ _. node.old.table ≡ B.table) }
+    ensures called { NodeGives Q.held (Q.gives call)
         node.old.object node.new.object out.old.object out.new.object result }
     ensures cluster { node.new.table ≡ node.old.table }
     ensures named { IfOk result (λ done. OnOk done (out.new.table ≡ B.table)) }
@@ -261,42 +238,41 @@ pub(crate) fn give_by_node<B: BoardName + Unnamed, T: Held<B>, Q: Ask<Node<B>, T
     if is_open(out) {
         return Err(Misuse::InUse);
     }
-    let mut object = take::<B>(alloc, node)?;
+    let Some(mut object) = take::<B>(alloc, node) else {
+        return Err(Misuse::Closed);
+    };
     let answer = make_by_node(alloc, &mut object, call);
     put(node, object);
     put_made(out, answer)
 }
 
 // What the node and the pass make, in room of its own.
-fn make<B: BoardName, T: Held<B>, Q: AskBoth<Node<B>, Pass<B>, T> + Drop>(
+fn make<B: BoardName, Q: GivenByPair + Drop>(
     alloc: Global,
     node: &mut Node<B>,
     pass: &mut Pass<B>,
     call: Q,
 ) -> Called<Box<Object<B>>>
-    requires { Q.ready call }
-    ensures made { IfOk result (IsMade T.held (Q.gives call node.old node.new pass.old pass.new)) }
+    ensures made { IfOk result (IsBoxed Q.held (Q.gives call node.old node.new pass.old pass.new)) }
     ensures same { OnErr result ((node.new ≡ node.old) × (pass.new ≡ pass.old)) }
     ensures only { IfErr result (λ why. why ≡ NoRoom) }
 {
-    let made = room::<B>(alloc)?;
+    let Some(made) = room::<B>(alloc) else {
+        return Err(Misuse::NoRoom);
+    };
     match call.ask(node, pass) {
-        Ok(found) => {
-            let kind = found.into_kind();
-            Ok(Ok(filled(made, Object { kind })))
-        }
+        Ok(found) => Ok(Ok(filled(made, found))),
         Err(refusal) => Ok(Err(refusal)),
     }
 }
 
-fn make_by_pair<B: BoardName, T: Held<B>, Q: AskBoth<Node<B>, Pass<B>, T> + Drop>(
+fn make_by_pair<B: BoardName, Q: GivenByPair + Drop>(
     alloc: Global,
     one: &mut Object<B>,
     other: &mut Object<B>,
     call: Q,
 ) -> Called<Box<Object<B>>>
-    requires { Q.ready call }
-    ensures { GiveCalled T.held (Q.gives call)
+    ensures { GiveCalled Q.held (Q.gives call)
         (Some one.old) (Some one.new) (Some other.old) (Some other.new) None (made_of result) (done_of result) }
 {
     match &mut one.kind {
@@ -309,23 +285,26 @@ fn make_by_pair<B: BoardName, T: Held<B>, Q: AskBoth<Node<B>, Pass<B>, T> + Drop
 }
 
 /// The node and the caller's pass of two handles do this, and what comes of it goes into a closed handle.
-#[tactic(auto, using(crate::proofs::Bad::pair_closed, crate::proofs::Bad::pair_room))]
-pub(crate) fn give_by_pair<
-    B: BoardName + Unnamed,
-    T: Held<B>,
-    Q: AskBoth<Node<B>, Pass<B>, T> + Drop,
->(alloc: Global, node: &mut Handle, caller: &mut Handle, out: &mut Handle, call: Q) -> Called<()>
-    requires ready { Q.ready call }
+#[tactic(auto, using(crate::proofs::Bad::pair_room))]
+pub fn give_by_pair<B: BoardName + Unnamed, Q: GivenByPair + Drop>(
+    alloc: Global,
+    node: &mut Handle,
+    caller: &mut Handle,
+    out: &mut Handle,
+    call: Q,
+) -> Called<()>
     requires node { IfSome node.old.object (λ _. node.old.table ≡ B.table) }
     requires caller { IfSome caller.old.object (λ _. caller.old.table ≡ B.table) }
-    ensures called { GiveCalled T.held (Q.gives call)
+    ensures called { GiveCalled Q.held (Q.gives call)
         node.old.object node.new.object caller.old.object caller.new.object out.old.object out.new.object result }
     ensures cluster { (node.new.table ≡ node.old.table) × (caller.new.table ≡ caller.old.table) }
 {
     if is_open(out) {
         return Err(Misuse::InUse);
     }
-    let (mut first, mut second) = take_two::<B>(alloc, node, caller)?;
+    let Some((mut first, mut second)) = take_two::<B>(alloc, node, caller) else {
+        return Err(Misuse::Closed);
+    };
     let answer = make_by_pair(alloc, &mut first, &mut second, call);
     put(node, first);
     put(caller, second);

@@ -63,10 +63,16 @@ pub fn open<B: BoardName + Unnamed>(
     ensures same { OnErr result (handle.new ≡ handle.old) }
     ensures only { IfErr result (λ why. why ≡ NoRoom) }
 {
-    let made = room::<B>(alloc)?;
-    let object = cluster_of::<B>(alloc, opened, limits)?;
-    put(handle, filled(made, object));
-    Ok(())
+    let Some(made) = room::<B>(alloc) else {
+        return Err(Misuse::NoRoom);
+    };
+    match cluster_of::<B>(alloc, opened, limits) {
+        Ok(object) => {
+            put(handle, filled(made, object));
+            Ok(())
+        }
+        Err(misuse) => Err(misuse),
+    }
 }
 
 #[tactic(auto, using(crate::proofs::Waiting::first_waiting))]
@@ -78,7 +84,7 @@ fn next_waiting<B: BoardName>(waiting: &mut Vec<Node<B>>) -> Node<B>
 }
 
 // Room is taken once a node is known to wait.
-#[tactic(auto, using(crate::proofs::Waiting::some_left, crate::proofs::Waiting::none_left))]
+#[tactic(auto, using(crate::proofs::Waiting::none_left))]
 fn node_of<B: BoardName>(alloc: Global, cluster: &mut Cluster<B>) -> Result<Box<Object<B>>, Misuse>
     ensures opened { IfOk result (λ made. OpensNode (Some (cluster_view cluster.old)) (Some (cluster_view cluster.new)) (Some made.value)) }
     ensures same { OnErr result (cluster_view cluster.new ≡ cluster_view cluster.old) }
@@ -87,7 +93,9 @@ fn node_of<B: BoardName>(alloc: Global, cluster: &mut Cluster<B>) -> Result<Box<
     if cluster.waiting.is_empty() {
         return Err(Misuse::OutOfRange);
     }
-    let made = room::<B>(alloc)?;
+    let Some(made) = room::<B>(alloc) else {
+        return Err(Misuse::NoRoom);
+    };
     let kind = Kind::Node(next_waiting(&mut cluster.waiting));
     Ok(filled(made, Object { kind }))
 }
@@ -111,7 +119,9 @@ fn caller_of<B: BoardName>(
     ensures same { OnErr result (cluster_view cluster.new ≡ cluster_view cluster.old) }
     ensures only { IfErr result (λ why. why ≡ NoRoom) }
 {
-    let made = room::<B>(alloc)?;
+    let Some(made) = room::<B>(alloc) else {
+        return Err(Misuse::NoRoom);
+    };
     let Ok(board) = Arc::try_clone(&cluster.board) else {
         return Err(Misuse::NoRoom);
     };
@@ -138,7 +148,7 @@ fn next_caller<B: BoardName>(
 
 /// Opens the cluster's next node, 0 first, into a closed handle. InUse, Closed, OtherKind, NoRoom; OutOfRange where all nodes are open.
 /// O(1).
-#[tactic(auto, using(crate::proofs::Bad::node_opening, crate::proofs::Bad::node_opening_closed))]
+#[tactic(auto, using(crate::proofs::Bad::node_opening))]
 pub fn open_node<B: BoardName + Unnamed>(
     alloc: Global,
     cluster: &mut Handle,
@@ -153,7 +163,9 @@ pub fn open_node<B: BoardName + Unnamed>(
     if is_open(node) {
         return Err(Misuse::InUse);
     }
-    let mut object = take::<B>(alloc, cluster)?;
+    let Some(mut object) = take::<B>(alloc, cluster) else {
+        return Err(Misuse::Closed);
+    };
     let next = next_node(alloc, &mut object);
     put(cluster, object);
     match next {
@@ -166,7 +178,7 @@ pub fn open_node<B: BoardName + Unnamed>(
 }
 
 /// Opens a new caller's pass of the cluster into a closed handle. InUse, Closed, OtherKind, NoRoom. O(1).
-#[tactic(auto, using(crate::proofs::Bad::caller_opening, crate::proofs::Bad::caller_opening_closed))]
+#[tactic(auto, using(crate::proofs::Bad::caller_opening))]
 pub fn open_caller<B: BoardName + Unnamed>(
     alloc: Global,
     cluster: &mut Handle,
@@ -181,7 +193,9 @@ pub fn open_caller<B: BoardName + Unnamed>(
     if is_open(caller) {
         return Err(Misuse::InUse);
     }
-    let mut object = take::<B>(alloc, cluster)?;
+    let Some(mut object) = take::<B>(alloc, cluster) else {
+        return Err(Misuse::Closed);
+    };
     let next = next_caller(alloc, &mut object);
     put(cluster, object);
     match next {
@@ -200,6 +214,8 @@ pub fn close<B: BoardName + Unnamed>(alloc: Global, handle: &mut Handle) -> Resu
     ensures was_closed { OnErr result (handle.new ≡ handle.old) }
     ensures only { IfErr result (λ why. (why ≡ Closed) × (handle.old.object ≡ None)) }
 {
-    let _object = take::<B>(alloc, handle)?;
-    Ok(())
+    match take::<B>(alloc, handle) {
+        Some(_object) => Ok(()),
+        None => Err(Misuse::Closed),
+    }
 }

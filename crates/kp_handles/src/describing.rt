@@ -1,20 +1,16 @@
 //! What a leader knows of the others, and what a node's log has: of producers, of open transactions, and its batches.
 
-ghost use Rattle.std.specs.Prelude.{◌≡◌, IfSome, map};
-ghost use Rattle.kp_handles.specs.Called.{NodeCalled};
-ghost use Rattle.kp_handles.specs.Describing.{Knows, ListsOpen, LogCalled, OpenCalled, ReadsLog, TellsProducer, end_out, known_out, listed, producer_out, proposed_out};
+ghost use Rattle.std.specs.Prelude.{◌≡◌, map};
+ghost use Rattle.kp_handles.specs.Describing.{end_out, known_out, producer_out, proposed_out};
 
-use crate::calling::{Called, give_by_node, with_node};
-use crate::handle::{Handle, Unnamed};
+use crate::calling::{GivenByNode, OfNode};
+use crate::object::{Kind, Object};
 use crate::outs::LeadershipOut;
-use kp_batch::Batch;
 use kp_board::BoardName;
 use kp_model::NodeSet;
 use kp_node::{Node, ProducerInLog};
 use kp_replica::Known;
-use kp_txns::OpenTransaction;
 use kp_types::{NODE_PLACES, Offset, Refusal};
-use std::alloc::Global;
 
 /// What a leader knows of the controller's record, what it has proposed, and what the other nodes have reported.
 #[repr(C)]
@@ -114,87 +110,87 @@ impl ProducerOut {
     }
 }
 
-/// What a leader knows of the others, as by `Node::known`. Closed, OtherKind.
-pub fn known<B: BoardName + Unnamed>(alloc: Global, handle: &mut Handle) -> Called<Known>
-    requires { IfSome handle.old.object (λ _. handle.old.table ≡ B.table) }
-    ensures called { NodeCalled handle.old.object handle.new.object result Knows }
-    ensures cluster { handle.new.table ≡ handle.old.table }
-{
-    with_node::<B, _, _>(
-        alloc,
-        handle,
-        |node: &mut Node<B>|
-            ensures { Knows node.old node.new result }
-        { node.known() },
-    )
+/// What a leader knows of the others, as by `Node::known`.
+#[derive(Drop)]
+pub struct AskKnown;
+
+impl OfNode<Known> for AskKnown {
+    ghost use Rattle.kp_handles.specs.Describing.{Knows};
+
+    ghost gives = { λ _. Knows };
+
+    fn ask<B: BoardName>(self, node: &mut Node<B>) -> Result<Known, Refusal> {
+        node.known()
+    }
 }
 
-/// What the node's log has of a producer, as by `Node::producer`. Closed, OtherKind.
-pub fn producer<B: BoardName + Unnamed>(
-    alloc: Global,
-    handle: &mut Handle,
-    producer: u64,
-) -> Called<Option<ProducerInLog>>
-    requires { IfSome handle.old.object (λ _. handle.old.table ≡ B.table) }
-    ensures called { NodeCalled handle.old.object handle.new.object result (TellsProducer producer) }
-    ensures cluster { handle.new.table ≡ handle.old.table }
-{
-    with_node::<B, _, _>(
-        alloc,
-        handle,
-        |node: &mut Node<B>|
-            ensures { TellsProducer producer node.old node.new result }
-        { Ok(node.producer(producer)) },
-    )
+/// What the node's log has of a producer, as by `Node::producer`.
+#[derive(Drop)]
+pub struct AskProducer {
+    pub producer: u64,
 }
 
-fn opened<B: BoardName>(node: &mut Node<B>) -> Result<Vec<OpenTransaction>, Refusal>
-    ensures { ListsOpen node.old node.new (listed result) }
-{
-    node.open_transactions()
+impl OfNode<Option<ProducerInLog>> for AskProducer {
+    ghost use Rattle.kp_handles.specs.Describing.{TellsProducer};
+
+    ghost gives = { λ a. TellsProducer a.producer };
+
+    fn ask<B: BoardName>(self, node: &mut Node<B>) -> Result<Option<ProducerInLog>, Refusal> {
+        Ok(node.producer(self.producer))
+    }
 }
 
-/// Puts the transactions that are open in the node's log into a closed handle, as by `Node::open_transactions`. F33; InUse, Closed,
-/// OtherKind, NoRoom.
-pub fn open_transactions<B: BoardName + Unnamed>(
-    alloc: Global,
-    node: &mut Handle,
-    out: &mut Handle,
-) -> Called<()>
-    requires { IfSome node.old.object (λ _. node.old.table ≡ B.table) }
-    ensures called { OpenCalled node.old.object node.new.object out.old.object out.new.object result }
-    ensures cluster { node.new.table ≡ node.old.table }
-{
-    give_by_node::<B, _, _>(alloc, node, out, |node: &mut Node<B>| opened(node))
+/// The transactions that are open in the node's log, as by `Node::open_transactions`. F33.
+#[derive(Drop)]
+pub struct ListOpen;
+
+impl GivenByNode for ListOpen {
+    ghost use Rattle.std.specs.Prelude.{List};
+    ghost use Rattle.kp_model.specs.Transactions.{Open};
+    ghost use Rattle.kp_handles.specs.Describing.{ListsOpen};
+    ghost use Rattle.kp_handles.specs.Objects.{transactions};
+
+    ghost Found = { List Open };
+
+    ghost held = { transactions };
+
+    ghost gives = { λ _. ListsOpen };
+
+    fn ask<B: BoardName>(self, node: &mut Node<B>) -> Result<Object<B>, Refusal> {
+        match node.open_transactions() {
+            Ok(open) => Ok(Object {
+                kind: Kind::Transactions(open),
+            }),
+            Err(refusal) => Err(refusal),
+        }
+    }
 }
 
-fn read_log<B: BoardName>(
-    node: &mut Node<B>,
-    from: Offset,
-    most_bytes: u32,
-) -> Result<Vec<Batch>, Refusal>
-    ensures { ReadsLog from most_bytes node.old node.new (listed result) }
-{
-    node.log_from(from, most_bytes)
+/// Batches of the node's log, also those that aren't committed, as by `Node::log_from`.
+#[derive(Drop)]
+pub struct ReadLog {
+    pub from: Offset,
+    pub most_bytes: u32,
 }
 
-/// Puts batches of the node's log, also those that aren't committed, into a closed handle, as by `Node::log_from`. InUse, Closed,
-/// OtherKind, NoRoom.
-pub fn log_from<B: BoardName + Unnamed>(
-    alloc: Global,
-    node: &mut Handle,
-    from: Offset,
-    most_bytes: u32,
-    out: &mut Handle,
-) -> Called<()>
-    requires { IfSome node.old.object (λ _. node.old.table ≡ B.table) }
-    ensures called { LogCalled from most_bytes node.old.object node.new.object out.old.object out.new.object result }
-    ensures cluster { node.new.table ≡ node.old.table }
-{
-    give_by_node::<B, _, _>(
-        alloc,
-        node,
-        out,
-        |node: &mut Node<B>| read_log(node, from, most_bytes),
-    )
+impl GivenByNode for ReadLog {
+    ghost use Rattle.std.specs.Prelude.{List};
+    ghost use Rattle.kp_batch.specs.Batch.{Written};
+    ghost use Rattle.kp_handles.specs.Describing.{ReadsLog};
+    ghost use Rattle.kp_handles.specs.Objects.{batches};
+
+    ghost Found = { List Written };
+
+    ghost held = { batches };
+
+    ghost gives = { λ r. ReadsLog r.from r.most_bytes };
+
+    fn ask<B: BoardName>(self, node: &mut Node<B>) -> Result<Object<B>, Refusal> {
+        match node.log_from(self.from, self.most_bytes) {
+            Ok(read) => Ok(Object {
+                kind: Kind::Batches(read),
+            }),
+            Err(refusal) => Err(refusal),
+        }
+    }
 }

@@ -58,8 +58,13 @@ pub(crate) fn found_in(alloc: Global, bytes: &[u8], max_batch: u32) -> Result<Ba
         max_batch,
     };
     let mut copy = Vec::new(alloc);
-    copy.extend_from_slice(bytes)?;
-    batches_in(alloc, &Bytes::from_vec(copy)?, &limits)
+    if copy.extend_from_slice(bytes).is_err() {
+        return Err(Refusal::Memory);
+    }
+    match Bytes::from_vec(copy) {
+        Ok(bytes) => batches_in(alloc, &bytes, &limits),
+        Err(_) => Err(Refusal::Memory),
+    }
 }
 
 /// Puts the batches that bytes begin with, each of at most `max_batch` bytes, into a closed handle, up to the first fault, which is part of
@@ -75,7 +80,9 @@ pub fn find_batches<B: BoardName + Unnamed>(
     if is_open(handle) {
         return Err(Misuse::InUse);
     }
-    let made = room::<B>(alloc)?;
+    let Some(made) = room::<B>(alloc) else {
+        return Err(Misuse::NoRoom);
+    };
     match found_in(alloc, bytes, max_batch) {
         Ok(found) => {
             let told = FoundOut::of(&found);

@@ -1,11 +1,12 @@
 //! The bytes of a batch, copied and tested before a node gets them.
 
 ghost use Rattle.std.specs.Prelude.{◌≡◌, true, None, Some, length, IfSome, IfOk, IfErr, OnOk, OnErr};
-ghost use Rattle.kp_handles.specs.Handing.{BadHand, BadShare, IsFree};
+ghost use Rattle.kp_handles.specs.Handing.{BadHand, IsFree};
 ghost use Rattle.kp_handles.specs.Objects.{handed, is_open};
 ghost use Rattle.kp_handles.specs.PairCalls.{BadBytes, FitsBatch};
 
 use crate::handle::{Handle, Unnamed, is_open, put, take};
+use crate::looking::SeenOf;
 use crate::misuse::Misuse;
 use crate::object::{InHand, Kind, Object, filled, room};
 use bytes::BytesMut;
@@ -72,7 +73,9 @@ fn hand_again<B: BoardName + Unnamed>(
     ensures same { OnErr result (handle.new.object ≡ handle.old.object) }
     ensures only { IfErr result (BadHand (length bytes.now) handle.old.object) }
 {
-    let mut object = take::<B>(alloc, handle)?;
+    let Some(mut object) = take::<B>(alloc, handle) else {
+        return Err(Misuse::Closed);
+    };
     let done = hand_object(&mut object, bytes);
     put(handle, object);
     done
@@ -85,11 +88,13 @@ fn in_hand(alloc: Global, bytes: &[u8]) -> Result<InHand, Misuse>
     ensures only { IfErr result (BadBytes (length bytes.now)) }
 {
     let mut block = BytesMut::new(alloc);
-    let copy = copied(&mut block, bytes)?;
-    Ok(InHand {
-        bytes: copy.tested(),
-        block,
-    })
+    match copied(&mut block, bytes) {
+        Ok(copy) => Ok(InHand {
+            bytes: copy.tested(),
+            block,
+        }),
+        Err(misuse) => Err(misuse),
+    }
 }
 
 // Puts the bytes into a closed handle. Room for the handle is taken last, once no byte is too many.
@@ -105,11 +110,17 @@ fn hand_anew<B: BoardName + Unnamed>(
     ensures same { OnErr result (handle.new.object ≡ handle.old.object) }
     ensures only { IfErr result (BadHand (length bytes.now) handle.old.object) }
 {
-    let hand = in_hand(alloc, bytes)?;
-    let made = room::<B>(alloc)?;
-    let kind = Kind::Handed(hand);
-    put(handle, filled(made, Object { kind }));
-    Ok(())
+    match in_hand(alloc, bytes) {
+        Ok(hand) => {
+            let Some(made) = room::<B>(alloc) else {
+                return Err(Misuse::NoRoom);
+            };
+            let kind = Kind::Handed(hand);
+            put(handle, filled(made, Object { kind }));
+            Ok(())
+        }
+        Err(misuse) => Err(misuse),
+    }
 }
 
 /// Copies a batch's bytes into a handle that is closed, or in place of those that it holds, and tests them, as by `Handed::tested`.
@@ -133,32 +144,29 @@ pub fn hand<B: BoardName + Unnamed>(
     }
 }
 
-fn share_object<B: BoardName>(object: &Object<B>) -> Result<Handed, Misuse>
-    ensures shared { IfOk result (λ bytes. object.now ≡ handed bytes) }
-    ensures only { IfErr result (BadShare (Some object.now)) }
-{
-    match &object.kind {
-        Kind::Handed(hand) => match hand.bytes.share() {
-            Ok(shared) => Ok(shared),
-            Err(_) => Err(Misuse::NoRoom),
-        },
-        _ => Err(Misuse::OtherKind),
-    }
-}
+/// A share of the bytes. OtherKind, NoRoom. O(1).
+#[derive(Drop)]
+pub(crate) struct Share;
 
-/// A share of the bytes that the handle holds, which it holds on. Closed, OtherKind, NoRoom. O(1).
-#[tactic(auto, using(crate::proofs::Bad::share_closed, crate::proofs::Bad::share_bad))]
-pub(crate) fn shared<B: BoardName + Unnamed>(
-    alloc: Global,
-    handle: &mut Handle,
-) -> Result<Handed, Misuse>
-    requires { IfSome handle.old.object (λ _. handle.old.table ≡ B.table) }
-    ensures shared { IfOk result (λ bytes. handle.old.object ≡ Some (handed bytes)) }
-    ensures only { IfErr result (BadShare handle.old.object) }
-    ensures same { handle.new.object ≡ handle.old.object }
-{
-    let object = take::<B>(alloc, handle)?;
-    let found = share_object(&object);
-    put(handle, object);
-    found
+impl SeenOf<Handed> for Share {
+    ghost use mathlib.Core.Path.{refl};
+    ghost use Rattle.std.specs.Prelude.{◌≡◌, Some};
+    ghost use Rattle.kp_handles.specs.Handing.{BadShare};
+    ghost use Rattle.kp_handles.specs.Objects.{handed};
+
+    ghost sees = { λ _ o bytes. o ≡ Some (handed bytes) };
+
+    ghost fails = { λ _. BadShare };
+
+    ghost closed = { λ _. refl };
+
+    fn look<B: BoardName>(self, object: &Object<B>) -> Result<Handed, Misuse> {
+        match &object.kind {
+            Kind::Handed(hand) => match hand.bytes.share() {
+                Ok(shared) => Ok(shared),
+                Err(_) => Err(Misuse::NoRoom),
+            },
+            _ => Err(Misuse::OtherKind),
+        }
+    }
 }

@@ -1,11 +1,9 @@
 //! A handle.
-ghost use Rattle.std.specs.Prelude.{◌≡◌, ◌⊎◌, Option, Some, None, IfSome, IfOk, IfErr, OnErr, true};
+ghost use Rattle.std.specs.Prelude.{◌≡◌, ◌⊎◌, Option, Some, None, IfNone, IfSome, true};
 ghost use Rattle.kp_board.specs.Opening.{BoardId};
-ghost use Rattle.kp_handles.specs.declared.misuse.Misuse.TheVariants.{Closed};
 ghost use Rattle.kp_handles.specs.Objects.{ObjectView, word_of, is_open};
 
 use crate::loose::Loose;
-use crate::misuse::Misuse;
 use crate::object::Object;
 use kp_board::BoardName;
 use std::alloc::Global;
@@ -88,21 +86,21 @@ fn into_loose<B: BoardName + Unnamed>(alloc: Global, handle: Handle) -> Loose<Ob
     }
 }
 
-/// Takes what the handle holds, and leaves it closed.
+/// Takes what the handle holds, and leaves it closed; none where it is closed.
 pub(crate) fn take<B: BoardName + Unnamed>(
     alloc: Global,
     handle: &mut Handle,
-) -> Result<Box<Object<B>>, Misuse>
+) -> Option<Box<Object<B>>>
     requires { IfSome handle.old.object (λ _. handle.old.table ≡ B.table) }
-    ensures open { IfOk result (λ b. (handle.old.object ≡ Some b.value) × (handle.new.object ≡ None)) }
-    ensures closed { IfErr result (λ m. (m ≡ Closed) × (handle.old.object ≡ None)) }
-    ensures same { OnErr result (handle.new ≡ handle.old) }
+    ensures open { IfSome result (λ b. (handle.old.object ≡ Some b.value) × (handle.new.object ≡ None)) }
+    ensures closed { IfNone result (handle.old.object ≡ None) }
+    ensures same { IfNone result (handle.new ≡ handle.old) }
 {
     if !is_open(handle) {
-        return Err(Misuse::Closed);
+        return None;
     }
     let held = std::mem::replace(handle, closed());
-    Ok(into_loose::<B>(alloc, held).into_box())
+    Some(into_loose::<B>(alloc, held).into_box())
 }
 
 /// Puts it into a handle.
@@ -114,26 +112,28 @@ pub(crate) fn put<B: BoardName + Unnamed>(handle: &mut Handle, object: Box<Objec
     *handle = of_loose(Loose::of(object));
 }
 
-/// Takes what two handles hold, and leaves both closed.
+/// Takes what two handles hold, and leaves both closed; none where one of them is closed.
 pub(crate) fn take_two<B: BoardName + Unnamed>(
     alloc: Global,
     one: &mut Handle,
     other: &mut Handle,
-) -> Result<(Box<Object<B>>, Box<Object<B>>), Misuse>
+) -> Option<(Box<Object<B>>, Box<Object<B>>)>
     requires one { IfSome one.old.object (λ _. one.old.table ≡ B.table) }
     requires other { IfSome other.old.object (λ _. other.old.table ≡ B.table) }
-    ensures taken { IfOk result (λ r. (one.old.object ≡ Some r.0.value) × (other.old.object ≡ Some r.1.value)
+    ensures taken { IfSome result (λ r. (one.old.object ≡ Some r.0.value) × (other.old.object ≡ Some r.1.value)
         × (one.new.object ≡ None) × (other.new.object ≡ None)) }
-    ensures closed { IfErr result (λ m. (m ≡ Closed) × ((one.old.object ≡ None) ⊎ (other.old.object ≡ None))) }
-    ensures same { OnErr result ((one.new.object ≡ one.old.object) × (other.new ≡ other.old)) }
-    ensures table { OnErr result (one.new.table ≡ one.old.table) }
+    ensures closed { IfNone result ((one.old.object ≡ None) ⊎ (other.old.object ≡ None)) }
+    ensures same { IfNone result ((one.new.object ≡ one.old.object) × (other.new ≡ other.old)) }
+    ensures table { IfNone result (one.new.table ≡ one.old.table) }
 {
-    let first = take::<B>(alloc, one)?;
+    let Some(first) = take::<B>(alloc, one) else {
+        return None;
+    };
     match take::<B>(alloc, other) {
-        Ok(second) => Ok((first, second)),
-        Err(misuse) => {
+        Some(second) => Some((first, second)),
+        None => {
             put(one, first);
-            Err(misuse)
+            None
         }
     }
 }

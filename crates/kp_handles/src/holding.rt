@@ -1,46 +1,43 @@
 //! What comes of what a handle holds.
 
-ghost use Rattle.std.specs.Prelude.{◌≡◌, ◌<◌, None, Some, length, IfSome, IfOk, IfErr, OnOk, OnErr};
+ghost use Rattle.std.specs.Prelude.{◌≡◌, ◌<◌, None, Some, length, IfOk, IfErr, OnOk, OnErr};
 ghost use Rattle.kp_visible.specs.Lines.{line_of};
-ghost use Rattle.kp_handles.specs.Holding.{BadBatch, BadCount, BadFetched, BadLetter, BadPartOf, BadValue, HasAborted, HasAddressee, HasCount, HasFetched, HasHead, HasOpen, HasRecord, HasSize, NoAborted, NoBatch, NoOpen, NoRecord, Writes, WritesBatch, WritesSpelling, WritesValue, aborted_in, batch_size, batches_in, lines_in, open_in, value_bytes, value_size};
+ghost use Rattle.kp_handles.specs.Holding.{HasPart, NoBatch, NoRecord, Writes, WritesSpelling, batch_size, batches_in, lines_in, value_bytes};
 ghost use Rattle.kp_handles.specs.declared.misuse.Misuse.TheVariants.{OtherKind};
 ghost use Rattle.kp_handles.specs.declared.misuse.Misuse.TheVariants.{BadLength};
 
-use crate::handle::{Handle, Unnamed, put, take};
+use crate::looking::{SeenOf, WrittenOf};
 use crate::misuse::Misuse;
 use crate::object::{Kind, Object};
 use crate::outs::{AbortedOut, FetchedOut, HeadOut, OpenOut, ValueOut, addressee_out};
 use kp_batch::Batch;
 use kp_board::BoardName;
 use kp_visible::ReadRecord;
-use std::alloc::Global;
 
-fn count_object<B: BoardName>(object: &Object<B>) -> Result<usize, Misuse>
-    ensures found { IfOk result (HasCount (Some object.now)) }
-    ensures only { IfErr result (BadCount (Some object.now)) }
-{
-    match &object.kind {
-        Kind::Batches(batches) => Ok(batches.len()),
-        Kind::Fetched(fetched) => Ok(fetched.batches().len()),
-        Kind::Records(records) => Ok(records.len()),
-        Kind::Transactions(open) => Ok(open.len()),
-        Kind::Segments(segments) => Ok(segments.len()),
-        _ => Err(Misuse::OtherKind),
+/// How many batches, records, open transactions or segments there are. OtherKind. O(1).
+#[derive(Drop)]
+pub struct Count;
+
+impl SeenOf<usize> for Count {
+    ghost use mathlib.Core.Path.{refl};
+    ghost use Rattle.kp_handles.specs.Holding.{BadCount, HasCount};
+
+    ghost sees = { λ _. HasCount };
+
+    ghost fails = { λ _. BadCount };
+
+    ghost closed = { λ _. refl };
+
+    fn look<B: BoardName>(self, object: &Object<B>) -> Result<usize, Misuse> {
+        match &object.kind {
+            Kind::Batches(batches) => Ok(batches.len()),
+            Kind::Fetched(fetched) => Ok(fetched.batches().len()),
+            Kind::Records(records) => Ok(records.len()),
+            Kind::Transactions(open) => Ok(open.len()),
+            Kind::Segments(segments) => Ok(segments.len()),
+            _ => Err(Misuse::OtherKind),
+        }
     }
-}
-
-/// How many batches, records, open transactions or segments stand in the handle. Closed, OtherKind. O(1).
-#[tactic(auto, using(crate::proofs::Bad::closed_count))]
-pub fn count<B: BoardName + Unnamed>(alloc: Global, handle: &mut Handle) -> Result<usize, Misuse>
-    requires { IfSome handle.old.object (λ _. handle.old.table ≡ B.table) }
-    ensures found { IfOk result (HasCount handle.old.object) }
-    ensures only { IfErr result (BadCount handle.old.object) }
-    ensures same { handle.new.object ≡ handle.old.object }
-{
-    let object = take::<B>(alloc, handle)?;
-    let found = count_object(&object);
-    put(handle, object);
-    found
 }
 
 /// The batches that it holds.
@@ -55,60 +52,66 @@ pub(crate) fn batches_of<B: BoardName>(object: &Object<B>) -> Result<&[Batch], M
     }
 }
 
-fn size_object<B: BoardName>(object: &Object<B>, index: usize) -> Result<u32, Misuse>
-    ensures found { IfOk result (HasSize (Some object.now) index) }
-    ensures only { IfErr result (BadPartOf batches_in (λ w. 0) index 0 object.now) }
+// The batch at this index, from 0 on.
+fn batch_in<B: BoardName>(object: &Object<B>, index: usize) -> Result<&Batch, Misuse>
+    ensures found { IfOk result (λ batch. HasPart batches_in index (Some object.now) (λ w. w ≡ batch.now)) }
+    ensures only { IfErr result (NoBatch index (Some object.now)) }
 {
-    match batches_of(object)?.get(index) {
-        Some(batch) => Ok(batch.size()),
-        None => Err(Misuse::OutOfRange),
+    match batches_of(object) {
+        Ok(batches) => match batches.get(index) {
+            Some(batch) => Ok(batch),
+            None => Err(Misuse::OutOfRange),
+        },
+        Err(misuse) => Err(misuse),
     }
 }
 
-/// How many bytes the batch at this index, from 0 on, has. Closed, OtherKind, OutOfRange. O(1).
-#[tactic(auto, using(crate::proofs::Bad::bad_part, crate::proofs::Bad::closed_part))]
-pub fn batch_size<B: BoardName + Unnamed>(
-    alloc: Global,
-    handle: &mut Handle,
-    index: usize,
-) -> Result<u32, Misuse>
-    requires { IfSome handle.old.object (λ _. handle.old.table ≡ B.table) }
-    ensures found { IfOk result (HasSize handle.old.object index) }
-    ensures only { IfErr result (NoBatch index handle.old.object) }
-    ensures same { handle.new.object ≡ handle.old.object }
-{
-    let object = take::<B>(alloc, handle)?;
-    let found = size_object(&object, index);
-    put(handle, object);
-    found
+/// How many bytes the batch at this index, from 0 on, has. OtherKind, OutOfRange. O(1).
+#[derive(Drop)]
+pub struct BatchSize {
+    pub index: usize,
 }
 
-fn head_object<B: BoardName>(object: &Object<B>, index: usize) -> Result<HeadOut, Misuse>
-    ensures found { IfOk result (HasHead (Some object.now) index) }
-    ensures only { IfErr result (BadPartOf batches_in (λ w. 0) index 0 object.now) }
-{
-    match batches_of(object)?.get(index) {
-        Some(batch) => Ok(HeadOut::of(batch)),
-        None => Err(Misuse::OutOfRange),
+impl SeenOf<u32> for BatchSize {
+    ghost use mathlib.Core.Path.{refl};
+    ghost use Rattle.kp_handles.specs.Holding.{HasSize, NoBatch};
+
+    ghost sees = { λ b o n. HasSize o b.index n };
+
+    ghost fails = { λ b o why. NoBatch b.index o why };
+
+    ghost closed = { λ _. refl };
+
+    fn look<B: BoardName>(self, object: &Object<B>) -> Result<u32, Misuse> {
+        match batch_in(object, self.index) {
+            Ok(batch) => Ok(batch.size()),
+            Err(misuse) => Err(misuse),
+        }
     }
 }
 
-/// The head of the batch at this index, from 0 on. Closed, OtherKind, OutOfRange. O(1), and no byte is copied.
-#[tactic(auto, using(crate::proofs::Bad::bad_part, crate::proofs::Bad::closed_part))]
-pub fn head_at<B: BoardName + Unnamed>(
-    alloc: Global,
-    handle: &mut Handle,
-    index: usize,
-) -> Result<HeadOut, Misuse>
-    requires { IfSome handle.old.object (λ _. handle.old.table ≡ B.table) }
-    ensures found { IfOk result (HasHead handle.old.object index) }
-    ensures only { IfErr result (NoBatch index handle.old.object) }
-    ensures same { handle.new.object ≡ handle.old.object }
-{
-    let object = take::<B>(alloc, handle)?;
-    let found = head_object(&object, index);
-    put(handle, object);
-    found
+/// The head of the batch at this index, from 0 on. OtherKind, OutOfRange. O(1), and no byte is copied.
+#[derive(Drop)]
+pub struct HeadAt {
+    pub index: usize,
+}
+
+impl SeenOf<HeadOut> for HeadAt {
+    ghost use mathlib.Core.Path.{refl};
+    ghost use Rattle.kp_handles.specs.Holding.{HasHead, NoBatch};
+
+    ghost sees = { λ h o found. HasHead o h.index found };
+
+    ghost fails = { λ h o why. NoBatch h.index o why };
+
+    ghost closed = { λ _. refl };
+
+    fn look<B: BoardName>(self, object: &Object<B>) -> Result<HeadOut, Misuse> {
+        match batch_in(object, self.index) {
+            Ok(batch) => Ok(HeadOut::of(batch)),
+            Err(misuse) => Err(misuse),
+        }
+    }
 }
 
 // Copies the batch's bytes to the front of the place, if they fit there.
@@ -124,46 +127,40 @@ fn copy_batch(batch: &Batch, to: &mut [u8]) -> Result<(), Misuse>
     }
 }
 
-fn write_object<B: BoardName>(object: &Object<B>, index: usize, to: &mut [u8]) -> Result<(), Misuse>
-    ensures written { OnOk result (WritesBatch (Some object.now) index to.old to.new) }
-    ensures only { IfErr result (BadPartOf batches_in batch_size index (length to.old) object.now) }
-    ensures same { OnErr result (to.new ≡ to.old) }
-{
-    match batches_of(object)?.get(index) {
-        Some(batch) => copy_batch(batch, to),
-        None => Err(Misuse::OutOfRange),
+/// Copies the bytes of the batch at this index, with its base offset and leader epoch. OtherKind, OutOfRange; BadLength where they don't fit.
+/// O(bytes).
+#[derive(Drop)]
+pub struct WriteBatch {
+    pub index: usize,
+}
+
+impl WrittenOf for WriteBatch {
+    ghost use mathlib.Core.Path.{refl};
+    ghost use Rattle.kp_handles.specs.Holding.{BadBatch, WritesBatch};
+
+    ghost writes = { λ b o old new. WritesBatch o b.index old new };
+
+    ghost fails = { λ b places o why. BadBatch b.index places o why };
+
+    ghost closed = { λ _ _. refl };
+
+    fn write<B: BoardName>(self, object: &Object<B>, to: &mut [u8]) -> Result<(), Misuse> {
+        match batch_in(object, self.index) {
+            Ok(batch) => copy_batch(batch, to),
+            Err(misuse) => Err(misuse),
+        }
     }
 }
 
-/// Copies the bytes of the batch at this index, with its base offset and leader epoch, to the front. Closed, OtherKind, OutOfRange; BadLength
-/// where they don't fit. O(bytes).
-#[tactic(auto, using(crate::proofs::Bad::bad_part, crate::proofs::Bad::closed_part))]
-pub fn write_batch<B: BoardName + Unnamed>(
-    alloc: Global,
-    handle: &mut Handle,
-    index: usize,
-    to: &mut [u8],
-) -> Result<(), Misuse>
-    requires { IfSome handle.old.object (λ _. handle.old.table ≡ B.table) }
-    ensures written { OnOk result (WritesBatch handle.old.object index to.old to.new) }
-    ensures only { IfErr result (BadBatch index (length to.old) handle.old.object) }
-    ensures same { handle.new.object ≡ handle.old.object }
-    ensures refused { OnErr result (to.new ≡ to.old) }
-{
-    let object = take::<B>(alloc, handle)?;
-    let done = write_object(&object, index, to);
-    put(handle, object);
-    done
-}
-
-fn record_object<B: BoardName>(object: &Object<B>, index: usize) -> Result<ValueOut, Misuse>
-    ensures found { IfOk result (HasRecord (Some object.now) index) }
-    ensures only { IfErr result (BadPartOf lines_in (λ l. 0) index 0 object.now) }
+// The record at this index, from 0 on.
+fn record_in<B: BoardName>(object: &Object<B>, index: usize) -> Result<ReadRecord<'_>, Misuse>
+    ensures found { IfOk result (λ read. HasPart lines_in index (Some object.now) (λ l. l ≡ line_of read)) }
+    ensures only { IfErr result (NoRecord index (Some object.now)) }
 {
     match &object.kind {
         Kind::Records(records) => {
             if index < records.len() {
-                Ok(ValueOut::of(records.get(index)))
+                Ok(records.get(index))
             } else {
                 Err(Misuse::OutOfRange)
             }
@@ -172,22 +169,28 @@ fn record_object<B: BoardName>(object: &Object<B>, index: usize) -> Result<Value
     }
 }
 
-/// The record at this index, from 0 on: its offset, and how many bytes its value has. Closed, OtherKind, OutOfRange. O(1).
-#[tactic(auto, using(crate::proofs::Bad::bad_part, crate::proofs::Bad::closed_part))]
-pub fn record_at<B: BoardName + Unnamed>(
-    alloc: Global,
-    handle: &mut Handle,
-    index: usize,
-) -> Result<ValueOut, Misuse>
-    requires { IfSome handle.old.object (λ _. handle.old.table ≡ B.table) }
-    ensures found { IfOk result (HasRecord handle.old.object index) }
-    ensures only { IfErr result (NoRecord index handle.old.object) }
-    ensures same { handle.new.object ≡ handle.old.object }
-{
-    let object = take::<B>(alloc, handle)?;
-    let found = record_object(&object, index);
-    put(handle, object);
-    found
+/// The record at this index, from 0 on: its offset, and how many bytes its value has. OtherKind, OutOfRange. O(1).
+#[derive(Drop)]
+pub struct ValueAt {
+    pub index: usize,
+}
+
+impl SeenOf<ValueOut> for ValueAt {
+    ghost use mathlib.Core.Path.{refl};
+    ghost use Rattle.kp_handles.specs.Holding.{HasRecord, NoRecord};
+
+    ghost sees = { λ v o found. HasRecord o v.index found };
+
+    ghost fails = { λ v o why. NoRecord v.index o why };
+
+    ghost closed = { λ _. refl };
+
+    fn look<B: BoardName>(self, object: &Object<B>) -> Result<ValueOut, Misuse> {
+        match record_in(object, self.index) {
+            Ok(read) => Ok(ValueOut::of(read)),
+            Err(misuse) => Err(misuse),
+        }
+    }
 }
 
 /// Copies the bytes to the front of the place, if they fit there.
@@ -214,154 +217,125 @@ fn value_of<'a>(read: ReadRecord<'a>) -> &'a [u8]
     }
 }
 
-fn value_object<B: BoardName>(object: &Object<B>, index: usize, to: &mut [u8]) -> Result<(), Misuse>
-    ensures written { OnOk result (WritesValue (Some object.now) index to.old to.new) }
-    ensures only { IfErr result (BadPartOf lines_in value_size index (length to.old) object.now) }
-    ensures same { OnErr result (to.new ≡ to.old) }
-{
-    match &object.kind {
-        Kind::Records(records) => {
-            if index < records.len() {
-                copy_front(value_of(records.get(index)), to)
-            } else {
-                Err(Misuse::OutOfRange)
-            }
+/// Copies the value of the record at this index. OtherKind, OutOfRange; BadLength where it doesn't fit. O(bytes).
+#[derive(Drop)]
+pub struct WriteValue {
+    pub index: usize,
+}
+
+impl WrittenOf for WriteValue {
+    ghost use mathlib.Core.Path.{refl};
+    ghost use Rattle.kp_handles.specs.Holding.{BadValue, WritesValue};
+
+    ghost writes = { λ v o old new. WritesValue o v.index old new };
+
+    ghost fails = { λ v places o why. BadValue v.index places o why };
+
+    ghost closed = { λ _ _. refl };
+
+    fn write<B: BoardName>(self, object: &Object<B>, to: &mut [u8]) -> Result<(), Misuse> {
+        match record_in(object, self.index) {
+            Ok(read) => copy_front(value_of(read), to),
+            Err(misuse) => Err(misuse),
         }
-        _ => Err(Misuse::OtherKind),
-    }
-}
-
-/// Copies the value of the record at this index to the front. Closed, OtherKind, OutOfRange; BadLength where it doesn't fit. O(bytes).
-#[tactic(auto, using(crate::proofs::Bad::bad_part, crate::proofs::Bad::closed_part))]
-pub fn write_value<B: BoardName + Unnamed>(
-    alloc: Global,
-    handle: &mut Handle,
-    index: usize,
-    to: &mut [u8],
-) -> Result<(), Misuse>
-    requires { IfSome handle.old.object (λ _. handle.old.table ≡ B.table) }
-    ensures written { OnOk result (WritesValue handle.old.object index to.old to.new) }
-    ensures only { IfErr result (BadValue index (length to.old) handle.old.object) }
-    ensures same { handle.new.object ≡ handle.old.object }
-    ensures refused { OnErr result (to.new ≡ to.old) }
-{
-    let object = take::<B>(alloc, handle)?;
-    let done = value_object(&object, index, to);
-    put(handle, object);
-    done
-}
-
-fn fetched_object<B: BoardName>(object: &Object<B>) -> Result<FetchedOut, Misuse>
-    ensures found { IfOk result (HasFetched (Some object.now)) }
-    ensures only { IfErr result (BadFetched (Some object.now)) }
-{
-    match &object.kind {
-        Kind::Fetched(fetched) => Ok(FetchedOut::of(fetched)),
-        _ => Err(Misuse::OtherKind),
     }
 }
 
 /// Where high watermark, last stable offset and the log's end stood when it was fetched, and how many aborted transactions go with the
-/// batches. Closed, OtherKind. O(1).
-#[tactic(auto, using(crate::proofs::Bad::closed_fetched))]
-pub fn fetched_at<B: BoardName + Unnamed>(
-    alloc: Global,
-    handle: &mut Handle,
-) -> Result<FetchedOut, Misuse>
-    requires { IfSome handle.old.object (λ _. handle.old.table ≡ B.table) }
-    ensures found { IfOk result (HasFetched handle.old.object) }
-    ensures only { IfErr result (BadFetched handle.old.object) }
-    ensures same { handle.new.object ≡ handle.old.object }
-{
-    let object = take::<B>(alloc, handle)?;
-    let found = fetched_object(&object);
-    put(handle, object);
-    found
-}
+/// batches. OtherKind. O(1).
+#[derive(Drop)]
+pub struct FetchedAt;
 
-fn aborted_object<B: BoardName>(object: &Object<B>, index: usize) -> Result<AbortedOut, Misuse>
-    ensures found { IfOk result (HasAborted (Some object.now) index) }
-    ensures only { IfErr result (BadPartOf aborted_in (λ a. 0) index 0 object.now) }
-{
-    match &object.kind {
-        Kind::Fetched(fetched) => match fetched.aborted().get(index) {
-            Some(aborted) => Ok(AbortedOut::of(aborted)),
-            None => Err(Misuse::OutOfRange),
-        },
-        _ => Err(Misuse::OtherKind),
+impl SeenOf<FetchedOut> for FetchedAt {
+    ghost use mathlib.Core.Path.{refl};
+    ghost use Rattle.kp_handles.specs.Holding.{BadFetched, HasFetched};
+
+    ghost sees = { λ _. HasFetched };
+
+    ghost fails = { λ _. BadFetched };
+
+    ghost closed = { λ _. refl };
+
+    fn look<B: BoardName>(self, object: &Object<B>) -> Result<FetchedOut, Misuse> {
+        match &object.kind {
+            Kind::Fetched(fetched) => Ok(FetchedOut::of(fetched)),
+            _ => Err(Misuse::OtherKind),
+        }
     }
 }
 
-/// The aborted transaction at this index, from 0 on, by rising first offset. Closed, OtherKind, OutOfRange. O(1).
-#[tactic(auto, using(crate::proofs::Bad::bad_part, crate::proofs::Bad::closed_part))]
-pub fn aborted_at<B: BoardName + Unnamed>(
-    alloc: Global,
-    handle: &mut Handle,
-    index: usize,
-) -> Result<AbortedOut, Misuse>
-    requires { IfSome handle.old.object (λ _. handle.old.table ≡ B.table) }
-    ensures found { IfOk result (HasAborted handle.old.object index) }
-    ensures only { IfErr result (NoAborted index handle.old.object) }
-    ensures same { handle.new.object ≡ handle.old.object }
-{
-    let object = take::<B>(alloc, handle)?;
-    let found = aborted_object(&object, index);
-    put(handle, object);
-    found
+/// The aborted transaction at this index, from 0 on, by rising first offset. OtherKind, OutOfRange. O(1).
+#[derive(Drop)]
+pub struct AbortedAt {
+    pub index: usize,
 }
 
-fn open_object<B: BoardName>(object: &Object<B>, index: usize) -> Result<OpenOut, Misuse>
-    ensures found { IfOk result (HasOpen (Some object.now) index) }
-    ensures only { IfErr result (BadPartOf open_in (λ t. 0) index 0 object.now) }
-{
-    match &object.kind {
-        Kind::Transactions(open) => match open.get(index) {
-            Some(transaction) => Ok(OpenOut::of(transaction)),
-            None => Err(Misuse::OutOfRange),
-        },
-        _ => Err(Misuse::OtherKind),
+impl SeenOf<AbortedOut> for AbortedAt {
+    ghost use mathlib.Core.Path.{refl};
+    ghost use Rattle.kp_handles.specs.Holding.{HasAborted, NoAborted};
+
+    ghost sees = { λ a o found. HasAborted o a.index found };
+
+    ghost fails = { λ a o why. NoAborted a.index o why };
+
+    ghost closed = { λ _. refl };
+
+    fn look<B: BoardName>(self, object: &Object<B>) -> Result<AbortedOut, Misuse> {
+        match &object.kind {
+            Kind::Fetched(fetched) => match fetched.aborted().get(self.index) {
+                Some(aborted) => Ok(AbortedOut::of(aborted)),
+                None => Err(Misuse::OutOfRange),
+            },
+            _ => Err(Misuse::OtherKind),
+        }
     }
 }
 
-/// The open transaction at this index, from 0 on, by rising first offset. Closed, OtherKind, OutOfRange. O(1).
-#[tactic(auto, using(crate::proofs::Bad::bad_part, crate::proofs::Bad::closed_part))]
-pub fn open_at<B: BoardName + Unnamed>(
-    alloc: Global,
-    handle: &mut Handle,
-    index: usize,
-) -> Result<OpenOut, Misuse>
-    requires { IfSome handle.old.object (λ _. handle.old.table ≡ B.table) }
-    ensures found { IfOk result (HasOpen handle.old.object index) }
-    ensures only { IfErr result (NoOpen index handle.old.object) }
-    ensures same { handle.new.object ≡ handle.old.object }
-{
-    let object = take::<B>(alloc, handle)?;
-    let found = open_object(&object, index);
-    put(handle, object);
-    found
+/// The open transaction at this index, from 0 on, by rising first offset. OtherKind, OutOfRange. O(1).
+#[derive(Drop)]
+pub struct OpenAt {
+    pub index: usize,
 }
 
-fn addressee_object<B: BoardName>(object: &Object<B>) -> Result<u8, Misuse>
-    ensures found { IfOk result (HasAddressee (Some object.now)) }
-    ensures only { IfErr result (BadLetter (Some object.now)) }
-{
-    match &object.kind {
-        Kind::Message(message) => Ok(addressee_out(&message.body)),
-        _ => Err(Misuse::OtherKind),
+impl SeenOf<OpenOut> for OpenAt {
+    ghost use mathlib.Core.Path.{refl};
+    ghost use Rattle.kp_handles.specs.Holding.{HasOpen, NoOpen};
+
+    ghost sees = { λ t o found. HasOpen o t.index found };
+
+    ghost fails = { λ t o why. NoOpen t.index o why };
+
+    ghost closed = { λ _. refl };
+
+    fn look<B: BoardName>(self, object: &Object<B>) -> Result<OpenOut, Misuse> {
+        match &object.kind {
+            Kind::Transactions(open) => match open.get(self.index) {
+                Some(transaction) => Ok(OpenOut::of(transaction)),
+                None => Err(Misuse::OutOfRange),
+            },
+            _ => Err(Misuse::OtherKind),
+        }
     }
 }
 
-/// The node that the message goes to, or 255 for the controller. Closed, OtherKind. O(1).
-#[tactic(auto, using(crate::proofs::Bad::closed_letter))]
-pub fn addressee<B: BoardName + Unnamed>(alloc: Global, handle: &mut Handle) -> Result<u8, Misuse>
-    requires { IfSome handle.old.object (λ _. handle.old.table ≡ B.table) }
-    ensures found { IfOk result (HasAddressee handle.old.object) }
-    ensures only { IfErr result (BadLetter handle.old.object) }
-    ensures same { handle.new.object ≡ handle.old.object }
-    ensures cluster { handle.new.table ≡ handle.old.table }
-{
-    let object = take::<B>(alloc, handle)?;
-    let found = addressee_object(&object);
-    put(handle, object);
-    found
+/// The node that the message goes to, or 255 for the controller. OtherKind. O(1).
+#[derive(Drop)]
+pub struct Addressee;
+
+impl SeenOf<u8> for Addressee {
+    ghost use mathlib.Core.Path.{refl};
+    ghost use Rattle.kp_handles.specs.Holding.{BadLetter, HasAddressee};
+
+    ghost sees = { λ _. HasAddressee };
+
+    ghost fails = { λ _. BadLetter };
+
+    ghost closed = { λ _. refl };
+
+    fn look<B: BoardName>(self, object: &Object<B>) -> Result<u8, Misuse> {
+        match &object.kind {
+            Kind::Message(message) => Ok(addressee_out(&message.body)),
+            _ => Err(Misuse::OtherKind),
+        }
+    }
 }

@@ -13,6 +13,7 @@ mod handing;
 mod handle;
 mod holding;
 mod left;
+mod looking;
 mod loose;
 mod messages;
 mod misuse;
@@ -28,29 +29,30 @@ mod segments;
 mod telling;
 
 pub use again::{keep, leave, next_decided, next_elected, open_left, take_left};
-pub use callers::{elect, leadership, recall, tell_receipts, watermark};
-pub use calling::Called;
+pub use callers::{Elect, Leadership, Recall, Watermark, tell_receipts};
+pub use calling::{Called, give_by_node, give_by_pair, with_node, with_pair, with_pass};
 pub use clusters::{close, open, open_caller, open_node};
-pub use describing::{KnownOut, ProducerOut, known, log_from, open_transactions, producer};
+pub use describing::{AskKnown, AskProducer, KnownOut, ListOpen, ProducerOut, ReadLog};
 pub use finding::{FoundOut, find_batches};
 pub use handing::hand;
 pub use handle::{Handle, Unnamed, is_open};
 pub use holding::{
-    aborted_at, addressee, batch_size, count, fetched_at, head_at, open_at, record_at, write_batch,
-    write_value,
+    AbortedAt, Addressee, BatchSize, Count, FetchedAt, HeadAt, OpenAt, ValueAt, WriteBatch,
+    WriteValue,
 };
 pub use left::{KeptIn, LeftNodes, PromiseIn};
-pub use messages::{decide, repeat, send, step};
+pub use looking::{look, look_into};
+pub use messages::{SendMessage, decide, repeat, step};
 pub use misuse::Misuse;
-pub use nodes::{adopt, checkpoint, raise, restart, stop};
+pub use nodes::{Adopt, Checkpoint, Raise, Restart, Stop};
 pub use numbers::{misuse_number, refusal_number, write_name};
 pub use outs::{
     AbortedOut, FetchedOut, HeadOut, LeadershipOut, LimitsIn, MarkerIn, OpenOut, ReceiptOut,
     RestartOut, RoleOut, ValueOut, ack_out, change_in,
 };
-pub use producing::{acked, mark_in, produce, produce_handed};
-pub use reading::{fetch, read, read_committed};
-pub use records::{PartOut, RecordAt, RecordOut, part_at, record_in, write_part};
-pub use saying::{SaidOut, said};
-pub use segments::{segment, segments_of};
-pub use telling::{EpochOut, StateOut, TimeOut, end_for, offset_for_time, show};
+pub use producing::{Acked, mark_in, produce, produce_handed};
+pub use reading::{Fetch, Read, ReadCommitted, isolation_in};
+pub use records::{PartAt, PartOut, RecordAt, RecordIn, RecordOut, WritePart};
+pub use saying::{SaidOut, Saying};
+pub use segments::{ShareSegments, segment};
+pub use telling::{EndFor, EpochOut, OffsetForTime, Show, StateOut, TimeOut};

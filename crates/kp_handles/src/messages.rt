@@ -7,9 +7,9 @@ ghost use Rattle.kp_handles.specs.Objects.{message};
 ghost use Rattle.kp_board.specs.Posts.{post_of, posted, posts_of};
 ghost use Rattle.kp_handles.specs.Called.{done_of, made_of};
 ghost use Rattle.kp_handles.specs.declared.misuse.Misuse.TheVariants.{NoRoom};
-ghost use Rattle.kp_handles.specs.Messages.{DecideCalled, DecideMet, IsRepeated, RepeatCalled, SendCalled, Sends, StepCalled, Decided, StepMet, Took, answer_of, handle_left, refusal_of};
+ghost use Rattle.kp_handles.specs.Messages.{DecideCalled, DecideMet, IsRepeated, RepeatCalled, Sends, StepCalled, Decided, StepMet, Took, answer_of, handle_left, refusal_of};
 
-use crate::calling::{Called, give_by_node, put_made};
+use crate::calling::{Called, GivenByNode, put_made};
 use crate::handle::{Handle, Unnamed, is_open, put, take_two};
 use crate::misuse::Misuse;
 use crate::object::{Kind, Object, filled, room};
@@ -33,24 +33,29 @@ fn sent_by<B: BoardName>(
 }
 
 /// Proposes a change of the in-sync replicas, as `Node::alter` does, or asks the node's leader, as `Node::ask` does, where there is none.
-/// The message comes into a closed handle. InUse, Closed, OtherKind, NoRoom.
-pub fn send<B: BoardName + Unnamed>(
-    alloc: Global,
-    node: &mut Handle,
-    proposed: Option<IsrChange>,
-    out: &mut Handle,
-) -> Called<()>
-    requires { IfSome node.old.object (λ _. node.old.table ≡ B.table) }
-    ensures called { SendCalled node.old.object node.new.object out.old.object out.new.object result (Sends proposed) }
-    ensures cluster { node.new.table ≡ node.old.table }
-    ensures named { IfOk result (λ done. OnOk done (out.new.table ≡ B.table)) }
-{
-    give_by_node::<B, _, _>(
-        alloc,
-        node,
-        out,
-        |node: &mut Node<B>| sent_by(node, proposed),
-    )
+#[derive(Drop)]
+pub struct SendMessage {
+    pub proposed: Option<IsrChange>,
+}
+
+impl GivenByNode for SendMessage {
+    ghost use Rattle.kp_board.specs.Posts.{Posted};
+    ghost use Rattle.kp_handles.specs.Messages.{Sends, holds};
+
+    ghost Found = { Posted };
+
+    ghost held = { holds };
+
+    ghost gives = { λ s. Sends s.proposed };
+
+    fn ask<B: BoardName>(self, node: &mut Node<B>) -> Result<Object<B>, Refusal> {
+        match sent_by(node, self.proposed) {
+            Ok(message) => Ok(Object {
+                kind: Kind::Message(message),
+            }),
+            Err(refusal) => Err(refusal),
+        }
+    }
 }
 
 // What is left of a message, and what is answered.
@@ -125,7 +130,7 @@ fn step_objects<B: BoardName>(
 }
 
 /// Hands the node a message, as by `Node::step`. Its handle holds the answer then, or is closed where there is none. Closed, OtherKind.
-#[tactic(auto, using(crate::proofs::Posts::step_called, crate::proofs::Bad::step_closed))]
+#[tactic(auto, using(crate::proofs::Posts::step_called))]
 pub fn step<B: BoardName + Unnamed>(
     alloc: Global,
     node: &mut Handle,
@@ -137,7 +142,9 @@ pub fn step<B: BoardName + Unnamed>(
     ensures cluster { node.new.table ≡ node.old.table }
     ensures named { IfSome letter.new.object (λ _. letter.new.table ≡ letter.old.table) }
 {
-    let (mut first, mut second) = take_two::<B>(alloc, node, letter)?;
+    let Some((mut first, mut second)) = take_two::<B>(alloc, node, letter) else {
+        return Err(Misuse::Closed);
+    };
     let came = Box::replace(&mut second, Object { kind: Kind::Empty });
     let (left, done) = step_objects(&mut first, came);
     put(node, first);
@@ -201,7 +208,7 @@ fn decide_objects<B: BoardName>(
 }
 
 /// Decides on a proposal with a caller's pass, as by `Board::decide`. The message's handle holds the answer then, or is closed. Closed, OtherKind.
-#[tactic(auto, using(crate::proofs::Posts::decide_called, crate::proofs::Bad::decide_closed))]
+#[tactic(auto, using(crate::proofs::Posts::decide_called))]
 pub fn decide<B: BoardName + Unnamed>(
     alloc: Global,
     caller: &mut Handle,
@@ -213,7 +220,9 @@ pub fn decide<B: BoardName + Unnamed>(
     ensures cluster { caller.new.table ≡ caller.old.table }
     ensures named { IfSome letter.new.object (λ _. letter.new.table ≡ letter.old.table) }
 {
-    let (mut first, mut second) = take_two::<B>(alloc, caller, letter)?;
+    let Some((mut first, mut second)) = take_two::<B>(alloc, caller, letter) else {
+        return Err(Misuse::Closed);
+    };
     let came = Box::replace(&mut second, Object { kind: Kind::Empty });
     let (left, done) = decide_objects(&mut first, came);
     put(caller, first);
@@ -237,7 +246,9 @@ fn repeated<B: BoardName>(
     ensures made { IfOk result (IsRepeated sent.old.body sent.old.pass) }
     ensures only { IfErr result (λ why. why ≡ NoRoom) }
 {
-    let made = room::<B>(alloc)?;
+    let Some(made) = room::<B>(alloc) else {
+        return Err(Misuse::NoRoom);
+    };
     match sent.repeat(board) {
         Ok(again) => {
             let kind = Kind::Message(again);
@@ -266,7 +277,7 @@ fn repeat_objects<B: BoardName>(
 
 /// Puts the message once more into a closed handle, as a carrier may bring it twice, by `Message::repeat`, over the board of a caller's
 /// pass. F33; InUse, Closed, OtherKind, NoRoom.
-#[tactic(auto, using(crate::proofs::Bad::repeat_closed, crate::proofs::Bad::repeat_room))]
+#[tactic(auto, using(crate::proofs::Bad::repeat_room))]
 pub fn repeat<B: BoardName + Unnamed>(
     alloc: Global,
     caller: &mut Handle,
@@ -283,7 +294,9 @@ pub fn repeat<B: BoardName + Unnamed>(
     if is_open(out) {
         return Err(Misuse::InUse);
     }
-    let (first, mut second) = take_two::<B>(alloc, caller, letter)?;
+    let Some((first, mut second)) = take_two::<B>(alloc, caller, letter) else {
+        return Err(Misuse::Closed);
+    };
     let answer = repeat_objects(alloc, &first, &mut second);
     put(caller, first);
     put(letter, second);

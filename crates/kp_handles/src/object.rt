@@ -1,11 +1,9 @@
 //! What a handle holds.
 
-ghost use Rattle.std.specs.Prelude.{◌≡◌, IfOk, IfErr};
+ghost use Rattle.std.specs.Prelude.{◌≡◌, IfSome};
 ghost use Rattle.kp_handles.specs.Objects.{empty, object_view};
-ghost use Rattle.kp_handles.specs.declared.misuse.Misuse.TheVariants.{NoRoom};
 
 use crate::left::LeftNodes;
-use crate::misuse::Misuse;
 use crate::segments::SegmentShare;
 use bytes::BytesMut;
 use kp_batch::{Batch, Handed};
@@ -95,77 +93,6 @@ impl<B: BoardName> Object<B> {
     }
 }
 
-/// What a call may put into a handle.
-pub(crate) trait Held<B: BoardName> {
-    ghost use Rattle.kp_handles.specs.Objects.{ObjectView};
-
-    ghost held: { Self → ObjectView };
-
-    /// The same, by its kind.
-    fn into_kind(self) -> Kind<B>
-        ensures { object_view result ≡ Self.held self };
-}
-
-impl<B: BoardName> Held<B> for Message<B> {
-    ghost use Rattle.kp_handles.specs.Objects.{message};
-
-    ghost held = { λ m. message m.body m.pass };
-
-    fn into_kind(self) -> Kind<B> {
-        Kind::Message(self)
-    }
-}
-
-impl<B: BoardName> Held<B> for Vec<Batch> {
-    ghost use Rattle.kp_handles.specs.Objects.{batches};
-
-    ghost held = { λ read. batches read.items };
-
-    fn into_kind(self) -> Kind<B> {
-        Kind::Batches(self)
-    }
-}
-
-impl<B: BoardName> Held<B> for Fetched {
-    ghost use Rattle.kp_handles.specs.Objects.{fetched};
-
-    ghost held = { fetched };
-
-    fn into_kind(self) -> Kind<B> {
-        Kind::Fetched(self)
-    }
-}
-
-impl<B: BoardName> Held<B> for ReadRecords {
-    ghost use Rattle.kp_handles.specs.Objects.{records};
-
-    ghost held = { records };
-
-    fn into_kind(self) -> Kind<B> {
-        Kind::Records(self)
-    }
-}
-
-impl<B: BoardName> Held<B> for Vec<OpenTransaction> {
-    ghost use Rattle.kp_handles.specs.Objects.{transactions};
-
-    ghost held = { λ listed. transactions listed.items };
-
-    fn into_kind(self) -> Kind<B> {
-        Kind::Transactions(self)
-    }
-}
-
-impl<B: BoardName> Held<B> for Vec<SegmentShare> {
-    ghost use Rattle.kp_handles.specs.Objects.{segments};
-
-    ghost held = { λ shares. segments shares.items };
-
-    fn into_kind(self) -> Kind<B> {
-        Kind::Segments(self)
-    }
-}
-
 /// An object in its room.
 pub(crate) fn filled<B: BoardName>(mut room: Box<Object<B>>, object: Object<B>) -> Box<Object<B>>
     ensures { result.value ≡ object }
@@ -174,13 +101,12 @@ pub(crate) fn filled<B: BoardName>(mut room: Box<Object<B>>, object: Object<B>) 
     room
 }
 
-/// Room for an object, which holds nothing yet.
-pub(crate) fn room<B: BoardName>(alloc: Global) -> Result<Box<Object<B>>, Misuse>
-    ensures made { IfOk result (λ b. b.value ≡ empty) }
-    ensures refused { IfErr result (λ m. m ≡ NoRoom) }
+/// Room for an object, which holds nothing yet; none where memory is refused.
+pub(crate) fn room<B: BoardName>(alloc: Global) -> Option<Box<Object<B>>>
+    ensures { IfSome result (λ b. b.value ≡ empty) }
 {
     match Box::new(alloc, Object { kind: Kind::Empty }) {
-        Ok(room) => Ok(room),
-        Err(_) => Err(Misuse::NoRoom),
+        Ok(room) => Some(room),
+        Err(_) => None,
     }
 }

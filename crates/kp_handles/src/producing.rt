@@ -1,21 +1,23 @@
 //! Calls of a node for a caller's pass.
 
 ghost use Rattle.std.specs.Prelude.{◌≡◌, ℕ, List, Some, length, IfSome, IfOk, IfErr, OnOk, OnErr};
-ghost use Rattle.kp_node.specs.CallerCalls.{Acks, Marks, Produces};
-ghost use Rattle.kp_handles.specs.Called.{NoReason, PairCalled};
+ghost use Rattle.kp_node.specs.CallerCalls.{Marks, Produces};
+ghost use Rattle.kp_handles.specs.Called.{PairCalled};
 ghost use Rattle.kp_handles.specs.Handing.{BadShare, HandedCalled};
 ghost use Rattle.kp_handles.specs.Objects.{handed};
 ghost use Rattle.kp_handles.specs.PairCalls.{BadBytes, BadMarker, FitsBatch};
 
-use crate::calling::{Called, with_pair};
-use crate::handing::{copied, shared};
+use crate::calling::{Called, OfPair, with_pair};
+use crate::handing::{Share, copied};
 use crate::handle::{Handle, Unnamed, put, take_two};
+use crate::looking::look;
 use crate::misuse::Misuse;
 use crate::object::{Caller, Kind, Object};
 use kp_board::{BoardName, Pass};
 use kp_marker::{HandedMarker, Marker};
 use kp_node::{Ack, Node};
 use kp_replica::Receipt;
+use kp_types::Refusal;
 use std::alloc::Global;
 
 // The bytes are copied into memory of the pass.
@@ -30,8 +32,10 @@ fn produce_copy<B: BoardName>(
     ensures only { IfErr result (BadBytes (length bytes.now)) }
     ensures board { caller.new.board.value ≡ caller.old.board.value }
 {
-    let copy = copied(&mut caller.block, bytes)?;
-    Ok(node.produce(&mut caller.pass, copy))
+    match copied(&mut caller.block, bytes) {
+        Ok(copy) => Ok(node.produce(&mut caller.pass, copy)),
+        Err(misuse) => Err(misuse),
+    }
 }
 
 #[tactic(auto, using(crate::proofs::Bad::pair_copy))]
@@ -54,7 +58,7 @@ fn produce_objects<B: BoardName>(
 
 /// Hands the node the batch that the bytes are, which are copied once, as by `Node::produce`. Closed, OtherKind, NoRoom; BadLength above
 /// 2,147,483,659 bytes.
-#[tactic(auto, using(crate::proofs::Bad::pair_closed, crate::proofs::Bad::pair_bad))]
+#[tactic(auto, using(crate::proofs::Bad::pair_bad))]
 pub fn produce<B: BoardName + Unnamed>(
     alloc: Global,
     node: &mut Handle,
@@ -67,7 +71,9 @@ pub fn produce<B: BoardName + Unnamed>(
     ensures fits { OnOk result (FitsBatch (length bytes.now)) }
     ensures cluster { (node.new.table ≡ node.old.table) × (caller.new.table ≡ caller.old.table) }
 {
-    let (mut first, mut second) = take_two::<B>(alloc, node, caller)?;
+    let Some((mut first, mut second)) = take_two::<B>(alloc, node, caller) else {
+        return Err(Misuse::Closed);
+    };
     let answer = produce_objects(&mut first, &mut second, bytes);
     put(node, first);
     put(caller, second);
@@ -87,8 +93,10 @@ fn produce_share<B: BoardName, C: BoardName + Unnamed>(
     ensures only { IfErr result (BadShare held.old.object) }
     ensures held { held.new.object ≡ held.old.object }
 {
-    let bytes = shared::<C>(alloc, held)?;
-    Ok(node.produce(pass, bytes))
+    match look::<C, _, _>(alloc, held, Share) {
+        Ok(bytes) => Ok(node.produce(pass, bytes)),
+        Err(misuse) => Err(misuse),
+    }
 }
 
 fn produce_shared<B: BoardName, C: BoardName + Unnamed>(
@@ -112,7 +120,7 @@ fn produce_shared<B: BoardName, C: BoardName + Unnamed>(
 
 /// Hands the node the batch that the bytes in the third handle are, which it holds on, as by `Node::produce`. They may be of another board.
 /// Closed, OtherKind, NoRoom.
-#[tactic(auto, using(crate::proofs::Bad::handed_called, crate::proofs::Bad::handed_closed))]
+#[tactic(auto, using(crate::proofs::Bad::handed_called))]
 pub fn produce_handed<B: BoardName + Unnamed, C: BoardName + Unnamed>(
     alloc: Global,
     node: &mut Handle,
@@ -126,11 +134,29 @@ pub fn produce_handed<B: BoardName + Unnamed, C: BoardName + Unnamed>(
     ensures same { held.new.object ≡ held.old.object }
     ensures cluster { (node.new.table ≡ node.old.table) × (caller.new.table ≡ caller.old.table) }
 {
-    let (mut first, mut second) = take_two::<B>(alloc, node, caller)?;
+    let Some((mut first, mut second)) = take_two::<B>(alloc, node, caller) else {
+        return Err(Misuse::Closed);
+    };
     let answer = produce_shared::<B, C>(alloc, &mut first, &mut second, held);
     put(node, first);
     put(caller, second);
     answer
+}
+
+/// Hands the node a transaction's marker, as by `Node::mark`.
+#[derive(Drop)]
+struct Mark {
+    handed: HandedMarker,
+}
+
+impl OfPair<Receipt> for Mark {
+    ghost use Rattle.kp_node.specs.CallerCalls.{Marks};
+
+    ghost gives = { λ m. Marks m.handed.marker };
+
+    fn ask<B: BoardName>(self, node: &mut Node<B>, pass: &mut Pass<B>) -> Result<Receipt, Refusal> {
+        node.mark(pass, &self.handed)
+    }
 }
 
 /// Hands the node a transaction's marker, as by `Node::mark`. Closed, OtherKind; OutOfRange where one of its fields is.
@@ -148,30 +174,21 @@ pub fn mark_in<B: BoardName + Unnamed>(
     let Some(handed) = HandedMarker::new(marker) else {
         return Err(Misuse::OutOfRange);
     };
-    with_pair::<B, _, _>(
-        alloc,
-        node,
-        caller,
-        |node: &mut Node<B>, pass: &mut Pass<B>| node.mark(pass, &handed),
-    )
+    with_pair::<B, _, _>(alloc, node, caller, Mark { handed })
 }
 
-/// Whether the receipt's batch is committed, as by `Node::acked`. Closed, OtherKind.
-pub fn acked<B: BoardName + Unnamed>(
-    alloc: Global,
-    node: &mut Handle,
-    caller: &mut Handle,
-    receipt: &Receipt,
-) -> Called<Ack>
-    requires node { IfSome node.old.object (λ _. node.old.table ≡ B.table) }
-    requires caller { IfSome caller.old.object (λ _. caller.old.table ≡ B.table) }
-    ensures called { PairCalled NoReason node.old.object node.new.object caller.old.object caller.new.object result (Acks receipt.now) }
-    ensures cluster { (node.new.table ≡ node.old.table) × (caller.new.table ≡ caller.old.table) }
-{
-    with_pair::<B, _, _>(
-        alloc,
-        node,
-        caller,
-        |node: &mut Node<B>, pass: &mut Pass<B>| node.acked(pass, receipt),
-    )
+/// Whether the receipt's batch is committed, as by `Node::acked`.
+#[derive(Drop)]
+pub struct Acked {
+    pub receipt: Receipt,
+}
+
+impl OfPair<Ack> for Acked {
+    ghost use Rattle.kp_node.specs.CallerCalls.{Acks};
+
+    ghost gives = { λ a. Acks a.receipt };
+
+    fn ask<B: BoardName>(self, node: &mut Node<B>, pass: &mut Pass<B>) -> Result<Ack, Refusal> {
+        node.acked(pass, &self.receipt)
+    }
 }

@@ -1,20 +1,19 @@
 //! The records of batches that a handle holds, each found by its place, with all that it has.
 
-ghost use Rattle.std.specs.Prelude.{◌≡◌, ◌<◌, length, map, slice_get, IfErr, IfOk, IfSome, MatchOption, None, OnErr, OnOk, Some};
+ghost use Rattle.std.specs.Prelude.{◌≡◌, ◌<◌, length, map, slice_get, IfErr, IfOk, MatchOption, None, Some};
 ghost use Rattle.std.specs.Option.{option_map};
 ghost use Rattle.kp_record.specs.Lent.{headers_left, lent};
 ghost use Rattle.kp_handles.specs.Holding.{BadPartOf, HasPart};
-ghost use Rattle.kp_handles.specs.Records.{BadPartAt, HasPartAt, HasRecordAt, NoPartAt, NoRecordAt, WritesPartAt, moved, named_in, part_bytes, part_out, part_size, parts_at, parts_in_headers, parts_of, place_of, record_out, records_at};
+ghost use Rattle.kp_handles.specs.Records.{moved, named_in, part_bytes, part_out, parts_at, parts_in_headers, parts_of, place_of, record_out};
 
-use crate::handle::{Handle, Unnamed, put, take};
 use crate::holding::{batches_of, copy_front};
+use crate::looking::{SeenOf, WrittenOf};
 use crate::misuse::Misuse;
 use crate::object::{Kind, Object};
 use kp_batch::{Batch, Headers, Record, RecordPlace};
 use kp_board::BoardName;
 use kp_txns::AbortedTransaction;
 use kp_visible::is_clear;
-use std::alloc::Global;
 
 /// Where a record stands among batches; of the first record of the first batch all three are 0.
 #[repr(C)]
@@ -134,38 +133,37 @@ fn told(
     }
 }
 
-fn record_object<B: BoardName>(object: &Object<B>, at: RecordAt) -> Result<RecordOut, Misuse>
-    ensures found { IfOk result (HasRecordAt (Some object.now) at) }
-    ensures only { IfErr result (BadPartOf (records_at at) (λ r. 0) 0 0 object.now) }
-{
-    let batches = batches_of(object)?;
-    let Some(batch) = batches.get(at.batch) else {
-        return Err(Misuse::OutOfRange);
-    };
-    let Some((record, next)) = batch.record_at(at.place()) else {
-        return Err(Misuse::OutOfRange);
-    };
-    let next = RecordAt::moved(at.batch, next, batch.count(), batches.len());
-    Ok(told(batch, &record, at, next, aborted_of(object)))
+/// The record at the place, and where the next one stands. OtherKind; OutOfRange where no record stands there. No byte is copied;
+/// O(1), O(n) in the keys of its headers, and of transactional data O(m) in the aborted transactions that go with the batches.
+#[derive(Drop)]
+pub struct RecordIn {
+    pub at: RecordAt,
 }
 
-/// The record at the place, and where the next one stands. Closed, OtherKind; OutOfRange where no record stands there. No byte is copied;
-/// O(1), O(n) in the keys of its headers, and of transactional data O(m) in the aborted transactions that go with the batches.
-#[tactic(auto, using(crate::proofs::Bad::bad_part, crate::proofs::Bad::closed_part))]
-pub fn record_in<B: BoardName + Unnamed>(
-    alloc: Global,
-    handle: &mut Handle,
-    at: RecordAt,
-) -> Result<RecordOut, Misuse>
-    requires { IfSome handle.old.object (λ _. handle.old.table ≡ B.table) }
-    ensures found { IfOk result (HasRecordAt handle.old.object at) }
-    ensures only { IfErr result (NoRecordAt at handle.old.object) }
-    ensures same { handle.new.object ≡ handle.old.object }
-{
-    let object = take::<B>(alloc, handle)?;
-    let found = record_object(&object, at);
-    put(handle, object);
-    found
+impl SeenOf<RecordOut> for RecordIn {
+    ghost use mathlib.Core.Path.{refl};
+    ghost use Rattle.kp_handles.specs.Records.{HasRecordAt, NoRecordAt};
+
+    ghost sees = { λ r o found. HasRecordAt o r.at found };
+
+    ghost fails = { λ r o why. NoRecordAt r.at o why };
+
+    ghost closed = { λ _. refl };
+
+    fn look<B: BoardName>(self, object: &Object<B>) -> Result<RecordOut, Misuse> {
+        let at = self.at;
+        let Ok(batches) = batches_of(object) else {
+            return Err(Misuse::OtherKind);
+        };
+        let Some(batch) = batches.get(at.batch) else {
+            return Err(Misuse::OutOfRange);
+        };
+        let Some((record, next)) = batch.record_at(at.place()) else {
+            return Err(Misuse::OutOfRange);
+        };
+        let next = RecordAt::moved(at.batch, next, batch.count(), batches.len());
+        Ok(told(batch, &record, at, next, aborted_of(object)))
+    }
 }
 
 // The part of this number of the headers: of each its key, and its value.
@@ -205,7 +203,10 @@ fn part_in<B: BoardName>(
     ensures found { IfOk result (λ found. HasPart (parts_at at) part (Some object.now) (λ p. p ≡ option_map (λ v. v.now) found)) }
     ensures only { IfErr result (BadPartOf (parts_at at) (λ p. 0) part 0 object.now) }
 {
-    let Some(batch) = batches_of(object)?.get(at.batch) else {
+    let Ok(batches) = batches_of(object) else {
+        return Err(Misuse::OtherKind);
+    };
+    let Some(batch) = batches.get(at.batch) else {
         return Err(Misuse::OutOfRange);
     };
     let Some((record, _)) = batch.record_at(at.place()) else {
@@ -217,31 +218,30 @@ fn part_in<B: BoardName>(
     }
 }
 
-fn told_part<B: BoardName>(object: &Object<B>, at: RecordAt, part: usize) -> Result<PartOut, Misuse>
-    ensures found { IfOk result (HasPartAt (Some object.now) at part) }
-    ensures only { IfErr result (BadPartOf (parts_at at) (λ p. 0) part 0 object.now) }
-{
-    Ok(PartOut::of(part_in(object, at, part)?))
+/// A part of the record at the place, but for its bytes: 0 its key, 1 its value, and then of each header its key, and its value.
+/// OtherKind; OutOfRange where no record stands there, or where it hasn't got so many parts. O(1), and O(n) in its headers.
+#[derive(Drop)]
+pub struct PartAt {
+    pub at: RecordAt,
+    pub part: usize,
 }
 
-/// A part of the record at the place, but for its bytes: 0 its key, 1 its value, and then of each header its key, and its value. Closed,
-/// OtherKind; OutOfRange where no record stands there, or where it hasn't got so many parts. O(1), and O(n) in its headers.
-#[tactic(auto, using(crate::proofs::Bad::bad_part, crate::proofs::Bad::closed_part))]
-pub fn part_at<B: BoardName + Unnamed>(
-    alloc: Global,
-    handle: &mut Handle,
-    at: RecordAt,
-    part: usize,
-) -> Result<PartOut, Misuse>
-    requires { IfSome handle.old.object (λ _. handle.old.table ≡ B.table) }
-    ensures found { IfOk result (HasPartAt handle.old.object at part) }
-    ensures only { IfErr result (NoPartAt at part handle.old.object) }
-    ensures same { handle.new.object ≡ handle.old.object }
-{
-    let object = take::<B>(alloc, handle)?;
-    let found = told_part(&object, at, part);
-    put(handle, object);
-    found
+impl SeenOf<PartOut> for PartAt {
+    ghost use mathlib.Core.Path.{refl};
+    ghost use Rattle.kp_handles.specs.Records.{HasPartAt, NoPartAt};
+
+    ghost sees = { λ p o found. HasPartAt o p.at p.part found };
+
+    ghost fails = { λ p o why. NoPartAt p.at p.part o why };
+
+    ghost closed = { λ _. refl };
+
+    fn look<B: BoardName>(self, object: &Object<B>) -> Result<PartOut, Misuse> {
+        match part_in(object, self.at, self.part) {
+            Ok(part) => Ok(PartOut::of(part)),
+            Err(misuse) => Err(misuse),
+        }
+    }
 }
 
 // The part's bytes; none where it is null.
@@ -254,37 +254,28 @@ fn bytes_of(part: Option<&[u8]>) -> &[u8]
     }
 }
 
-fn copy_part<B: BoardName>(
-    object: &Object<B>,
-    at: RecordAt,
-    part: usize,
-    to: &mut [u8],
-) -> Result<(), Misuse>
-    ensures written { OnOk result (WritesPartAt (Some object.now) at part to.old to.new) }
-    ensures only { IfErr result (BadPartOf (parts_at at) part_size part (length to.old) object.now) }
-    ensures same { OnErr result (to.new ≡ to.old) }
-{
-    copy_front(bytes_of(part_in(object, at, part)?), to)
+/// Copies a part of the record at the place. OtherKind, OutOfRange as `PartAt`; BadLength where it doesn't fit. O(bytes), and O(n) in its
+/// headers.
+#[derive(Drop)]
+pub struct WritePart {
+    pub at: RecordAt,
+    pub part: usize,
 }
 
-/// Copies a part of the record at the place to the front. Closed, OtherKind, OutOfRange as `part_at`; BadLength where it doesn't fit.
-/// O(bytes), and O(n) in its headers.
-#[tactic(auto, using(crate::proofs::Bad::bad_part, crate::proofs::Bad::closed_part))]
-pub fn write_part<B: BoardName + Unnamed>(
-    alloc: Global,
-    handle: &mut Handle,
-    at: RecordAt,
-    part: usize,
-    to: &mut [u8],
-) -> Result<(), Misuse>
-    requires { IfSome handle.old.object (λ _. handle.old.table ≡ B.table) }
-    ensures written { OnOk result (WritesPartAt handle.old.object at part to.old to.new) }
-    ensures only { IfErr result (BadPartAt at part (length to.old) handle.old.object) }
-    ensures same { handle.new.object ≡ handle.old.object }
-    ensures refused { OnErr result (to.new ≡ to.old) }
-{
-    let object = take::<B>(alloc, handle)?;
-    let done = copy_part(&object, at, part, to);
-    put(handle, object);
-    done
+impl WrittenOf for WritePart {
+    ghost use mathlib.Core.Path.{refl};
+    ghost use Rattle.kp_handles.specs.Records.{BadPartAt, WritesPartAt};
+
+    ghost writes = { λ p o old new. WritesPartAt o p.at p.part old new };
+
+    ghost fails = { λ p places o why. BadPartAt p.at p.part places o why };
+
+    ghost closed = { λ _ _. refl };
+
+    fn write<B: BoardName>(self, object: &Object<B>, to: &mut [u8]) -> Result<(), Misuse> {
+        match part_in(object, self.at, self.part) {
+            Ok(part) => copy_front(bytes_of(part), to),
+            Err(misuse) => Err(misuse),
+        }
+    }
 }

@@ -1,17 +1,15 @@
 //! What a message says, and who sent it.
 
-ghost use Rattle.std.specs.Prelude.{◌≡◌, IfOk, IfErr, IfSome, Some};
+ghost use Rattle.std.specs.Prelude.{◌≡◌};
 ghost use Rattle.kp_model.specs.Letter.{letter};
-ghost use Rattle.kp_handles.specs.Holding.{BadLetter};
-ghost use Rattle.kp_handles.specs.Saying.{HasSaid, blank, end_epoch, end_offset, in_sync_out, record_epoch, said_out, sender_out};
+ghost use Rattle.kp_handles.specs.Saying.{blank, end_epoch, end_offset, in_sync_out, record_epoch, said_out, sender_out};
 
-use crate::handle::{Handle, Unnamed, put, take};
+use crate::looking::SeenOf;
 use crate::misuse::Misuse;
 use crate::object::{Kind, Object};
 use kp_board::BoardName;
 use kp_model::{EpochEnd, LeaderAndIsr, MessageBody, Said};
 use kp_types::NODE_PLACES;
-use std::alloc::Global;
 
 /// What a message says. What its kind hasn't got is 0, or false.
 #[repr(C)]
@@ -137,30 +135,28 @@ impl SaidOut {
     }
 }
 
-fn said_object<B: BoardName>(object: &Object<B>) -> Result<SaidOut, Misuse>
-    ensures found { IfOk result (HasSaid (Some object.now)) }
-    ensures only { IfErr result (BadLetter (Some object.now)) }
-{
-    match &object.kind {
-        Kind::Message(message) => {
-            let sender = sender_out(&message.body);
-            Ok(SaidOut::of(sender, message.body.said()))
-        }
-        _ => Err(Misuse::OtherKind),
-    }
-}
+/// What the message says, and who sent it. OtherKind. O(1), and no byte of a batch is copied.
+#[derive(Drop)]
+pub struct Saying;
 
-/// What the message says, and who sent it. Closed, OtherKind. O(1), and no byte of a batch is copied.
-#[tactic(auto, using(crate::proofs::Bad::closed_letter))]
-pub fn said<B: BoardName + Unnamed>(alloc: Global, handle: &mut Handle) -> Result<SaidOut, Misuse>
-    requires { IfSome handle.old.object (λ _. handle.old.table ≡ B.table) }
-    ensures found { IfOk result (HasSaid handle.old.object) }
-    ensures only { IfErr result (BadLetter handle.old.object) }
-    ensures same { handle.new.object ≡ handle.old.object }
-    ensures cluster { handle.new.table ≡ handle.old.table }
-{
-    let object = take::<B>(alloc, handle)?;
-    let found = said_object(&object);
-    put(handle, object);
-    found
+impl SeenOf<SaidOut> for Saying {
+    ghost use mathlib.Core.Path.{refl};
+    ghost use Rattle.kp_handles.specs.Holding.{BadLetter};
+    ghost use Rattle.kp_handles.specs.Saying.{HasSaid};
+
+    ghost sees = { λ _. HasSaid };
+
+    ghost fails = { λ _. BadLetter };
+
+    ghost closed = { λ _. refl };
+
+    fn look<B: BoardName>(self, object: &Object<B>) -> Result<SaidOut, Misuse> {
+        match &object.kind {
+            Kind::Message(message) => {
+                let sender = sender_out(&message.body);
+                Ok(SaidOut::of(sender, message.body.said()))
+            }
+            _ => Err(Misuse::OtherKind),
+        }
+    }
 }

@@ -3,9 +3,9 @@
 ghost use Rattle.std.specs.Prelude.{◌≡◌, IfOk, IfErr, IfSome};
 ghost use Rattle.kp_types.specs.declared.refusal.Refusal.TheVariants.{Memory};
 ghost use Rattle.kp_segment.specs.Runs.{AreRunsOf};
-ghost use Rattle.kp_handles.specs.Segments.{GivesSegment, SegmentCalled, SegmentMet, SegmentsCalled};
+ghost use Rattle.kp_handles.specs.Segments.{GivesSegment, SegmentCalled, SegmentMet};
 
-use crate::calling::{Called, give_by_node, put_made};
+use crate::calling::{Called, GivenByNode, put_made};
 use crate::handle::{Handle, Unnamed, is_open, put, take};
 use crate::holding::copy_front;
 use crate::misuse::Misuse;
@@ -49,23 +49,33 @@ fn shares_of(alloc: Global, log: &PartitionLog) -> Result<Vec<SegmentShare>, Ref
     Ok(shares)
 }
 
-/// Puts the node's log as segments, with shares of all its batches, into a closed handle. F33; InUse, Closed, OtherKind, NoRoom.
-/// O(batches).
-pub fn segments_of<B: BoardName + Unnamed>(
-    alloc: Global,
-    node: &mut Handle,
-    out: &mut Handle,
-) -> Called<()>
-    requires { IfSome node.old.object (λ _. node.old.table ≡ B.table) }
-    ensures called { SegmentsCalled node.old.object node.new.object out.old.object out.new.object result }
-    ensures cluster { node.new.table ≡ node.old.table }
-{
-    give_by_node::<B, _, _>(
-        alloc,
-        node,
-        out,
-        |node: &mut Node<B>| shares_of(alloc, node.log()),
-    )
+/// The node's log as segments, with shares of all its batches. F33. O(batches).
+#[derive(Drop)]
+pub struct ShareSegments {
+    pub alloc: Global,
+}
+
+impl GivenByNode for ShareSegments {
+    ghost use Rattle.std.specs.Prelude.{List};
+    ghost use Rattle.kp_batch.specs.Batch.{Written};
+    ghost use Rattle.kp_segment.specs.declared.name.SegmentName.{SegmentName as Name};
+    ghost use Rattle.kp_handles.specs.Objects.{segments};
+    ghost use Rattle.kp_handles.specs.Segments.{TellsSegments};
+
+    ghost Found = { List (Name × List Written) };
+
+    ghost held = { segments };
+
+    ghost gives = { λ _. TellsSegments };
+
+    fn ask<B: BoardName>(self, node: &mut Node<B>) -> Result<Object<B>, Refusal> {
+        match shares_of(self.alloc, node.log()) {
+            Ok(shares) => Ok(Object {
+                kind: Kind::Segments(shares),
+            }),
+            Err(refusal) => Err(refusal),
+        }
+    }
 }
 
 // Shares of the segment's batches, once the name of its file is known to fit.
@@ -78,7 +88,9 @@ fn given<B: BoardName>(alloc: Global, share: &SegmentShare, to: &mut [u8]) -> Ca
     if to.len() < text.as_bytes().len() {
         return Err(Misuse::BadLength);
     }
-    let made = room::<B>(alloc)?;
+    let Some(made) = room::<B>(alloc) else {
+        return Err(Misuse::NoRoom);
+    };
     match share_all(alloc, &share.batches) {
         Ok(batches) => {
             copy_front(text.as_bytes(), to)?;
@@ -89,7 +101,6 @@ fn given<B: BoardName>(alloc: Global, share: &SegmentShare, to: &mut [u8]) -> Ca
     }
 }
 
-#[tactic(auto, using(crate::proofs::Bad::segment_name_bad))]
 fn segment_object<B: BoardName>(
     alloc: Global,
     object: &Object<B>,
@@ -109,7 +120,6 @@ fn segment_object<B: BoardName>(
 
 /// Writes the name of the file of the segment at this index, 24 bytes, and puts the segment's batches into a closed handle. F33; InUse,
 /// Closed, OtherKind, OutOfRange, NoRoom; BadLength where the name doesn't fit. O(its batches).
-#[tactic(auto, using(crate::proofs::Bad::segment_closed, crate::proofs::Bad::segment_bad))]
 pub fn segment<B: BoardName + Unnamed>(
     alloc: Global,
     handle: &mut Handle,
@@ -124,7 +134,9 @@ pub fn segment<B: BoardName + Unnamed>(
     if is_open(out) {
         return Err(Misuse::InUse);
     }
-    let object = take::<B>(alloc, handle)?;
+    let Some(object) = take::<B>(alloc, handle) else {
+        return Err(Misuse::Closed);
+    };
     let answer = segment_object(alloc, &object, index, to);
     put(handle, object);
     put_made(out, answer)

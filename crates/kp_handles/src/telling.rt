@@ -1,21 +1,15 @@
 //! What a node tells of itself and of its log.
 
-ghost use Rattle.std.specs.Prelude.{◌≡◌, IfSome};
-ghost use Rattle.kp_node.specs.Tells.{TellsOffset};
-ghost use Rattle.kp_handles.specs.Called.{NoReason, NodeCalled, PairCalled};
-ghost use Rattle.kp_handles.specs.Outs.{isolation_in};
-ghost use Rattle.kp_handles.specs.Telling.{EndsFor, Shows, epoch_out, status_epoch, status_leader, status_number, status_start, state_out, time_out};
+ghost use Rattle.std.specs.Prelude.{◌≡◌};
+ghost use Rattle.kp_handles.specs.Telling.{epoch_out, status_epoch, status_leader, status_number, status_start, state_out, time_out};
 
-use crate::calling::{Called, with_node, with_pair};
-use crate::handle::{Handle, Unnamed};
-use crate::reading::isolation_in;
+use crate::calling::{OfNode, OfPair};
 use kp_board::{BoardName, Pass};
 use kp_model::EpochEnd;
-use kp_node::{Node, NodeState};
+use kp_node::{Isolation, Node, NodeState};
 use kp_replica::{Role, Status};
 use kp_segment::OffsetAndTimestamp;
-use kp_types::Epoch;
-use std::alloc::Global;
+use kp_types::{Epoch, Refusal};
 
 /// A node's state.
 #[repr(C)]
@@ -168,59 +162,53 @@ impl TimeOut {
     }
 }
 
-/// The node's state, as by `Node::show`. Closed, OtherKind.
-pub fn show<B: BoardName + Unnamed>(alloc: Global, handle: &mut Handle) -> Called<NodeState>
-    requires { IfSome handle.old.object (λ _. handle.old.table ≡ B.table) }
-    ensures called { NodeCalled handle.old.object handle.new.object result Shows }
-    ensures cluster { handle.new.table ≡ handle.old.table }
-{
-    with_node::<B, _, _>(
-        alloc,
-        handle,
-        |node: &mut Node<B>|
-            ensures { Shows node.old node.new result }
-        { Ok(node.show()) },
-    )
+/// The node's state, as by `Node::show`.
+#[derive(Drop)]
+pub struct Show;
+
+impl OfNode<NodeState> for Show {
+    ghost use Rattle.kp_handles.specs.Telling.{Shows};
+
+    ghost gives = { λ _. Shows };
+
+    fn ask<B: BoardName>(self, node: &mut Node<B>) -> Result<NodeState, Refusal> {
+        Ok(node.show())
+    }
 }
 
-/// Where the epoch ends in the leader's log, as by `Node::end_for`. Closed, OtherKind.
-pub fn end_for<B: BoardName + Unnamed>(
-    alloc: Global,
-    handle: &mut Handle,
-    epoch: Epoch,
-) -> Called<Option<EpochEnd>>
-    requires { IfSome handle.old.object (λ _. handle.old.table ≡ B.table) }
-    ensures called { NodeCalled handle.old.object handle.new.object result (EndsFor epoch) }
-    ensures cluster { handle.new.table ≡ handle.old.table }
-{
-    with_node::<B, _, _>(
-        alloc,
-        handle,
-        |node: &mut Node<B>|
-            ensures { EndsFor epoch node.old node.new result }
-        { node.end_for(epoch) },
-    )
+/// Where the epoch ends in the leader's log, as by `Node::end_for`.
+#[derive(Drop)]
+pub struct EndFor {
+    pub epoch: Epoch,
 }
 
-/// The offset for a time, as by `Node::offset_for_time`. Closed, OtherKind.
-pub fn offset_for_time<B: BoardName + Unnamed>(
-    alloc: Global,
-    node: &mut Handle,
-    caller: &mut Handle,
-    time: u64,
-    read_committed: bool,
-) -> Called<Option<OffsetAndTimestamp>>
-    requires node { IfSome node.old.object (λ _. node.old.table ≡ B.table) }
-    requires caller { IfSome caller.old.object (λ _. caller.old.table ≡ B.table) }
-    ensures called { PairCalled NoReason node.old.object node.new.object caller.old.object caller.new.object result
-        (TellsOffset time (isolation_in read_committed)) }
-    ensures cluster { (node.new.table ≡ node.old.table) × (caller.new.table ≡ caller.old.table) }
-{
-    let isolation = isolation_in(read_committed);
-    with_pair::<B, _, _>(
-        alloc,
-        node,
-        caller,
-        |node: &mut Node<B>, pass: &mut Pass<B>| { node.offset_for_time(pass, time, isolation) },
-    )
+impl OfNode<Option<EpochEnd>> for EndFor {
+    ghost use Rattle.kp_handles.specs.Telling.{EndsFor};
+
+    ghost gives = { λ e. EndsFor e.epoch };
+
+    fn ask<B: BoardName>(self, node: &mut Node<B>) -> Result<Option<EpochEnd>, Refusal> {
+        node.end_for(self.epoch)
+    }
+}
+
+/// The offset for a time, as by `Node::offset_for_time`.
+#[derive(Drop)]
+pub struct OffsetForTime {
+    pub time: u64,
+    pub isolation: Isolation,
+}
+
+impl OfPair<Option<OffsetAndTimestamp>> for OffsetForTime {
+    ghost use Rattle.kp_node.specs.Tells.{TellsOffset};
+
+    ghost gives = { λ o. TellsOffset o.time o.isolation };
+
+    fn ask<B: BoardName>(
+        self,
+        node: &mut Node<B>,
+        pass: &mut Pass<B>,
+    ) -> Result<Option<OffsetAndTimestamp>, Refusal> {
+        node.offset_for_time(pass, self.time, self.isolation)
+    }
 }

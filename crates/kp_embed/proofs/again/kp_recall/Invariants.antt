@@ -1,4 +1,4 @@
 use Rattle.kp_embed.proofs.again.kp_recall.Given as goal
 
-abbrev pub ghosts-recall-B-BoardName : goal.ghosts-recall-B-BoardName
-ghosts-recall-B-BoardName a = record { table = a.handle.now.table }
+abbrev pub ghosts-with_pass-B-BoardName : goal.ghosts-with_pass-B-BoardName
+ghosts-with_pass-B-BoardName a = record { table = a.handle.now.table }

@@ -1,4 +1,4 @@
 use Rattle.kp_embed.proofs.callers.kp_elect.Given as goal
 
-abbrev pub ghosts-elect-B-BoardName : goal.ghosts-elect-B-BoardName
-ghosts-elect-B-BoardName a = record { table = a.handle.now.table }
+abbrev pub ghosts-with_pass-B-BoardName : goal.ghosts-with_pass-B-BoardName
+ghosts-with_pass-B-BoardName a = record { table = a.handle.now.table }

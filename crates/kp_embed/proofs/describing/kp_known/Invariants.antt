@@ -1,4 +1,4 @@
 use Rattle.kp_embed.proofs.describing.kp_known.Given as goal
 
-abbrev pub ghosts-known-B-BoardName : goal.ghosts-known-B-BoardName
-ghosts-known-B-BoardName a = record { table = a.handle.now.table }
+abbrev pub ghosts-with_node-B-BoardName : goal.ghosts-with_node-B-BoardName
+ghosts-with_node-B-BoardName a = record { table = a.handle.now.table }

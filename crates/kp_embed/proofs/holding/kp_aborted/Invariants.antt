@@ -1,4 +1,4 @@
 use Rattle.kp_embed.proofs.holding.kp_aborted.Given as goal
 
-abbrev pub ghosts-aborted_at-B-BoardName : goal.ghosts-aborted_at-B-BoardName
-ghosts-aborted_at-B-BoardName a = record { table = a.handle.now.table }
+abbrev pub ghosts-look-B-BoardName : goal.ghosts-look-B-BoardName
+ghosts-look-B-BoardName a = record { table = a.handle.now.table }

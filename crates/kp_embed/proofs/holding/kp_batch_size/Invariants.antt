@@ -1,4 +1,4 @@
 use Rattle.kp_embed.proofs.holding.kp_batch_size.Given as goal
 
-abbrev pub ghosts-batch_size-B-BoardName : goal.ghosts-batch_size-B-BoardName
-ghosts-batch_size-B-BoardName a = record { table = a.handle.now.table }
+abbrev pub ghosts-look-B-BoardName : goal.ghosts-look-B-BoardName
+ghosts-look-B-BoardName a = record { table = a.handle.now.table }

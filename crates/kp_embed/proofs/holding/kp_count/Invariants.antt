@@ -1,4 +1,4 @@
 use Rattle.kp_embed.proofs.holding.kp_count.Given as goal
 
-abbrev pub ghosts-count-B-BoardName : goal.ghosts-count-B-BoardName
-ghosts-count-B-BoardName a = record { table = a.handle.now.table }
+abbrev pub ghosts-look-B-BoardName : goal.ghosts-look-B-BoardName
+ghosts-look-B-BoardName a = record { table = a.handle.now.table }

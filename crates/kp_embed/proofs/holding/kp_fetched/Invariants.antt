@@ -1,4 +1,4 @@
 use Rattle.kp_embed.proofs.holding.kp_fetched.Given as goal
 
-abbrev pub ghosts-fetched_at-B-BoardName : goal.ghosts-fetched_at-B-BoardName
-ghosts-fetched_at-B-BoardName a = record { table = a.handle.now.table }
+abbrev pub ghosts-look-B-BoardName : goal.ghosts-look-B-BoardName
+ghosts-look-B-BoardName a = record { table = a.handle.now.table }

@@ -1,4 +1,4 @@
 use Rattle.kp_embed.proofs.holding.kp_open_transaction.Given as goal
 
-abbrev pub ghosts-open_at-B-BoardName : goal.ghosts-open_at-B-BoardName
-ghosts-open_at-B-BoardName a = record { table = a.handle.now.table }
+abbrev pub ghosts-look-B-BoardName : goal.ghosts-look-B-BoardName
+ghosts-look-B-BoardName a = record { table = a.handle.now.table }

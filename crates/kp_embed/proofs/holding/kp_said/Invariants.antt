@@ -1,4 +1,4 @@
 use Rattle.kp_embed.proofs.holding.kp_said.Given as goal
 
-abbrev pub ghosts-said-B-BoardName : goal.ghosts-said-B-BoardName
-ghosts-said-B-BoardName a = record { table = a.handle.now.table }
+abbrev pub ghosts-look-B-BoardName : goal.ghosts-look-B-BoardName
+ghosts-look-B-BoardName a = record { table = a.handle.now.table }

@@ -1,4 +1,4 @@
 use Rattle.kp_embed.proofs.nodes.kp_checkpoint.Given as goal
 
-abbrev pub ghosts-checkpoint-B-BoardName : goal.ghosts-checkpoint-B-BoardName
-ghosts-checkpoint-B-BoardName a = record { table = a.handle.now.table }
+abbrev pub ghosts-with_node-B-BoardName : goal.ghosts-with_node-B-BoardName
+ghosts-with_node-B-BoardName a = record { table = a.handle.now.table }

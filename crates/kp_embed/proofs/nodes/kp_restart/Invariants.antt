@@ -1,4 +1,4 @@
 use Rattle.kp_embed.proofs.nodes.kp_restart.Given as goal
 
-abbrev pub ghosts-restart-B-BoardName : goal.ghosts-restart-B-BoardName
-ghosts-restart-B-BoardName a = record { table = a.handle.now.table }
+abbrev pub ghosts-with_node-B-BoardName : goal.ghosts-with_node-B-BoardName
+ghosts-with_node-B-BoardName a = record { table = a.handle.now.table }

@@ -1,5 +1,5 @@
 use Rattle.kp_handles.specs.Called.{table_of}
 use Rattle.kp_embed.proofs.producing.kp_acked.Given as goal
 
-abbrev pub ghosts-acked-B-BoardName : goal.ghosts-acked-B-BoardName
-ghosts-acked-B-BoardName a = record { table = table_of a.node.now.object a.node.now.table a.caller.now.table }
+abbrev pub ghosts-with_pair-B-BoardName : goal.ghosts-with_pair-B-BoardName
+ghosts-with_pair-B-BoardName a = record { table = table_of a.node.now.object a.node.now.table a.caller.now.table }

@@ -1,4 +1,4 @@
 use Rattle.kp_embed.proofs.records.kp_record.Given as goal
 
-abbrev pub ghosts-record_in-B-BoardName : goal.ghosts-record_in-B-BoardName
-ghosts-record_in-B-BoardName a = record { table = a.handle.now.table }
+abbrev pub ghosts-look-B-BoardName : goal.ghosts-look-B-BoardName
+ghosts-look-B-BoardName a = record { table = a.handle.now.table }

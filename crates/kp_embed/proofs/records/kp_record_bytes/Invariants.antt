@@ -1,4 +1,4 @@
 use Rattle.kp_embed.proofs.records.kp_record_bytes.Given as goal
 
-abbrev pub ghosts-write_part-B-BoardName : goal.ghosts-write_part-B-BoardName
-ghosts-write_part-B-BoardName a = record { table = a.handle.now.table }
+abbrev pub ghosts-look_into-B-BoardName : goal.ghosts-look_into-B-BoardName
+ghosts-look_into-B-BoardName a = record { table = a.handle.now.table }

@@ -1,4 +1,4 @@
 use Rattle.kp_embed.proofs.records.kp_record_part.Given as goal
 
-abbrev pub ghosts-part_at-B-BoardName : goal.ghosts-part_at-B-BoardName
-ghosts-part_at-B-BoardName a = record { table = a.handle.now.table }
+abbrev pub ghosts-look-B-BoardName : goal.ghosts-look-B-BoardName
+ghosts-look-B-BoardName a = record { table = a.handle.now.table }

@@ -1,4 +1,4 @@
 use Rattle.kp_embed.proofs.segments.kp_segments.Given as goal
 
-abbrev pub ghosts-segments_of-B-BoardName : goal.ghosts-segments_of-B-BoardName
-ghosts-segments_of-B-BoardName a = record { table = a.node.now.table }
+abbrev pub ghosts-give_by_node-B-BoardName : goal.ghosts-give_by_node-B-BoardName
+ghosts-give_by_node-B-BoardName a = record { table = a.node.now.table }

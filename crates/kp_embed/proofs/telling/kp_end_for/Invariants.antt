@@ -1,4 +1,4 @@
 use Rattle.kp_embed.proofs.telling.kp_end_for.Given as goal
 
-abbrev pub ghosts-end_for-B-BoardName : goal.ghosts-end_for-B-BoardName
-ghosts-end_for-B-BoardName a = record { table = a.handle.now.table }
+abbrev pub ghosts-with_node-B-BoardName : goal.ghosts-with_node-B-BoardName
+ghosts-with_node-B-BoardName a = record { table = a.handle.now.table }

@@ -1,4 +1,4 @@
 use Rattle.kp_embed.proofs.telling.kp_show.Given as goal
 
-abbrev pub ghosts-show-B-BoardName : goal.ghosts-show-B-BoardName
-ghosts-show-B-BoardName a = record { table = a.handle.now.table }
+abbrev pub ghosts-with_node-B-BoardName : goal.ghosts-with_node-B-BoardName
+ghosts-with_node-B-BoardName a = record { table = a.handle.now.table }

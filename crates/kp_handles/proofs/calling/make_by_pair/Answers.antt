@@ -14,18 +14,18 @@ returns g c = elim c.match-one.branch [
   | in-Node w ↦ elim w.match-other.branch [
     | in-Caller w' ↦
         let s = w'.make in
-        subst (λ (r : Result (Result (Box ObjectView) Refusal) Misuse). GiveCalled g.T.Held.held (g.Q.AskBoth.gives c.args.call) (Some c.args.one.now) _ (Some c.args.other.now) _ None (made_of r) (done_of r))
+        subst (λ (r : Result (Result (Box ObjectView) Refusal) Misuse). GiveCalled g.Q.GivenByPair.held (g.Q.GivenByPair.gives c.args.call) (Some c.args.one.now) _ (Some c.args.other.now) _ None (made_of r) (done_of r))
         (sym (w.result-is ∙ w'.result-is))
-        (pair_made g.T.Held.held (g.Q.AskBoth.gives c.args.call) c.args.one.now _ c.args.other.now _ w.in-Node.node s.new.node w'.in-Caller.caller.board.value w'.in-Caller.caller.pass s.new.pass
+        (pair_made g.Q.GivenByPair.held (g.Q.GivenByPair.gives c.args.call) c.args.one.now _ c.args.other.now _ w.in-Node.node s.new.node w'.in-Caller.caller.board.value w'.in-Caller.caller.pass s.new.pass
         (sym c.one.view_is ∙ ap (λ k. object_view k) w.in-Node.is) (ap (λ i. object_view i.kind) (w.one-inside-is ∙ w'.one-inside-is))
         (sym c.other.view_is ∙ ap (λ k. object_view k) w'.in-Caller.is) (w.other-is ∙ ap (λ i. object_view i.kind) w'.other-inside-is)
         s.result s.ensures.made s.ensures.same s.ensures.only)
     | in_default-kind w' ↦
-        pair_not_made g.T.Held.held (g.Q.AskBoth.gives c.args.call) c.args.one.now _ c.args.other.now _ c.match-one.result (w.result-is ∙ w'.result-is)
+        pair_not_made g.Q.GivenByPair.held (g.Q.GivenByPair.gives c.args.call) c.args.one.now _ c.args.other.now _ c.match-one.result (w.result-is ∙ w'.result-is)
         (ap (λ i. object_view i.kind) (w.one-inside-is ∙ w'.one-inside-is) ∙ ap (λ k. object_view k) (sym w.in-Node.is) ∙ c.one.view_is)
         (w.other-is ∙ ap (λ i. object_view i.kind) w'.other-inside-is ∙ c.other.view_is) (search rules)
   ]
   | in_default w ↦
-      pair_not_made g.T.Held.held (g.Q.AskBoth.gives c.args.call) c.args.one.now _ c.args.other.now _ c.match-one.result w.result-is
+      pair_not_made g.Q.GivenByPair.held (g.Q.GivenByPair.gives c.args.call) c.args.one.now _ c.args.other.now _ c.match-one.result w.result-is
       (ap (λ i. object_view i.kind) w.one-inside-is ∙ c.one.view_is) w.other-is (search rules)
 ]

@@ -4,9 +4,9 @@ use Rattle.kp_handles.specs.Objects.{ObjectView}
 use Rattle.kp_handles.proofs.Posts.{decide_called}
 use Rattle.kp_handles.proofs.messages.decide.Goals as goal
 
-pub returns-in-Some-clause-called : goal.returns-in-Some-clause-called
-returns-in-Some-clause-called g c =
+pub returns-in-Some-left-clause-called : goal.returns-in-Some-left-clause-called
+returns-in-Some-left-clause-called g c =
     let s = c.decide_objects-left in
     decide_called c.deref_mut.result.now s.new.one c.replace-came.result s.result.0 _ _ _ _ s.result.1 s.ensures
     (search rules) (search rules) (search rules)
-    (c.put-in-Some.ensures.object ∙ ap (λ (v : ObjectView). Some v) c.replace.ensures.after ∙ sym c.in-Some.is)
+    (c.put-in-Some-left.ensures.object ∙ ap (λ (v : ObjectView). Some v) c.replace.ensures.after ∙ sym c.in-Some-left.is)

@@ -15,12 +15,12 @@ use Rattle.kp_handles.proofs.records.part_in.Given.{Over}
 parts_here : (g : Over) (c : After-part_of g) → parts_at c.args.at c.args.object.now ≡ Some (parts_of (lent c.in-Some-record_at.record))
 parts_here g c =
     let at = c.args.at in
-    let ws = c.in_ok-batches_of.field-0.now in
+    let ws = c.in-Ok.batches.now in
     let w = c.in-Some.batch.now in
     let r = lent c.in-Some-record_at.record in
     let next = c.in-Some-record_at.field-0-1 in
     let there = slice_get_read ws (length ws) at.batch w refl c.in-Some.ensures.lookup.3.0 c.in-Some.ensures.lookup.1 in
-    parts_are at c.args.object.now ws c.in_ok-batches_of.ensures.found w there r (records_from next w.body)
+    parts_are at c.args.object.now ws c.in-Ok.ensures.found w there r (records_from next w.body)
     (subst (λ (p : RecordPlace). records_from p w.body ≡ r ∷ records_from next w.body) c.place.ensures c.in-Some-record_at.ensures.found)
 
 pub returns-in-Some-part_of-clause-found : goal.returns-in-Some-part_of-clause-found
