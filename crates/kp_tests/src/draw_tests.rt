@@ -25,13 +25,11 @@ fn drawn(alloc: Global, script: &[u8], part: Lines, read: u64, write: u64) -> Re
 
 // How often the word stands in the text.
 fn count(text: &[u8], word: &[u8]) -> usize {
-    let mut rest = text;
     let mut found = 0usize;
-    while let [_, behind @ ..] = rest {
-        if rest.starts_with(word) {
+    for at in 0..text.len() {
+        if text[at..].starts_with(word) {
             found = found.saturating_add(1);
         }
-        rest = behind;
     }
     found
 }
