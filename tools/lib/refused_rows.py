@@ -16,6 +16,7 @@ from .chances import lines
 from .compare import TOP
 from .decoder import inspect
 from .known_calls import NO_CALL
+from .pictures import titles_in
 from .refusals import KINDS, bytes_of
 
 EVENTS_AT_ONCE = 512  # so many lines of a trace are written at a time
@@ -199,6 +200,23 @@ class Run(Row):
         return ""
 
 
+class Draw(Row):
+    """`kpart draw`, of a script whose picture stands in the pages."""
+
+    def __init__(self, name, path, data, picture):
+        super().__init__(name, ["draw", path], picture, "", 0, {path: data}, path)
+        count, self.events = scripts.parse(data)
+        self.world = kept_files.KeepingWorld(count)
+
+    def without_memory(self, got):
+        """An event that is refused for want of memory has that in its title."""
+        if got.err or got.status:
+            return super().without_memory(got)
+        told = [title.split("\n")[-1] for title in titles_in(got.out)]
+        ends = scripts.ends(self.world.with_room(None), self.events, told)
+        return "events" if len(told) == len(self.events) and any(True for _ in ends) else None
+
+
 class Race(Row):
     """`kpart race`, whose numbers depend on the schedule."""
 
@@ -273,6 +291,7 @@ def rows():
     yield Dump("dump", "a.log", bytes_of(f"{TOP}/examples/transaction.log"), 1024, 100)
     yield Dump("dump_of_15", "a.log", bytes_of(f"{DATA}/made_first_15.log"))
     yield Dump("dump_of_a_fault", "a.log", bytes_of(f"{DATA}/made_odd_record.log"))
+    yield Draw("draw", "a.script", bytes_of(f"{TOP}/examples/failover.script"), bytes_of(f"{TOP}/docs/failover.svg").decode())
     missing = f"{DEVICE}kpart: no.script: no such file\n"
     yield Row("no_file", ["run", "no.script"], "", missing, 1, path="no.script")
     for name, words in WORDS.items():
