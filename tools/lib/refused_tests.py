@@ -31,8 +31,10 @@ def found(left):
 
 
 # What else a test may say, in words that a wrong answer could have, too: a worker tells nobody that its step was refused. The steps
-# behind it then don't come, nor the sends that are counted.
+# behind it then don't come, nor the sends that are counted. An event of a picture that is refused has that in its title, so the title that
+# is looked for isn't there.
 OWN = {
+    "draw_tests::each_event_is_drawn_once": found("0"),
     "cluster_tests::gate_two_nodes": found(r"Ok\(false\)"),
     "race_tests::refused_threads_and_sends_leave_what_stops": found(r"Ok\(Ended \{ .* \}\)"),
 }
