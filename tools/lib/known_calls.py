@@ -85,6 +85,7 @@ Arguments:
   <FILE>  the script to run
 
 Options:
+      --from <FOLDER>  the folder that another run has left, to go on with its nodes
       --keep <FOLDER>  an empty folder, or a new one, to keep what the nodes leave in
   -h, --help           Print help
 """
@@ -191,6 +192,7 @@ NO_CALL = {f"kpart{' ' if words else ''}{words}": (kind, text) for words, kind, 
     ("inspect x --segment 1024 --segment 1024", "ArgumentConflict", mistake("the argument '--segment <S>' cannot be used multiple times", INSPECT)),
     ("inspect x --interval 1048577", VALUE, invalid("1048577", "interval <I>", "1048577 is not in 0..=1048576")),
     ("run made_1.script --keep", "InvalidValue", mistake("a value is required for '--keep <FOLDER>' but none was supplied")),
+    ("run made_1.script --from", "InvalidValue", mistake("a value is required for '--from <FOLDER>' but none was supplied")),
     ("run made_1.script --keep a --keep b", "ArgumentConflict", mistake("the argument '--keep <FOLDER>' cannot be used multiple times", RUN)),
     ("inspect made_example.log --keep kept", UNKNOWN, unexpected("--keep", "inspect <FILE>")),
     ("inspect x --interval=-0", VALUE, invalid("-0", "interval <I>", NUMBER)),
@@ -233,6 +235,7 @@ NO_FILE = {f"kpart {words}": path for words, path in (
     ("run no.script", "no.script"),
     ("run no/such.script", "no/such.script"),
     ("run no.script --keep full", "no.script"),
+    ("run no.script --from nowhere", "no.script"),
     ("inspect no.log --segment 1024", "no.log"),
     ("draw no.script --from 2", "no.script"),
 )}

@@ -11,7 +11,7 @@ may come (docs/FORMATS.md, 'The program'; docs/RULES.md, what stands after F32 a
 import errno
 import re
 
-from . import kept_files, scripts
+from . import kept_files, left_folders, scripts
 from .chances import lines
 from .compare import TOP
 from .decoder import inspect
@@ -200,6 +200,35 @@ class Run(Row):
         return ""
 
 
+class GoneOn(Run):
+    """`kpart run --from`, of the folder that another script's run has left."""
+
+    LEFT = "left"
+
+    def __init__(self, name, script, data, left, folder=None):
+        words = ["run", script, "--from", self.LEFT, *(["--keep", folder] if folder else [])]
+        files = {script: data, self.LEFT: None, **{f"{self.LEFT}/{at}": of for at, of in kept_files.kept_tree(left).items()}}
+        out, err, status, world = left_folders.told(data, left)
+        Row.__init__(self, name, words, out, err, status, files, script, folder)
+        self.events = None
+        if world:
+            self.events, self.limit = scripts.parse(data)[1], kept_files.limits(data)[0]
+            self.world = kept_files.play(left).world
+            left_folders.pause(self.world)
+            self.kept = self.kept_by(world)
+
+    def is_refused_at_start(self, got, error):
+        """Whether the folder that is read failed, of which memory may be wanted before it has a reason."""
+        said = (complaint(error, self.LEFT), *[MEMORY] * (error == errno.ENOMEM))
+        return (got.out, got.status) == ("", 1) and got.err in said and dict(got.left) == self.taken
+
+    def without_memory(self, got):
+        return "F33" if self.is_refused_at_start(got, errno.ENOMEM) else super().without_memory(got)
+
+    def without_device(self, kind, got):
+        return kind.call in ("read", "open", "list") and self.is_refused_at_start(got, kind.error) or super().without_device(kind, got)
+
+
 class Draw(Row):
     """`kpart draw`, of a script whose picture stands in the pages."""
 
@@ -283,6 +312,10 @@ def runs():
     yield Run("keep_of_three", "replicate.script", replicate, "logs")
     yield Run("keep_takes", "takes.script", TAKES, "logs")
     yield Run("keep_faulty", "faulty.script", FAULTY, "logs")
+    failover, goes_on = bytes_of(left_folders.FAILOVER), bytes_of(f"{DATA}/goes_on.script")
+    yield GoneOn("from", "goes_on.script", goes_on, failover)
+    yield GoneOn("from_and_keep", "goes_on.script", goes_on, failover, "logs")
+    yield GoneOn("from_lost", "goes_on.script", bytes_of(f"{DATA}/goes_on_lost.script"), failover)
 
 
 def rows():

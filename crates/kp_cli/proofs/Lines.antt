@@ -1,5 +1,5 @@
 -- How a path is shown, and which second line a refusal has.
-use Rattle.std.proofs.Common.{◌≡◌, ◌⊎◌, ◌∙◌, ◌++◌, ℕ, Bool, cond, List, [], ap, sym, subst, refl, append-nil, Option, Result, Ok, Err, OnOk, OnErr, inl, inr}
+use Rattle.std.proofs.Common.{◌≡◌, ◌⊎◌, ◌∙◌, ◌++◌, ℕ, Bool, cond, List, [], ap, codes, sym, subst, refl, append-nil, Option, Result, Ok, Err, OnOk, OnErr, inl, inr}
 use Rattle.std.proofs.lemmas.Bool.{eq-eqb}
 use Rattle.clap.specs.declared.error.kind.ErrorKind.{ErrorKind}
 use Rattle.clap.specs.declared.error.kind.ErrorKind.TheVariants as kinds
@@ -7,9 +7,13 @@ use Rattle.kp_types.specs.declared.counted.Counted.{Counted}
 use Rattle.kp_types.specs.Devices.{AppendsFront, CountsFault, IsBegun, IsOut, Tells, device_of, faults_of}
 use Rattle.kp_types.specs.declared.refusal.Refusal.{Refusal}
 use Rattle.kp_types.specs.declared.refusal.Refusal.TheVariants as refusals
+use Rattle.kp_folder.specs.Bad.{refusal_of as refusal_of_folder}
+use Rattle.kp_folder.specs.declared.fault.FolderFault.{FolderFault}
+use Rattle.kp_folder.specs.declared.fault.FolderFault.TheVariants.{Stopped}
 use Rattle.kp_cli.specs.Faults.{refusal_of}
+use Rattle.kp_cli.specs.Left.{fault_place, folder_complaint}
 use Rattle.kp_cli.specs.Program.{Explains, words_complaint, words_status}
-use Rattle.kp_cli.specs.Told.{Prints, complaint, reason_of, reason, status_of_refusal}
+use Rattle.kp_cli.specs.Told.{Prints, complaint, reason_of, reason, shown, status_of_refusal}
 use Rattle.kp_cli.specs.declared.fault.Fault.{Fault}
 use Rattle.kp_cli.specs.declared.fault.Fault.TheVariants as faults
 
@@ -94,3 +98,16 @@ pub by_pieces : (P : List ℕ → Type 0) (a b c d e f g h i j a2 b2 c2 d2 e2 f2
     → P (a ++ (b ++ (c ++ (d ++ (e ++ (f ++ (g ++ (h ++ (i ++ (j ++ ([]))))))))))) → P (a2 ++ (b2 ++ (c2 ++ (d2 ++ (e2 ++ (f2 ++ (g2 ++ (h2 ++ (i2 ++ (j2))))))))))
 by_pieces P a b c d e f g h i j a2 b2 c2 d2 e2 f2 g2 h2 i2 j2 is-a is-b is-c is-d is-e is-f is-g is-h is-i is-j holds =
     subst P (λ at. is-a at ++ (is-b at ++ (is-c at ++ (is-d at ++ (is-e at ++ (is-f at ++ (is-g at ++ (is-h at ++ (is-i at ++ ((append-nil j ∙ is-j) at)))))))))) holds
+
+-- ---- a folder's fault
+
+-- another stop than a device's
+pub other_stop : (from : List ℕ) (why : Fault) (refusal : Refusal) → (refusal ≡ refusals.Device → ⊥) → folder_complaint from why (Stopped refusal) ≡ complaint refusal
+other_stop from why refusals.Device other = absurd (other refl)
+other_stop from why _ other = append-nil _
+
+-- a fault that lies in a file
+pub other_fault : (from : List ℕ) (why : Fault) (fault : FolderFault) → ((refusal : Refusal) → fault ≡ Stopped refusal → ⊥)
+    → folder_complaint from why fault ≡ complaint (refusal_of_folder fault) ++ (codes "kpart: " ++ (shown from ++ fault_place fault))
+other_fault from why (Stopped refusal) other = absurd (other refusal refl)
+other_fault from why _ other = refl

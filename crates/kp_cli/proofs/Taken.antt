@@ -48,7 +48,7 @@ has_value a rows filled e = go (find (λ r. bytes_eq r.id (codes "FILE")) rows) 
     go None is h = h
     go (Some r) is h = first_there r.values (found_filled (Suits a) _ rows r filled is).0.0
 
--- ---- `run FILE [--keep FOLDER]`
+-- ---- `run FILE [--from FOLDER] [--keep FOLDER]`
 
 abbrev run_shape : Shape
 run_shape = slice_index_or (built kpart).subs 0 kpart.top
@@ -56,11 +56,14 @@ run_shape = slice_index_or (built kpart).subs 0 kpart.top
 abbrev file : Rule
 file = slice_index_or run_shape.rules 0 file_rule
 
+abbrev left : Rule
+left = slice_index_or run_shape.rules 1 file_rule
+
 abbrev keep : Rule
-keep = slice_index_or run_shape.rules 1 file_rule
+keep = slice_index_or run_shape.rules 2 file_rule
 
 abbrev help : Rule
-help = slice_index_or run_shape.rules 2 file_rule
+help = slice_index_or run_shape.rules 3 file_rule
 
 -- a use that takes one value, by a rule that is a where it has the id of a
 takes_one : (a b : Rule) → (bytes_eq b.id a.id ≡ true → b ≡ a) → (values : List Text) (rows : List Row)
@@ -72,10 +75,13 @@ takes_one a b one (v ∷ vs) rows e filled =
     (next_empty (repeat_fault false b.id rows) _ (next_empty (range_kinds 1 1 (length (v ∷ vs))) _ e)) filled
 
 run_uses : EachRule (FillsItself (Suits file) false) run_shape.rules
-run_uses = (takes_one file file (λ e. refl), (takes_one file keep (λ e. absurd cc), ((λ values rows e filled. filled), tt)))
+run_uses = (
+  takes_one file file (λ e. refl),
+  (takes_one file left (λ e. absurd cc), (takes_one file keep (λ e. absurd cc), ((λ values rows e filled. filled), tt))),
+)
 
 run_defaults : EachRule (FillsByDefault (Suits file)) run_shape.rules
-run_defaults = ((λ rows filled. filled), ((λ rows filled. filled), ((λ rows filled. filled), tt)))
+run_defaults = ((λ rows filled. filled), ((λ rows filled. filled), ((λ rows filled. filled), ((λ rows filled. filled), tt))))
 
 run_has_file : (words : List Text) → level_fault run_shape [] nothing_held words false [] ≡ [] → HasFile (rows_after run_shape.rules [] words)
 run_has_file words e =

@@ -1,4 +1,5 @@
 pub mod Faults
+pub mod Left
 pub mod Line
 pub mod Perform
 pub mod Piped

@@ -15,9 +15,13 @@ file_rule = record (new_rule (codes "FILE")) { required = true }
 abbrev pub keep_rule : Rule
 keep_rule = record (new_rule (codes "keep")) { long = Some (codes "keep"); value_names = 1 }
 
--- `run FILE [--keep FOLDER]`
+-- `--from FOLDER`
+abbrev pub left_rule : Rule
+left_rule = record (new_rule (codes "from")) { long = Some (codes "from"); value_names = 1 }
+
+-- `run FILE [--from FOLDER] [--keep FOLDER]`
 abbrev pub run_app : App
-run_app = with_rule (with_rule (new_app (codes "run")) file_rule) keep_rule
+run_app = with_rule (with_rule (with_rule (new_app (codes "run")) file_rule) left_rule) keep_rule
 
 -- `--NAME NUMBER`, a number from `least` to `greatest`, with the text that stands for it where it is left out
 abbrev pub number_rule : (name : Text) → (least greatest : ℕ) → (default : Text) → Rule
@@ -118,8 +122,9 @@ IsRaceOf rows _ = ⊥
 -- the call is the one that the used subcommand and its matches are
 abbrev pub IsCallOf : Option (Text × List Row) → Call → Type 0
 IsCallOf None call = ⊥
-IsCallOf (Some entered) (Run file keep) =
+IsCallOf (Some entered) (Run file from keep) =
     (entered.0 ≡ codes "run") × (first_of (codes "FILE") entered.1 ≡ Some (string_bytes file))
+    × (first_of (codes "from") entered.1 ≡ option_map string_bytes from)
     × (first_of (codes "keep") entered.1 ≡ option_map string_bytes keep)
 IsCallOf (Some entered) (Inspect file segment_bytes index_interval) =
     (entered.0 ≡ codes "inspect") × (first_of (codes "FILE") entered.1 ≡ Some (string_bytes file))

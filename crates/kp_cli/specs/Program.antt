@@ -1,4 +1,5 @@
 -- What the program does, from the words of its command line to its exit status.
+use Rattle.std.specs.Option.{option_map}
 use Rattle.std.specs.Prelude.{◌≡◌, ◌⊎◌, ℕ, List, [], Option, Some, None, Result, Ok, Err, IfSome, string_bytes}
 use Rattle.clap.specs.Words.{IsAmong, Text, fault_of, subcommand_of}
 use Rattle.clap.specs.declared.error.kind.ErrorKind.{ErrorKind}
@@ -11,6 +12,7 @@ use Rattle.kp_types.specs.declared.refusal.Refusal.TheVariants.{Memory}
 use Rattle.kp_race.specs.declared.outcome.Outcome.{Outcome}
 use Rattle.kp_race.specs.declared.outcome.Plan.{Plan}
 use Rattle.kp_cli.specs.Faults.{refusal_of}
+use Rattle.kp_cli.specs.Left.{KeepsLeft, PerformsLeft, Room}
 use Rattle.kp_cli.specs.Line.{IsCallOf, kpart}
 use Rattle.kp_cli.specs.Perform.{Draws, Inspects, PerformsReading, RunsAndKeeps, RunsScript, Shelf, Streams, limits_of, part_of}
 use Rattle.kp_cli.specs.Piped.{EndsPipe, PipesAndKeeps}
@@ -69,11 +71,11 @@ ExplainsBy held told kind known out out_new err err_new status =
 abbrev pub Races : Type 1
 Races = ℕ → Plan → Result Outcome Refusal → Type 0
 
--- What a call leaves that is handed an open file and keeps no logs: the trace of its script, the dump of its log, its pipe's answers, or the
+-- What a call leaves that is handed an open file and keeps nothing: the trace of its script, the dump of its log, its pipe's answers, or the
 -- lines of its race, whatever that may answer. A pipe and a race leave the file alone.
 abbrev pub PerformsCall : {F W E : Type 0} → Streams F W E → Races → (input : Option (List ℕ)) → Call
     → (file file_new : Counted F) → (out out_new : Counted W) → (err err_new : Counted E) → (status : ℕ) → Type 0
-PerformsCall streams races input (Run path keep) file file_new out out_new err err_new status =
+PerformsCall streams races input (Run path from keep) file file_new out out_new err err_new status =
     PerformsReading streams (string_bytes path) RunsScript file file_new out out_new err err_new status
 PerformsCall streams races input (Inspect path segment_bytes index_interval) file file_new out out_new err err_new status =
     PerformsReading streams (string_bytes path) (Inspects (limits_of segment_bytes index_interval)) file file_new out out_new err err_new status
@@ -144,21 +146,23 @@ pub record EndsUntaken {F K W E : Type 0} (known : Known F K W E) (keep : List �
   pub told : Tells known.streams.told around.err around.err_left (file_complaint keep fault)
   pub status_is : status ≡ 1
 
--- The file at this path is open, this is written of it, and the folder is as it was handed in.
+-- The file at this path is open, this is left of it and of the outputs, and the folder is as it was handed in.
 pub record EndsRead {F K W E : Type 0} (known : Known F K W E) (path : List ℕ)
-    (Written : (input old new : Option (List ℕ)) → Result ℕ Refusal → Type 0) (around : Around F K W E) (status : ℕ) : Type 0 where
+    (Leaves : (file file_new : Counted F) → (out out_new : Counted W) → (err err_new : Counted E) → ℕ → Type 0) (around : Around F K W E) (status : ℕ) : Type 0 where
   pub file : Counted F
   pub is_opened : IsOpened known path around.file file
   pub folder_same : IsLeft around.folder around.folder_left
-  pub performs : PerformsReading known.streams path Written file around.file_left around.out around.out_left around.err around.err_left status
+  pub performs : Leaves file around.file_left around.out around.out_left around.err around.err_left status
 
--- The file at this path is open, and the folder at that one is taken: what `run_and_keep` says, and no more.
-pub record EndsKept {F K W E : Type 0} (known : Known F K W E) (path keep : List ℕ) (around : Around F K W E) (status : ℕ) : Type 0 where
+-- The file at this path is open, and the folder at that one is taken: this is left of both and of the outputs.
+pub record EndsKept {F K W E : Type 0} (known : Known F K W E) (path keep : List ℕ)
+    (Leaves : (file file_new : Counted F) → (folder folder_new : Counted K) → (out out_new : Counted W) → (err err_new : Counted E) → ℕ → Type 0)
+    (around : Around F K W E) (status : ℕ) : Type 0 where
   pub file : Counted F
   pub is_opened : IsOpened known path around.file file
   pub folder : Counted K
   pub is_taken : IsTaken known keep around.folder folder
-  pub runs : RunsAndKeeps known.streams known.shelf path keep file around.file_left folder around.folder_left around.out around.out_left around.err around.err_left status
+  pub runs : Leaves file around.file_left folder around.folder_left around.out around.out_left around.err around.err_left status
 
 -- The folder at this path is taken: what `pipe_and_keep` says, and no more.
 pub record EndsPiped {F K W E : Type 0} (known : Known F K W E) (keep : List ℕ) (input : Option (List ℕ)) (around : Around F K W E) (status : ℕ) : Type 0 where
@@ -168,39 +172,52 @@ pub record EndsPiped {F K W E : Type 0} (known : Known F K W E) (keep : List ℕ
 
 -- what a call leaves that reads the file at this path and keeps nothing
 abbrev pub Reads : {F K W E : Type 0} → Known F K W E → (path : List ℕ)
-    → (Written : (input old new : Option (List ℕ)) → Result ℕ Refusal → Type 0) → Around F K W E → ℕ → Type 0
-Reads known path Written around status = EndsUnopened known path around status ⊎ EndsRead known path Written around status
+    → (Leaves : (file file_new : Counted F) → (out out_new : Counted W) → (err err_new : Counted E) → ℕ → Type 0) → Around F K W E → ℕ → Type 0
+Reads known path Leaves around status = EndsUnopened known path around status ⊎ EndsRead known path Leaves around status
 
--- what a run leaves of the script at this path, whose logs are kept in the folder at that one: nothing is read before it is taken
-abbrev pub RunsInto : {F K W E : Type 0} → Known F K W E → (path keep : List ℕ) → Around F K W E → ℕ → Type 0
-RunsInto known path keep around status =
+-- what a run leaves of the script at this path, which keeps what it leaves in the folder at that one: nothing is read before it is taken
+abbrev pub RunsInto : {F K W E : Type 0} → Known F K W E → (path keep : List ℕ)
+    → (Leaves : (file file_new : Counted F) → (folder folder_new : Counted K) → (out out_new : Counted W) → (err err_new : Counted E) → ℕ → Type 0)
+    → Around F K W E → ℕ → Type 0
+RunsInto known path keep Leaves around status =
     EndsUnopened known path around status
-    ⊎ ((IsOpened known path around.file around.file_left × EndsUntaken known keep around status) ⊎ EndsKept known path keep around status)
+    ⊎ ((IsOpened known path around.file around.file_left × EndsUntaken known keep around status) ⊎ EndsKept known path keep Leaves around status)
 
--- what a pipe leaves whose logs are kept in the folder at this path: no line is read before it is taken
+-- what a pipe leaves that keeps what it leaves in the folder at this path: no line is read before it is taken
 abbrev pub PipesInto : {F K W E : Type 0} → Known F K W E → (keep : List ℕ) → (input : Option (List ℕ)) → Around F K W E → ℕ → Type 0
 PipesInto known keep input around status =
     IsLeft around.file around.file_left × (EndsUntaken known keep around status ⊎ EndsPiped known keep input around status)
 
--- What the program leaves that is asked for this call. Its file is opened first, then its folder is taken, then it reads.
-abbrev pub EndsAsked : {F K W E : Type 0} → Known F K W E → Races → (input : Option (List ℕ)) → Call → Around F K W E → ℕ → Type 0
-EndsAsked known races input (Run path None) around status = Reads known (string_bytes path) RunsScript around status
-EndsAsked known races input (Run path (Some keep)) around status = RunsInto known (string_bytes path) (string_bytes keep) around status
-EndsAsked known races input (Inspect path segment_bytes index_interval) around status =
-    Reads known (string_bytes path) (Inspects (limits_of segment_bytes index_interval)) around status
-EndsAsked known races input (Draw path from to) around status = Reads known (string_bytes path) (Draws (part_of from to)) around status
-EndsAsked known races input (Pipe None) around status =
+-- What a run leaves of the script at this path: on new nodes, or on those that another one has left in a folder, which are read by this
+-- device; and with what it leaves kept, or not.
+abbrev pub EndsRun : {F L K W E : Type 0} → Known F K W E → Room L → (left : L) → (path : List ℕ) → (from keep : Option (List ℕ)) → Around F K W E → ℕ → Type 0
+EndsRun known room left path None None around status = Reads known path (PerformsReading known.streams path RunsScript) around status
+EndsRun known room left path None (Some keep) around status = RunsInto known path keep (RunsAndKeeps known.streams known.shelf path keep) around status
+EndsRun known room left path (Some from) None around status = Reads known path (PerformsLeft known.streams room left from path) around status
+EndsRun known room left path (Some from) (Some keep) around status =
+    RunsInto known path keep (KeepsLeft known.streams room known.shelf left from path keep) around status
+
+-- What the program leaves that is asked for this call. Its file is opened first, then its folder is taken, then the one that it goes on from
+-- is entered, then it reads.
+abbrev pub EndsAsked : {F L K W E : Type 0} → Known F K W E → Room L → (left : L) → Races → (input : Option (List ℕ)) → Call → Around F K W E → ℕ → Type 0
+EndsAsked known room left races input (Run path from keep) around status =
+    EndsRun known room left (string_bytes path) (option_map string_bytes from) (option_map string_bytes keep) around status
+EndsAsked known room left races input (Inspect path segment_bytes index_interval) around status =
+    Reads known (string_bytes path) (PerformsReading known.streams (string_bytes path) (Inspects (limits_of segment_bytes index_interval))) around status
+EndsAsked known room left races input (Draw path from to) around status =
+    Reads known (string_bytes path) (PerformsReading known.streams (string_bytes path) (Draws (part_of from to))) around status
+EndsAsked known room left races input (Pipe None) around status =
     TouchesNone around × EndsPipe known.streams.held known.streams.told input around.out around.out_left around.err around.err_left status
-EndsAsked known races input (Pipe (Some keep)) around status = PipesInto known (string_bytes keep) input around status
-EndsAsked known races input (Race nodes plan) around status =
+EndsAsked known room left races input (Pipe (Some keep)) around status = PipesInto known (string_bytes keep) input around status
+EndsAsked known room left races input (Race nodes plan) around status =
     TouchesNone around × EndsRace known.streams.held known.streams.told (races nodes plan) around.out around.out_left around.err around.err_left status
 
 -- What the program leaves. Its words are read first.
-abbrev pub Ends : {F K W E : Type 0} → Known F K W E → Races → (input : Option (List ℕ)) → Asked → Around F K W E → ℕ → Type 0
-Ends known races input (Asks call) around status = EndsAsked known races input call around status
-Ends known races input (Mistakes kind) around status =
+abbrev pub Ends : {F L K W E : Type 0} → Known F K W E → Room L → (left : L) → Races → (input : Option (List ℕ)) → Asked → Around F K W E → ℕ → Type 0
+Ends known room left races input (Asks call) around status = EndsAsked known room left races input call around status
+Ends known room left races input (Mistakes kind) around status =
     TouchesNone around
     × ExplainsBy known.streams.held known.streams.told kind None around.out around.out_left around.err around.err_left status
-Ends known races input (Unread fault) around status =
+Ends known room left races input (Unread fault) around status =
     TouchesNone around × (around.out_left ≡ around.out) × Tells known.streams.told around.err around.err_left (words_complaint fault)
     × (status ≡ words_status fault)

@@ -10,7 +10,9 @@ pub enum Call {
     Run {
         /// The path of the script, as it was written.
         file: String,
-        /// The path of the folder that the nodes' logs are kept in, as it was written, if they are.
+        /// The path of the folder that another run has left, as it was written, if its nodes go on.
+        from: Option<String>,
+        /// The path of the folder that what the nodes leave is kept in, as it was written, if it is.
         keep: Option<String>,
     },
     /// Read the log at the path `file` and print its dump.
@@ -33,7 +35,7 @@ pub enum Call {
     },
     /// Play a script whose lines come one by one on standard input, and answer each at once.
     Pipe {
-        /// The path of the folder that the nodes' logs are kept in, as it was written, if they are.
+        /// The path of the folder that what the nodes leave is kept in, as it was written, if it is.
         keep: Option<String>,
     },
     /// Run a race of nodes, producers and elections, each in a thread of its own, and print what came of it.

@@ -1,10 +1,11 @@
-//! The file that a call reads, and the folder that its logs are kept in.
+//! The file that a call reads, the folder that another one has left, and the folder that it keeps in what it leaves.
 
 ghost use Rattle.std.specs.Prelude.{◌≡◌, [], List, ℕ, Result, IfSome, OnOk, OnErr, ⊤};
 ghost use Rattle.kp_types.specs.Folders.{Puts};
 ghost use Rattle.kp_cli.specs.declared.fault.Fault.{Fault as SomeFault};
 
 use crate::fault::Fault;
+use kp_folder::ReadFolder;
 use kp_types::Folder;
 use std::io::Read;
 
@@ -39,4 +40,14 @@ pub trait KeptFolder: Folder + Explained {
         ensures takes { takes self.old path.now result self.new }
         ensures ok { OnOk result (IfSome (Self.entries self.new) (λ all. all ≡ [])) }
         ensures err { OnErr result (Puts (Self.entries self.old) (Self.entries self.new) []) };
+}
+
+/// A folder that another run has left, which is read: none at first, until one is entered.
+pub trait LeftSource: ReadFolder + Explained {
+    // What entering the folder at a path may answer, and what it then is, where that is known.
+    ghost enters: { Self → List ℕ → Result (Unit {0}) SomeFault → Self → Type 0 } = { λ _ _ _ _. ⊤ };
+
+    /// Enters the folder at the path, to read what stands in it.
+    fn enter(&mut self, path: &str) -> Result<(), Fault>
+        ensures { enters self.old path.now result self.new };
 }

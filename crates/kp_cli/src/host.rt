@@ -3,9 +3,11 @@
 ghost use Rattle.std.specs.Prelude.{◌≡◌, IfErr};
 ghost use Rattle.kp_types.specs.Devices.{IsDeviceFault};
 
-use crate::devices::{Explained, KeptFolder, Source};
+use crate::devices::{Explained, KeptFolder, LeftSource, Source};
 use crate::fault::Fault;
+use kp_folder::ReadFolder;
 use kp_types::{Folder, Refusal};
+use std::alloc::Global;
 use std::fs::{self, File};
 use std::io::{self, ErrorKind, Read, Write};
 
@@ -33,6 +35,14 @@ pub struct HostFolder<'a> {
     path: String,
     claim: Option<Claim<'a>>,
     file: Option<File>,
+    fault: Fault,
+}
+
+/// A folder of the host that another run has left, once it is entered.
+#[derive(Drop)]
+pub struct HostLeft<'a> {
+    rt: &'a HostRuntime,
+    path: String,
     fault: Fault,
 }
 
@@ -219,6 +229,57 @@ impl Folder for HostFolder<'_> {
         match file.write_all(bytes) {
             Ok(()) => Ok(()),
             Err(error) => self.failed(&error),
+        }
+    }
+}
+
+impl<'a> HostLeft<'a> {
+    /// No folder yet: [`LeftSource::enter`] enters one, and is to be called first.
+    pub fn new(rt: &'a HostRuntime) -> HostLeft<'a> {
+        HostLeft {
+            rt,
+            path: String::new(rt.alloc()),
+            fault: Fault::Other,
+        }
+    }
+}
+
+impl Explained for HostLeft<'_> {
+    ghost fault_is = { λ left. left.fault };
+
+    fn fault(&self) -> Fault {
+        self.fault
+    }
+}
+
+impl LeftSource for HostLeft<'_> {
+    fn enter(&mut self, path: &str) -> Result<(), Fault> {
+        let Ok(copy) = String::from_str(self.rt.alloc(), path) else {
+            return Err(Fault::OutOfMemory);
+        };
+        match fs::read_dir(self.rt, path) {
+            Ok(_) => {
+                self.path = copy;
+                Ok(())
+            }
+            Err(error) if error.kind() == ErrorKind::NotADirectory => Err(Fault::IsNoFolder),
+            Err(error) => Err(Fault::of(&error)),
+        }
+    }
+}
+
+impl ReadFolder for HostLeft<'_> {
+    fn file(&mut self, alloc: Global, name: &str) -> Result<Option<Vec<u8>>, Refusal> {
+        let folder = self.path.as_str();
+        let path = format!(in alloc; "{folder}/{name}")?;
+        match fs::read(self.rt, path) {
+            Ok(bytes) => Ok(Some(bytes)),
+            Err(error) if error.kind() == ErrorKind::NotFound => Ok(None),
+            Err(error) => {
+                let fault = Fault::of(&error);
+                self.fault = fault;
+                Err(fault.refusal())
+            }
         }
     }
 }

@@ -7,7 +7,7 @@ ghost use Rattle.std.specs.Str.Parse.{IsNumeral, digits_value, without_leading_p
 ghost use Rattle.clap.specs.Words.{App, FailsBy, Rule, app_of, fault_of, first_of, found_of, new_app, one_of, rows_of, rule_of};
 ghost use Rattle.clap.specs.Words.{subcommand_of, subcommand_rows_of, with_rule, with_subcommand};
 ghost use Rattle.clap.specs.declared.builder.command.Command.TheViews.{out-Command};
-ghost use Rattle.kp_cli.specs.Line.{IsCallOf, IsRaceOf, NamesCall, NamesRace, file_rule, inspect_app, interval_rule, keep_rule, kpart, pipe_app};
+ghost use Rattle.kp_cli.specs.Line.{IsCallOf, IsRaceOf, NamesCall, NamesRace, file_rule, inspect_app, interval_rule, keep_rule, kpart, left_rule, pipe_app};
 ghost use Rattle.kp_cli.specs.Line.{draw_app, from_rule, to_rule};
 ghost use Rattle.kp_cli.specs.Line.{kpart_app, race_app, race_rule, racers_app, run_app, segment_rule};
 
@@ -95,6 +95,16 @@ fn to_argument<'a>(alloc: Global) -> Arg<'a>
         .help("the last line to draw")
 }
 
+fn left_argument<'a>(alloc: Global) -> Arg<'a>
+    ensures rule { rule_of result ≡ left_rule }
+    ensures local { result.global ≡ false }
+{
+    Arg::new(alloc, "from")
+        .long("from")
+        .value_name("FOLDER")
+        .help("the folder that another run has left, to go on with its nodes")
+}
+
 fn keep_argument<'a>(alloc: Global) -> Arg<'a>
     ensures rule { rule_of result ≡ keep_rule }
     ensures local { result.global ≡ false }
@@ -154,6 +164,7 @@ fn run_command<'a>(alloc: Global) -> Result<Command<'a>, AllocError>
 {
     let command = named_command(alloc, "run", "Runs a script and prints its trace");
     let command = with_argument(Ok(command), file_argument(alloc, "the script to run"));
+    let command = with_argument(command, left_argument(alloc));
     with_argument(command, keep_argument(alloc))
 }
 
@@ -283,11 +294,15 @@ fn file_value<'a>(found: &ArgMatches<'a>) -> &'a str
     }
 }
 
-fn keep_value(alloc: Global, found: &ArgMatches<'_>) -> Result<Option<String>, AllocError>
-    ensures { IfOk result (λ keep. first_of (codes "keep") (rows_of (found_of found.now))
-        ≡ option_map string_bytes keep) }
+fn path_value(
+    alloc: Global,
+    found: &ArgMatches<'_>,
+    name: &str,
+) -> Result<Option<String>, AllocError>
+    ensures { IfOk result (λ path. first_of name.now (rows_of (found_of found.now))
+        ≡ option_map string_bytes path) }
 {
-    match found.get_str("keep") {
+    match found.get_str(name) {
         Some(path) => {
             let path = String::from_str(alloc, path)?;
             Ok(Some(path))
@@ -335,13 +350,14 @@ fn call_in(alloc: Global, matches: &ArgMatches<'_>) -> Result<Call, AllocError>
         return Ok(race_in(found));
     }
     if name == "pipe" {
-        let keep = keep_value(alloc, found)?;
+        let keep = path_value(alloc, found, "keep")?;
         return Ok(Call::Pipe { keep });
     }
     let file = String::from_str(alloc, file_value(found))?;
     if name == "run" {
-        let keep = keep_value(alloc, found)?;
-        Ok(Call::Run { file, keep })
+        let from = path_value(alloc, found, "from")?;
+        let keep = path_value(alloc, found, "keep")?;
+        Ok(Call::Run { file, from, keep })
     } else if name == "inspect" {
         Ok(Call::Inspect {
             file,

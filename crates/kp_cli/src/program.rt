@@ -4,21 +4,20 @@ ghost use Rattle.std.specs.Prelude.{◌≡◌, ◌+◌, ◌<◌, ◌≤◌, ◌^
 ghost use Rattle.kp_types.specs.Devices.{faults_of};
 ghost use Rattle.kp_race.specs.declared.outcome.Plan.{Plan as SomePlan};
 ghost use Rattle.kp_cli.specs.declared.call.Call.TheVariants.{Race};
-ghost use Rattle.kp_cli.specs.Perform.{Draws, Inspects, RunsScript};
 ghost use Rattle.kp_cli.specs.Program.{Asked, Ends, EndsAsked, Explains, ExplainsBy, IsAsked, IsLeft, RunsInto, PipesInto, Reads};
 
 use crate::Call;
-use crate::devices::{KeptFolder, Source};
+use crate::devices::{KeptFolder, LeftSource, Source};
 use crate::fault::Fault;
+use crate::left::PlayLeft;
 use crate::line::call_of;
 use crate::piping::{pipe, pipe_and_keep};
 use crate::racing::race_and_tell;
-use crate::running::{draw, dump, limits, part, play, run_and_keep};
+use crate::running::{Draw, Dump, FileCall, KeptCall, Play};
 use crate::telling::{refuse, refuse_path, refuse_words, tame};
 use clap::error::ErrorKind;
-use kp_draw::Lines;
 use kp_race::{Outcome, Plan};
-use kp_types::{Counted, Limits, NodeId, Refusal};
+use kp_types::{Counted, NodeId, Refusal};
 use std::alloc::Global;
 use std::fmt::Display;
 use std::io::{Read, Write};
@@ -31,7 +30,7 @@ pub struct Left<F, K> {
     pub status: u8,
     /// The file that was read, if one was.
     pub file: Counted<F>,
-    /// The folder that logs were kept in, if they were.
+    /// The folder that what was left is kept in, if it is.
     pub folder: Counted<K>,
 }
 
@@ -82,15 +81,17 @@ pub fn explain<D: Display, W: Write, E: Write>(
     }
 }
 
-/// Does what the words ask for, of which the first is the program's name, with a file of which none is open and a folder of which none
-/// is taken, and with what runs a race of at most seven nodes. The exit status is that of [`perform`](crate::perform) where no logs are
-/// kept, and else that of [`run_and_keep`] or [`pipe_and_keep`]; 1 where the file can't be opened or the folder not be taken, with a
-/// second line on standard error that says which one and why, before anything is read; that of [`explain`] where the words are no
-/// call; 2 where one isn't UTF-8; and 1 where memory ran out before. A pipe reads standard input and leaves the file alone, and so
-/// does a race. Without a call that keeps logs, and before its file is open, the folder is left alone. Time and memory are those of
-/// the call.
+/// Does what the words ask for, of which the first is the program's name, with a file of which none is open, a folder of which none is
+/// entered, one of which none is taken, and with what runs a race of at most seven nodes. The exit status is that of
+/// [`perform`](crate::perform) where there is no folder, and else that of [`run_and_keep`](crate::run_and_keep) or [`pipe_and_keep`]; 1 where the
+/// file can't be opened or a folder not be taken or entered, with a second line on standard error that says which one and why, before
+/// anything is read, and where the folder that is entered has nothing that a run has left, with a second line that says where in it; that of
+/// [`explain`] where the words are no call; 2 where one isn't UTF-8; and 1 where memory ran out before. A pipe reads standard input and
+/// leaves the file alone, and so does a race. Without a call that keeps what is left, and before its file is open, the folder that is
+/// taken is left alone. Time and memory are those of the call, and of [`kp_folder::read_left`].
 pub fn main_with<
     F: Source + Drop,
+    L: LeftSource + Drop,
     K: KeptFolder + Drop,
     I: Read + Drop,
     W: Write,
@@ -100,6 +101,7 @@ pub fn main_with<
     alloc: Global,
     words: Result<Vec<String>, Fault>,
     file: F,
+    left: L,
     folder: K,
     input: I,
     races: X,
@@ -115,7 +117,7 @@ pub fn main_with<
           takes = K.takes;
           streams = record { remaining = F.remaining; file_fault = F.fault_is; held = W.contents; told = E.contents };
           shelf = record { entries = K.entries; folder_fault = K.fault_is };
-        }) (X.post races) (I.remaining input) asked (record {
+        }) (record { enters = L.enters; files = L.files; left_fault = L.fault_is }) left (X.post races) (I.remaining input) asked (record {
           file = file;
           file_left = result.file;
           folder = folder;
@@ -131,7 +133,7 @@ pub fn main_with<
         Err(fault) => return leave(refuse_words(err, fault), file, folder),
     };
     match call_of(alloc, words.as_slice()) {
-        Ok(call) => called(alloc, &call, file, folder, input, races, out, err),
+        Ok(call) => called(alloc, &call, file, left, folder, input, races, out, err),
         Err(error) => {
             let status = explain(alloc, error.kind(), &error, out, err);
             leave(status, file, folder)
@@ -142,6 +144,7 @@ pub fn main_with<
 /// Does what [`main_with`] does, with words that ask for this call.
 fn called<
     F: Source + Drop,
+    L: LeftSource + Drop,
     K: KeptFolder + Drop,
     I: Read + Drop,
     W: Write,
@@ -151,6 +154,7 @@ fn called<
     alloc: Global,
     call: &Call,
     file: F,
+    left: L,
     folder: K,
     input: I,
     races: X,
@@ -165,7 +169,7 @@ fn called<
       takes = K.takes;
       streams = record { remaining = F.remaining; file_fault = F.fault_is; held = W.contents; told = E.contents };
       shelf = record { entries = K.entries; folder_fault = K.fault_is };
-    }) (X.post races) (I.remaining input) call.now (record {
+    }) (record { enters = L.enters; files = L.files; left_fault = L.fault_is }) left (X.post races) (I.remaining input) call.now (record {
       file = file;
       file_left = result.file;
       folder = folder;
@@ -179,33 +183,66 @@ fn called<
     match call {
         Call::Run {
             file: path,
+            from: None,
             keep: None,
-        } => ran(alloc, path.as_str(), file, folder, out, err),
+        } => opened(alloc, path.as_str(), Play, file, folder, out, err),
         Call::Run {
             file: path,
+            from: None,
             keep: Some(keep),
-        } => ran_and_kept(alloc, path.as_str(), keep.as_str(), file, folder, out, err),
-        Call::Inspect {
-            file: path,
-            segment_bytes,
-            index_interval,
-        } => {
-            let limits = limits(*segment_bytes, *index_interval);
-            inspected(alloc, path.as_str(), &limits, file, folder, out, err)
-        }
-        Call::Draw {
-            file: path,
-            from,
-            to,
-        } => drawn(
+        } => opened_and_kept(
             alloc,
             path.as_str(),
-            part(*from, *to),
+            keep.as_str(),
+            Play,
             file,
             folder,
             out,
             err,
         ),
+        Call::Run {
+            file: path,
+            from: Some(from),
+            keep: None,
+        } => {
+            let from = from.as_str();
+            let call = PlayLeft { left, from };
+            opened(alloc, path.as_str(), call, file, folder, out, err)
+        }
+        Call::Run {
+            file: path,
+            from: Some(from),
+            keep: Some(keep),
+        } => {
+            let from = from.as_str();
+            let call = PlayLeft { left, from };
+            opened_and_kept(
+                alloc,
+                path.as_str(),
+                keep.as_str(),
+                call,
+                file,
+                folder,
+                out,
+                err,
+            )
+        }
+        Call::Inspect {
+            file: path,
+            segment_bytes,
+            index_interval,
+        } => {
+            let dump = Dump::new(*segment_bytes, *index_interval);
+            opened(alloc, path.as_str(), dump, file, folder, out, err)
+        }
+        Call::Draw {
+            file: path,
+            from,
+            to,
+        } => {
+            let draw = Draw::new(*from, *to);
+            opened(alloc, path.as_str(), draw, file, folder, out, err)
+        }
         Call::Pipe { keep: None } => leave(pipe(alloc, input, out, err), file, folder),
         Call::Pipe { keep: Some(keep) } => {
             piped_and_kept(alloc, keep.as_str(), input, file, folder, out, err)
@@ -216,10 +253,11 @@ fn called<
     }
 }
 
-/// Runs the script at this path.
-fn ran<F: Source + Drop, K: KeptFolder + Drop, W: Write, E: Write>(
+/// Does the call that reads the file at this path.
+fn opened<F: Source + Drop, K: KeptFolder + Drop, W: Write, E: Write, C: FileCall<F, W, E> + Drop>(
     alloc: Global,
-    script: &str,
+    path: &str,
+    call: C,
     file: F,
     folder: K,
     out: &mut Counted<W>,
@@ -232,7 +270,7 @@ fn ran<F: Source + Drop, K: KeptFolder + Drop, W: Write, E: Write>(
       takes = K.takes;
       streams = record { remaining = F.remaining; file_fault = F.fault_is; held = W.contents; told = E.contents };
       shelf = record { entries = K.entries; folder_fault = K.fault_is };
-    }) script.now RunsScript (record {
+    }) path.now (C.leaves call path.now) (record {
       file = file;
       file_left = result.file;
       folder = folder;
@@ -244,11 +282,11 @@ fn ran<F: Source + Drop, K: KeptFolder + Drop, W: Write, E: Write>(
     }) result.status }
 {
     let mut file = file;
-    if let Err(fault) = file.open(script) {
-        return leave(refuse_path(err, script, fault), file, folder);
+    if let Err(fault) = file.open(path) {
+        return leave(refuse_path(err, path, fault), file, folder);
     }
     let mut file = Counted::new(file);
-    let status = play(alloc, script, &mut file, out, err);
+    let status = call.read(alloc, path, &mut file, out, err);
     Left {
         status,
         file,
@@ -256,93 +294,18 @@ fn ran<F: Source + Drop, K: KeptFolder + Drop, W: Write, E: Write>(
     }
 }
 
-/// Inspects the log at this path, cut by these limits.
-fn inspected<F: Source + Drop, K: KeptFolder + Drop, W: Write, E: Write>(
-    alloc: Global,
-    log: &str,
-    limits: &Limits,
-    file: F,
-    folder: K,
-    out: &mut Counted<W>,
-    err: &mut Counted<E>,
-) -> Left<F, K>
-    requires writes { faults_of out.old + 1 < 2 ^ 64 }
-    requires complaints { faults_of err.old + 1 < 2 ^ 64 }
-    ensures { Reads (record {
-      opens = F.opens;
-      takes = K.takes;
-      streams = record { remaining = F.remaining; file_fault = F.fault_is; held = W.contents; told = E.contents };
-      shelf = record { entries = K.entries; folder_fault = K.fault_is };
-    }) log.now (Inspects limits.now) (record {
-      file = file;
-      file_left = result.file;
-      folder = folder;
-      folder_left = result.folder;
-      out = out.old;
-      out_left = out.new;
-      err = err.old;
-      err_left = err.new;
-    }) result.status }
-{
-    let mut file = file;
-    if let Err(fault) = file.open(log) {
-        return leave(refuse_path(err, log, fault), file, folder);
-    }
-    let mut file = Counted::new(file);
-    let status = dump(alloc, log, limits, &mut file, out, err);
-    Left {
-        status,
-        file,
-        folder: Counted::new(folder),
-    }
-}
-
-/// Draws these lines of the script at this path.
-fn drawn<F: Source + Drop, K: KeptFolder + Drop, W: Write, E: Write>(
-    alloc: Global,
-    script: &str,
-    lines: Lines,
-    file: F,
-    folder: K,
-    out: &mut Counted<W>,
-    err: &mut Counted<E>,
-) -> Left<F, K>
-    requires writes { faults_of out.old + 1 < 2 ^ 64 }
-    requires complaints { faults_of err.old + 1 < 2 ^ 64 }
-    ensures { Reads (record {
-      opens = F.opens;
-      takes = K.takes;
-      streams = record { remaining = F.remaining; file_fault = F.fault_is; held = W.contents; told = E.contents };
-      shelf = record { entries = K.entries; folder_fault = K.fault_is };
-    }) script.now (Draws lines) (record {
-      file = file;
-      file_left = result.file;
-      folder = folder;
-      folder_left = result.folder;
-      out = out.old;
-      out_left = out.new;
-      err = err.old;
-      err_left = err.new;
-    }) result.status }
-{
-    let mut file = file;
-    if let Err(fault) = file.open(script) {
-        return leave(refuse_path(err, script, fault), file, folder);
-    }
-    let mut file = Counted::new(file);
-    let status = draw(alloc, script, lines, &mut file, out, err);
-    Left {
-        status,
-        file,
-        folder: Counted::new(folder),
-    }
-}
-
-/// Runs the script at this path, and keeps the logs of its nodes in the folder at that one.
-fn ran_and_kept<F: Source + Drop, K: KeptFolder + Drop, W: Write, E: Write>(
+/// Does the call that runs the script at this path, and keeps what it leaves in the folder at that one.
+fn opened_and_kept<
+    F: Source + Drop,
+    K: KeptFolder + Drop,
+    W: Write,
+    E: Write,
+    C: KeptCall<F, K, W, E> + Drop,
+>(
     alloc: Global,
     script: &str,
     keep: &str,
+    call: C,
     file: F,
     folder: K,
     out: &mut Counted<W>,
@@ -355,7 +318,7 @@ fn ran_and_kept<F: Source + Drop, K: KeptFolder + Drop, W: Write, E: Write>(
       takes = K.takes;
       streams = record { remaining = F.remaining; file_fault = F.fault_is; held = W.contents; told = E.contents };
       shelf = record { entries = K.entries; folder_fault = K.fault_is };
-    }) script.now keep.now (record {
+    }) script.now keep.now (C.keeps call script.now keep.now) (record {
       file = file;
       file_left = result.file;
       folder = folder;
@@ -376,7 +339,7 @@ fn ran_and_kept<F: Source + Drop, K: KeptFolder + Drop, W: Write, E: Write>(
     }
     let mut file = Counted::new(file);
     let mut folder = Counted::new(folder);
-    let status = run_and_keep(alloc, script, keep, &mut file, &mut folder, out, err);
+    let status = call.keep(alloc, script, keep, &mut file, &mut folder, out, err);
     Left {
         status,
         file,
@@ -384,7 +347,7 @@ fn ran_and_kept<F: Source + Drop, K: KeptFolder + Drop, W: Write, E: Write>(
     }
 }
 
-/// Plays the lines of standard input, and keeps the logs in the folder at this path.
+/// Plays the lines of standard input, and keeps what they leave in the folder at this path.
 fn piped_and_kept<F: Source + Drop, K: KeptFolder + Drop, I: Read + Drop, W: Write, E: Write>(
     alloc: Global,
     keep: &str,

@@ -10,9 +10,6 @@ use Rattle.kp_draw.specs.Rows.{Adds, Spells, Stands}
 use Rattle.kp_draw.specs.declared.lines.Lines.{Lines}
 use Rattle.kp_draw.proofs.Titling.{stands_more, stands_none}
 
-line_of : ℕ × Call → ℕ × List ℕ
-line_of call = (call.0, call_text call.1)
-
 first_of_lines : List (ℕ × List ℕ) → ℕ × List ℕ
 first_of_lines [] = (0, [])
 first_of_lines (x ∷ xs) = x

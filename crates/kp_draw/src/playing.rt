@@ -12,7 +12,7 @@ use crate::lines::Lines;
 use crate::looking::look;
 use crate::rows::{Change, Kept, Kind, Life, Message, Row, Seen};
 use kp_batch::Speller;
-use kp_replica::PlainAct;
+use kp_replica::{PlainAct, Status};
 use kp_script::{
     Call, CountedLine, Header, Line, Work, call_of, limits_of, next_counted, play_line,
 };
@@ -115,30 +115,40 @@ fn change_of(
     }
 }
 
-/// Notes that a node stopped, or came up again, at this place.
+/// Whether the node is up.
+fn is_up(node: NodeId, world: &World) -> bool {
+    match world.nodes().get(usize::from(node)) {
+        Some(broker) => match broker.status() {
+            Status::Down => false,
+            _ => true,
+        },
+        None => false,
+    }
+}
+
+/// Notes that the node of this lane went down, or came up again, at this place, where it did.
 fn note_life(
     nodes: &mut Vec<Seen>,
     lives: &mut Vec<Life>,
     place: usize,
-    node: Option<NodeId>,
-    kind: Kind,
+    lane: u8,
+    up: bool,
 ) -> Result<(), AllocError> {
-    let at = usize::from(lane_of(node));
+    let at = usize::from(lane);
     if at == 0 || at > nodes.len() {
         return Ok(());
     }
     let seen = &mut nodes[at - 1];
-    match kind {
-        Kind::Stop => {
-            let from = seen.since.unwrap_or(place);
+    match seen.since {
+        Some(from) if !up => {
             seen.since = None;
             lives.push(Life {
-                lane: lane_of(node),
+                lane,
                 from,
                 to: place,
             })?;
         }
-        Kind::Restart => seen.since = Some(place),
+        None if up => seen.since = Some(place),
         _ => {}
     }
     Ok(())
@@ -207,8 +217,9 @@ fn play_row(
     let place = kept.rows.len();
     let drawn = part.holds(next.number);
     let change = change_of(alloc, &mut kept.nodes, count, node, world)?;
-    if !told.refused {
-        note_life(&mut kept.nodes, &mut kept.lives, place, node, kind)?;
+    if let Some(node) = node {
+        let up = is_up(node, world);
+        note_life(&mut kept.nodes, &mut kept.lives, place, lane, up)?;
     }
     note_coming(&mut kept.messages, came, drawn);
     let sent = note_sending(&mut kept.messages, world, lane, place, drawn)?;

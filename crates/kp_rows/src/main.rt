@@ -8,14 +8,16 @@ ghost use Rattle.kp_race.specs.declared.outcome.Plan.{Plan as SomePlan};
 ghost use Rattle.kp_cli.specs.declared.fault.Fault.TheVariants.{DiskFull, IsAFolder};
 
 use kp_cli::{
-    Call, Explained, Fault, KeptFolder, Source, call_of, main_with, perform, run_and_keep,
+    Call, Explained, Fault, KeptFolder, LeftSource, Source, call_of, main_with, perform,
+    run_and_keep,
 };
 use kp_crc::crc32c;
+use kp_folder::ReadFolder;
 use kp_race::{Outcome, Plan, race_over_channels};
 use kp_types::{Counted, Faulty, FaultyFolder, Folder, NodeId, Refusal};
 use std::alloc::Global;
 use std::fs;
-use std::io::{self, Read, Write};
+use std::io::{self, ErrorKind, Read, Write};
 
 /// The calls of the devices at which reading, writing and putting into a folder fail, the first being number 0; `u64::MAX` is
 /// never.
@@ -84,6 +86,57 @@ impl Source for GivenFile<'_> {
 impl Read for GivenFile<'_> {
     fn read(&mut self, buf: &mut [u8]) -> io::Result<usize> {
         self.file.read(buf)
+    }
+}
+
+/// A folder of the host, once it is entered.
+#[derive(Drop)]
+struct GivenLeft<'a> {
+    rt: &'a HostRuntime,
+    path: String,
+}
+
+impl<'a> GivenLeft<'a> {
+    /// One that isn't entered.
+    fn new(rt: &'a HostRuntime) -> GivenLeft<'a> {
+        GivenLeft {
+            rt,
+            path: String::new(rt.alloc()),
+        }
+    }
+}
+
+impl Explained for GivenLeft<'_> {
+    ghost fault_is = { λ _. IsAFolder };
+
+    fn fault(&self) -> Fault {
+        Fault::IsAFolder
+    }
+}
+
+impl LeftSource for GivenLeft<'_> {
+    fn enter(&mut self, path: &str) -> Result<(), Fault> {
+        if path == "nowhere" {
+            return Err(Fault::NoSuchFile);
+        }
+        match String::from_str(self.rt.alloc(), path) {
+            Ok(path) => {
+                self.path = path;
+                Ok(())
+            }
+            Err(_) => Err(Fault::OutOfMemory),
+        }
+    }
+}
+
+impl ReadFolder for GivenLeft<'_> {
+    fn file(&mut self, alloc: Global, name: &str) -> Result<Option<Vec<u8>>, Refusal> {
+        let path = format!(in alloc; "{}/{name}", self.path)?;
+        match fs::read(self.rt, path) {
+            Ok(bytes) => Ok(Some(bytes)),
+            Err(error) if error.kind() == ErrorKind::NotFound => Ok(None),
+            Err(_) => Err(Refusal::Device),
+        }
     }
 }
 
@@ -222,6 +275,7 @@ fn perform_words<X: Fn(NodeId, Plan) -> Result<Outcome, Refusal>>(
         rt.alloc(),
         Ok(handed),
         GivenFile::of(rt, Vec::new(rt.alloc()), failing.read),
+        GivenLeft::new(rt),
         GivenFolder::new(rt.alloc(), failing.put),
         Faulty::new(input, failing.read),
         once,
@@ -265,6 +319,7 @@ fn no_race(_nodes: NodeId, _plan: Plan) -> Result<Outcome, Refusal> {
 fn run_call(rt: &HostRuntime) -> io::Result<Call> {
     Ok(Call::Run {
         file: "script".to_string(rt.alloc())?,
+        from: None,
         keep: None,
     })
 }

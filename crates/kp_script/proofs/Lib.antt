@@ -23,5 +23,6 @@ pub mod Played
 pub mod Answering
 pub mod Limited
 pub mod LeftCalls
+pub mod Leftover
 pub mod Counting
 pub mod Keeping

@@ -10,6 +10,7 @@ pub mod Told
 pub mod Transcript
 pub mod Ended
 pub mod Kept
+pub mod Left
 pub mod Playing
 pub mod Reads
 pub mod Parsed

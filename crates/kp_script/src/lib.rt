@@ -8,6 +8,7 @@ mod call;
 mod digits;
 mod ended;
 mod fields;
+mod left;
 mod lines;
 mod pipe;
 mod reader;
@@ -20,6 +21,7 @@ mod words;
 
 pub use call::{Call, GREATEST_TIME, Header, Sender, call_of, lines_say_one_call};
 pub use ended::Ended;
+pub use left::{CutRun, play_left};
 pub use lines::{CountedLine, LONGEST_LINE, next_counted};
 pub use pipe::{CutPipe, Piped, play_pipe};
 pub use reader::LineReader;

@@ -358,7 +358,7 @@ fn left_behind(sections: &mut VecDeque<Section>, lines: usize) -> usize
 
 /// The script that the reader has left, all of it, and what spells its batches: into the memory first that its text was read into.
 /// F31 with the first line at fault; F33; F32 where the device failed. Takes time and memory proportional to the script.
-fn read_script<R: Read>(
+pub(crate) fn read_script<R: Read>(
     alloc: Global,
     reader: &mut Counted<R>,
 ) -> Result<(Script, Speller), Refusal>
@@ -375,7 +375,7 @@ fn read_script<R: Read>(
 }
 
 /// Plays the script on these nodes, and writes its trace. It does what [`play_script`] does of a script that was read.
-fn play_on<W: Write>(
+pub(crate) fn play_on<W: Write>(
     alloc: Global,
     script: Script,
     speller: Speller,

@@ -1,4 +1,4 @@
--- What was left goes on: each node is restarted and stopped.
+-- What was left goes on: each node is stopped if it is up, restarted and stopped.
 use Rattle.std.proofs.Common.{◌≡◌, ◌≢◌, ℕ, zero, suc, ◌+◌, ◌-◌, ◌^◌, ◌<◌, ◌≤◌, leb, Bool, false, List, [], ◌∷◌, ◌++◌, length, map, None, Result, Ok, refl, sym, ap, ◌∙◌, subst, inl, inr, arith, append_assoc, append-nil}
 use Rattle.std.proofs.lemmas.Bool.{lt-leb}
 use Rattle.std.proofs.lemmas.List.{drop_all, length-map, map-append}
@@ -9,9 +9,9 @@ use Rattle.kp_types.specs.declared.limits.Limits.{Limits}
 use Rattle.kp_types.specs.declared.refusal.Refusal.{Refusal}
 use Rattle.kp_types.proofs.Elements.{all_append}
 use Rattle.kp_model.specs.Log.{end_of}
-use Rattle.kp_model.specs.World.{LeaderAndIsr, Mode, Node, Down, Idle, World}
+use Rattle.kp_model.specs.World.{LeaderAndIsr, Mode, Node, Down, Idle, Leads, Follows, World}
 use Rattle.kp_model.specs.Event.{Event, Acts, Restart, Restarted, Stop, Stopped}
-use Rattle.kp_model.specs.Effect.{Effect, becomes}
+use Rattle.kp_model.specs.Effect.{Effect, becomes, is_down}
 use Rattle.kp_model.specs.Left.{IsLeft, LeftBehind, LeftNode, again, left_node}
 use Rattle.kp_model.specs.Letter.{letter_of}
 use Rattle.kp_model.specs.Local.{Local, cause}
@@ -24,7 +24,7 @@ use Rattle.kp_model.proofs.Marks.Raised.{node_moved}
 use Rattle.kp_model.proofs.OneStep.Steps.{happened}
 use Rattle.kp_replica.specs.NumberedNode.{NumberedNode}
 use Rattle.kp_replica.specs.declared.act.Answer.TheVariants as answers
-use Rattle.kp_world.specs.Left.{IsPause, LeftStagesGoOn}
+use Rattle.kp_world.specs.Left.{IsKept, IsPause, LeftStagesGoOn}
 use Rattle.kp_world.specs.declared.event.EventAnswer.{EventAnswer}
 use Rattle.kp_world.specs.declared.event.EventAnswer.TheVariants.{Answered}
 use Rattle.kp_world.proofs.Moved.{shown_count}
@@ -134,10 +134,62 @@ module _ {n : ℕ} where
         },
       )
 
+  -- More events have led from the run r to the run q, in which node k is down with just what is kept of it.
+  record Stopping (es : List Event) (os : List (Result EventAnswer Refusal)) (r q : Run n) (k : ℕ) (a : LeftNode) : Type 0 where
+    pub more : List Happened
+    pub only : ArePauses more
+    pub gone : Gone n (es ++ events_in more) (os ++ answers_in more) q
+    pub controller : (last q).controller ≡ (last r).controller
+    pub messages : (last q).messages ≡ (last r).messages
+    pub here : IsLeft a ((last q).nodes k)
+    pub others : (j : ℕ) → j ≢ k → (last q).nodes j ≡ (last r).nodes j
+
+  was_down : (es : List Event) (os : List (Result EventAnswer Refusal)) (r : Run n) (k : ℕ) (a : LeftNode) → Gone n es os r → IsKept a ((last r).nodes k) → ((last r).nodes k).mode ≡ Down
+      → (q : Run n) × Stopping es os r q k a
+  was_down es os r k a g kept down = (
+    r,
+    record {
+      more = [];
+      only = tt;
+      gone = subst (λ (xs : List Event). Gone n xs (os ++ []) r) (sym (append-nil es)) (subst (λ (xs : List (Result EventAnswer Refusal)). Gone n es xs r) (sym (append-nil os)) g);
+      controller = refl;
+      messages = refl;
+      here = record { log = kept.log; checkpoint = kept.checkpoint; life = kept.life; kept = kept.kept; down = down };
+      others = λ j ne. refl;
+    },
+  )
+
+  stop_up : (es : List Event) (os : List (Result EventAnswer Refusal)) (r : Run n) (k : ℕ) (a : LeftNode) → Gone n es os r → k < n → IsKept a ((last r).nodes k)
+      → is_down ((last r).nodes k).mode ≡ false → (q : Run n) × Stopping es os r q k a
+  stop_up es os r k a g inside kept up =
+      let y : Node = (last r).nodes k in
+      let e : Effect = becomes (record y { mode = Down }) Stopped in
+      let local : Local (last r).controller k y Stop e = happened (last r).controller k y Stop e (rw up refl) refl in
+      let q : Run n = acted r k Stop e inside tt local in (
+        q,
+        record {
+          more = (Acts k Stop, stop_answer) ∷ [];
+          only = ((k, inr refl), tt);
+          gone = gone_more n es os r (Acts k Stop) stop_answer (moved (last r) k e) q.is_run.0 g tt (λ never. absurd never);
+          controller = refl;
+          messages = append-nil (last r).messages;
+          here = subst (IsLeft a) (sym (node_moved (last r) k e)) (record { log = kept.log; checkpoint = kept.checkpoint; life = kept.life; kept = kept.kept; down = refl });
+          others = λ j ne. moved_other (last r) k j e ne;
+        },
+      )
+
+  -- node k is stopped, if it is up
+  stop_one : (es : List Event) (os : List (Result EventAnswer Refusal)) (r : Run n) (k : ℕ) (a : LeftNode) → Gone n es os r → k < n → IsKept a ((last r).nodes k)
+      → (mode : Mode) → ((last r).nodes k).mode ≡ mode → (q : Run n) × Stopping es os r q k a
+  stop_one es os r k a g inside kept Down is = was_down es os r k a g kept is
+  stop_one es os r k a g inside kept Idle is = stop_up es os r k a g inside kept (ap is_down is)
+  stop_one es os r k a g inside kept (Leads l) is = stop_up es os r k a g inside kept (ap is_down is)
+  stop_one es os r k a g inside kept (Follows f) is = stop_up es os r k a g inside kept (ap is_down is)
+
 -- ---- all nodes
 
 module _ {n : ℕ} (es : List Event) (os : List (Result EventAnswer Refusal)) (x : LeftBehind) (r : Run n) (g : Gone n es os r) (counted : length x.nodes ≡ n)
-    (were : (k : ℕ) → k < length x.nodes → IsLeft (left_node x k) ((last r).nodes k)) (low : (k : ℕ) → k < length x.nodes → (left_node x k).life + 1 < 2 ^ 64) where
+    (were : (k : ℕ) → k < length x.nodes → IsKept (left_node x k) ((last r).nodes k)) (low : (k : ℕ) → k < length x.nodes → (left_node x k).life + 1 < 2 ^ 64) where
   -- the nodes below m have gone on
   record SomeOn (q : Run n) (m : ℕ) : Type 0 where
     pub more : List Happened
@@ -146,7 +198,7 @@ module _ {n : ℕ} (es : List Event) (os : List (Result EventAnswer Refusal)) (x
     pub controller : (last q).controller ≡ (last r).controller
     pub messages : (last q).messages ≡ (last r).messages
     pub done : (k : ℕ) → k < m → k < length x.nodes → (last q).nodes k ≡ again (left_node x k)
-    pub left : (k : ℕ) → m ≤ k → k < length x.nodes → IsLeft (left_node x k) ((last q).nodes k)
+    pub left : (k : ℕ) → m ≤ k → k < length x.nodes → IsKept (left_node x k) ((last q).nodes k)
 
   go : (m : ℕ) → m ≤ length x.nodes → (q : Run n) × SomeOn q m
   go zero h = (
@@ -165,24 +217,33 @@ module _ {n : ℕ} (es : List Event) (os : List (Result EventAnswer Refusal)) (x
       let before = go m (omega arith) in
       let q : Run n = before.0 in
       let s = before.1 in
-      let here = s.left m (omega arith) (omega arith) in
-      let life = here.life in
       let bound = low m (omega arith) in
-      let y : Node = (last q).nodes m in
+      let es1 : List Event = es ++ events_in s.more in
+      let os1 : List (Result EventAnswer Refusal) = os ++ answers_in s.more in
+      let stopped = stop_one es1 os1 q m (left_node x m) s.gone (omega (arith, counted)) (s.left m (omega arith) (omega arith)) ((last q).nodes m).mode refl in
+      let p : Run n = stopped.0 in
+      let t = stopped.1 in
+      let here = t.here in
+      let life = here.life in
+      let y : Node = (last p).nodes m in
       let far : y.life + ((left_node x m).life - y.life) + 1 ≡ (left_node x m).life + 1 = omega arith in
-      let next = goes_far ((left_node x m).life - y.life) (es ++ events_in s.more) (os ++ answers_in s.more) q m s.gone (omega (arith, counted)) here.down (omega arith) in
-      let f = next.1 in (
+      let gone : Gone n (es ++ events_in (s.more ++ t.more)) (os ++ answers_in (s.more ++ t.more)) p = both es os s.more t.more p t.gone in
+      let next =
+      goes_far ((left_node x m).life - y.life) (es ++ events_in (s.more ++ t.more)) (os ++ answers_in (s.more ++ t.more)) p m gone (omega (arith, counted)) here.down (omega arith) in
+      let f = next.1 in
+      let same : (k : ℕ) → k ≢ m → (last next.0).nodes k ≡ (last q).nodes k = λ k ne. f.others k ne ∙ t.others k ne in (
         next.0,
         record {
-          more = s.more ++ f.more;
-          only = all_append (λ (happened : Happened). IsPause happened.0) s.more f.more s.only f.only;
-          gone = both es os s.more f.more next.0 f.gone;
-          controller = f.controller ∙ s.controller;
-          messages = f.messages ∙ s.messages;
+          more = (s.more ++ t.more) ++ f.more;
+          only = all_append (λ (happened : Happened). IsPause happened.0) (s.more ++ t.more) f.more
+              (all_append (λ (happened : Happened). IsPause happened.0) s.more t.more s.only t.only) f.only;
+          gone = both es os (s.more ++ t.more) f.more next.0 f.gone;
+          controller = f.controller ∙ t.controller ∙ s.controller;
+          messages = f.messages ∙ t.messages ∙ s.messages;
           done = λ k l i. dite (ℕ_discrete k m)
               (λ e. subst (λ (z : ℕ). (last next.0).nodes z ≡ again (left_node x z)) (sym e) (f.here ∙ again_is (left_node x m) y here (y.life + ((left_node x m).life - y.life) + 1) far))
-              (λ ne. f.others k ne ∙ s.done k (omega arith) i);
-          left = λ k a l. subst (IsLeft (left_node x k)) (sym (f.others k (λ e. omega arith))) (s.left k (omega arith) l);
+              (λ ne. same k ne ∙ s.done k (omega arith) i);
+          left = λ k a l. subst (IsKept (left_node x k)) (sym (same k (λ e. omega arith))) (s.left k (omega arith) l);
         },
       )
 
@@ -197,10 +258,10 @@ left_stages_go_on count old_limits limits es os old new x sent p was low begins 
     let stays : w.count ≡ count = count_stays count p.run w (last_is_of count p.run) in
     let counted : length x.nodes ≡ count = sym was.count ∙ sym p.shown.count ∙ stays in
     let d = some_node old_limits in
-    let were : (k : ℕ) → k < length x.nodes → IsLeft (left_node x k) (w.nodes k) =
+    let were : (k : ℕ) → k < length x.nodes → IsKept (left_node x k) (w.nodes k) =
     λ k l.
     let inside : k < length old.nodes = omega (arith, l, was.count) in
-    subst (IsLeft (left_node x k)) (sym (p.shown.nodes_are k d inside).state) (was.nodes k d l) in
+    subst (IsKept (left_node x k)) (sym (p.shown.nodes_are k d inside).state) (was.nodes k d l) in
     let all = go es os x p.run g counted were low (length x.nodes) (omega arith) in
     let q : Run count = all.0 in
     let s = all.1 in

@@ -1,11 +1,11 @@
-//! The program `kpart`: hands its words, a file and a folder of the host and its three standard streams to `kp_cli`, and exits with the
+//! The program `kpart`: hands its words, a file and two folders of the host and its three standard streams to `kp_cli`, and exits with the
 //! status that this answers. It stands on `kp_cli` alone, whose `main_with` has the contract of all that happens here.
 //! Its own contract is none: what it hands over is the host's, and a check of the built program shows that.
 #![tactic(auto)]
 
 ghost use Rattle.std.specs.Prelude.{◌≤◌};
 
-use kp_cli::{Fault, HostFile, HostFolder, main_with};
+use kp_cli::{Fault, HostFile, HostFolder, HostLeft, main_with};
 use kp_race::{Outcome, Plan, race_over_channels};
 use kp_types::{Counted, NodeId, Refusal};
 use std::env;
@@ -36,6 +36,7 @@ fn main(rt: HostRuntime) -> ExitCode {
     let mut out = Counted::new(rt.stdout());
     let mut err = Counted::new(rt.stderr());
     let file = HostFile::new(&rt);
+    let left = HostLeft::new(&rt);
     let folder = HostFolder::new(&rt);
     let races = |nodes: NodeId, plan: Plan| -> Result<Outcome, Refusal>
         requires { nodes ≤ 7 }
@@ -44,6 +45,7 @@ fn main(rt: HostRuntime) -> ExitCode {
         rt.alloc(),
         words(&rt),
         file,
+        left,
         folder,
         rt.stdin(),
         races,
