@@ -5,11 +5,11 @@ from confluent_kafka import Consumer, TopicPartition
 from host import LONG, QUICK
 
 
-def read(servers, topic, isolation, **more):
-    """The values that a consumer is shown of partition 0, from its begin to its end."""
+def read(servers, topic, isolation, partition=0, **more):
+    """The values that a consumer is shown of a partition, from its begin to its end."""
     consumer = Consumer({"bootstrap.servers": servers, "group.id": isolation, "enable.partition.eof": True, "isolation.level": isolation,
                          **QUICK, **more})
-    consumer.assign([TopicPartition(topic, 0, 0)])
+    consumer.assign([TopicPartition(topic, partition, 0)])
     found, end = [], time.time() + LONG
     while time.time() < end:
         message = consumer.poll(1.0)

@@ -2,10 +2,10 @@
 
 use crate::cluster::{self, Undone};
 use crate::connection;
+use crate::data::{self, DataFault};
 use crate::hub::Hub;
 use crate::news::News;
 use crate::options::{BadOption, Options};
-use crate::partition::Partition;
 use crate::reply::Passes;
 use crate::{admin, coordinator, requests};
 use kpart::Link;
@@ -17,6 +17,8 @@ use std::time::{Duration, Instant};
 
 /// How often transactions are looked at.
 const EXPIRE: Duration = Duration::from_millis(50);
+/// For so long connections' threads are waited for that hold a folder.
+const LETTING_GO: Duration = Duration::from_secs(5);
 
 /// Why a broker didn't start, or didn't do what was asked of it.
 #[derive(Debug)]
@@ -25,6 +27,8 @@ pub enum Fault {
     Options(BadOption),
     /// The library refuses.
     Library(kpart::Error),
+    /// The folder isn't opened.
+    Data(DataFault),
     /// The system refuses a socket or a thread.
     System(std::io::Error),
     /// There is no such node, partition, link or request.
@@ -36,6 +40,7 @@ impl fmt::Display for Fault {
         match self {
             Fault::Options(it) => it.fmt(out),
             Fault::Library(it) => it.fmt(out),
+            Fault::Data(it) => it.fmt(out),
             Fault::System(it) => it.fmt(out),
             Fault::NoSuch => out.write_str("there is no such node, partition, link or request"),
         }
@@ -53,6 +58,15 @@ impl From<BadOption> for Fault {
 impl From<kpart::Error> for Fault {
     fn from(it: kpart::Error) -> Fault {
         Fault::Library(it)
+    }
+}
+
+impl From<DataFault> for Fault {
+    fn from(it: DataFault) -> Fault {
+        match it {
+            DataFault::Library(it) => Fault::Library(it),
+            it => Fault::Data(it),
+        }
     }
 }
 
@@ -80,7 +94,7 @@ pub struct Broker {
 }
 
 impl Broker {
-    /// Opens the partitions, elects their leaders, and listens.
+    /// Opens the partitions, elects their leaders, and listens. In a folder it goes on from what was left there.
     ///
     /// # Errors
     /// What is wrong with the options, or what the system or the library refuses.
@@ -89,13 +103,8 @@ impl Broker {
         let listeners = bind_all(&options)?;
         let ports = listeners.iter().map(|it| it.local_addr().map(|it| it.port())).collect::<Result<Vec<u16>, _>>()?;
         let news = Arc::new(News::default());
-        let mut partitions = Vec::new();
-        for topic in &options.topics {
-            for index in 0..topic.partitions {
-                partitions.push(Partition::open(&topic.name, i32::try_from(index).unwrap_or(i32::MAX), &options, &news)?);
-            }
-        }
-        let hub = Arc::new(Hub::new(options, partitions, news, &ports));
+        let opened = data::open(&options, &news)?;
+        let hub = Arc::new(Hub::new(options, opened, news, &ports));
         let mut broker = Broker { hub, admin: None, threads: Vec::new() };
         broker.serve(listeners)?;
         Ok(broker)
@@ -104,6 +113,9 @@ impl Broker {
     fn serve(&mut self, listeners: Vec<TcpListener>) -> Result<(), Fault> {
         let hub = &self.hub;
         hub.partitions.iter().for_each(|it| cluster::mend(hub, it));
+        if hub.options.data.is_some() {
+            data::catch_up(hub);
+        }
         for (node, listener) in (0..).zip(listeners) {
             connection::accept(hub, node, listener)?;
         }
@@ -257,6 +269,14 @@ impl Broker {
         admin::answer(&self.hub, line)
     }
 
+    /// Waits for the connections' threads, so that the folder is free once this is dropped.
+    fn let_go(&self) {
+        let until = Instant::now() + LETTING_GO;
+        while Arc::strong_count(&self.hub) > 1 && Instant::now() < until {
+            std::thread::sleep(Duration::from_millis(1));
+        }
+    }
+
     /// Waits until an admin's line says `quit`.
     pub fn wait(&self) {
         while !self.hub.is_closing() {
@@ -275,6 +295,9 @@ impl Drop for Broker {
         }
         for thread in self.threads.drain(..) {
             let _ended = thread.join();
+        }
+        if self.hub.options.data.is_some() {
+            self.let_go();
         }
     }
 }

@@ -1,6 +1,7 @@
 //! The controller: who leads, who is in sync, and what a tester does to nodes and links.
 
 use crate::connection;
+use crate::data;
 use crate::hub::Hub;
 use crate::lock;
 use crate::partition::{Control, Partition, led_epoch};
@@ -91,6 +92,7 @@ fn settle_in_sync(hub: &Hub, partition: &Partition, control: &mut Control, recor
 pub fn tick(hub: &Arc<Hub>) {
     while !hub.is_closing() {
         std::thread::sleep(TICK);
+        data::stop_failed(hub);
         hub.partitions.iter().for_each(|it| mend(hub, it));
         hub.groups.expire();
     }

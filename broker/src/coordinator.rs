@@ -1,9 +1,11 @@
-//! The transaction coordinator's state, in memory: ids, epochs, and markers that are handed in until they are committed.
+//! The transaction coordinator's state: ids, epochs, and markers that are handed in until they are committed.
 //!
 //! One thread at a time ends a transaction: a second marker that came late could end the producer's next one.
 
 use crate::codes::code;
 use crate::hub::Hub;
+use crate::keep::Keep;
+use crate::kept::{KeptTransaction, Left, Standing};
 use crate::lock;
 use crate::members::CommittedOffset;
 use crate::partition::Waited;
@@ -11,8 +13,7 @@ use crate::reply::Passes;
 use kpart::{Error, Marker, Refusal};
 use kwire::ErrorCode;
 use std::collections::{BTreeSet, HashMap};
-use std::sync::Mutex;
-use std::sync::atomic::Ordering::SeqCst;
+use std::sync::{Arc, Mutex};
 use std::time::{Duration, Instant, SystemTime, UNIX_EPOCH};
 
 /// Kafka's `transaction.max.timeout.ms`.
@@ -34,10 +35,11 @@ const LAST_EPOCH: i16 = i16::MAX - 1;
 pub struct Transactions {
     most: usize,
     all: Mutex<HashMap<String, Transaction>>,
+    keep: Arc<Keep>,
 }
 
 /// Offsets of a group that are kept once their transaction commits.
-#[derive(Clone, Debug)]
+#[derive(Clone, Debug, PartialEq, Eq)]
 pub struct PendingOffset {
     /// The group.
     pub group: String,
@@ -67,8 +69,12 @@ struct Transaction {
     timeout: Duration,
     state: State,
     since: Instant,
+    /// The same as a clock says it: milliseconds since 1970.
+    began: u64,
     partitions: BTreeSet<usize>,
     offsets: Vec<PendingOffset>,
+    /// By which this is settled.
+    ticket: u64,
 }
 
 /// A producer's id and epoch.
@@ -79,19 +85,74 @@ struct Ending {
     producer: Producer,
     commits: bool,
     partitions: Vec<usize>,
+    /// By which its beginning is settled.
+    ticket: u64,
 }
 
 impl Transaction {
+    /// One that nobody has begun.
+    fn new(producer_id: i64, timeout: Duration) -> Transaction {
+        let (state, since, began, ticket) = (State::Empty, Instant::now(), 0, 0);
+        Transaction { producer_id, epoch: 0, timeout, state, since, began, partitions: BTreeSet::new(), offsets: Vec::new(), ticket }
+    }
+
+    /// As it is kept.
+    fn kept(&self) -> KeptTransaction {
+        let standing = match self.state {
+            State::Empty => Standing::Empty,
+            State::Open => Standing::Ongoing,
+            State::Ending { commits, .. } => Standing::Prepared { commits },
+            State::Ended { commits } => Standing::Complete { commits },
+        };
+        KeptTransaction {
+            producer: (self.producer_id, self.epoch),
+            timeout: u64::try_from(self.timeout.as_millis()).unwrap_or(u64::MAX),
+            began: self.began,
+            standing,
+            partitions: self.partitions.iter().copied().collect(),
+            offsets: self.offsets.clone(),
+        }
+    }
+
+    /// As it was kept. What was to be ended somebody goes on to end, and what is open is so since it was begun.
+    fn of(kept: &KeptTransaction) -> Transaction {
+        let state = match kept.standing {
+            Standing::Empty => State::Empty,
+            Standing::Ongoing => State::Open,
+            Standing::Prepared { commits } => State::Ending { commits, busy: false },
+            Standing::Complete { commits } => State::Ended { commits },
+        };
+        let now = Instant::now();
+        Transaction {
+            epoch: kept.producer.1,
+            state,
+            since: now.checked_sub(Duration::from_millis(now_ms().saturating_sub(kept.began))).unwrap_or(now),
+            began: kept.began,
+            partitions: kept.partitions.iter().copied().collect(),
+            offsets: kept.offsets.clone(),
+            ..Transaction::new(kept.producer.0, Duration::from_millis(kept.timeout))
+        }
+    }
+
+    /// Has it kept as it is. Nothing may be told of it, or done, before it is settled.
+    fn put(&mut self, keep: &Keep, id: &str) {
+        if keep.is_kept() {
+            self.ticket = keep.put(vec![keep.transaction(id, &self.kept())]);
+        }
+    }
+
     /// Begins to end it, if nobody does.
-    fn ending(&mut self, commits: bool) -> Ending {
+    fn ending(&mut self, keep: &Keep, id: &str, commits: bool) -> Ending {
         self.state = State::Ending { commits, busy: true };
-        Ending { producer: (self.producer_id, self.epoch), commits, partitions: self.partitions.iter().copied().collect() }
+        self.put(keep, id);
+        let partitions = self.partitions.iter().copied().collect();
+        Ending { producer: (self.producer_id, self.epoch), commits, partitions, ticket: self.ticket }
     }
 
     /// Fences the producer that has begun it, and aborts.
-    fn fenced(&mut self) -> Ending {
+    fn fenced(&mut self, keep: &Keep, id: &str) -> Ending {
         self.epoch = self.epoch.saturating_add(1);
-        self.ending(false)
+        self.ending(keep, id, false)
     }
 
     /// Opens it, where it isn't open.
@@ -99,7 +160,7 @@ impl Transaction {
         match self.state {
             State::Ending { .. } => return Err(ErrorCode::ConcurrentTransactions),
             State::Open => {}
-            State::Empty | State::Ended { .. } => (self.state, self.since) = (State::Open, Instant::now()),
+            State::Empty | State::Ended { .. } => (self.state, self.since, self.began) = (State::Open, Instant::now(), now_ms()),
         }
         Ok(())
     }
@@ -108,7 +169,13 @@ impl Transaction {
 impl Transactions {
     /// At most so many ids.
     pub fn new(most: usize) -> Transactions {
-        Transactions { most, all: Mutex::default() }
+        Transactions { most, all: Mutex::default(), keep: Arc::default() }
+    }
+
+    /// With those that were left, and what keeps them.
+    pub fn kept(self, keep: &Arc<Keep>, left: &Left) -> Transactions {
+        let all = left.transactions.iter().map(|(id, it)| (id.clone(), Transaction::of(it)));
+        Transactions { all: Mutex::new(all.collect()), keep: keep.clone(), ..self }
     }
 
     /// How many ids there are, and how many of their transactions are open or ending.
@@ -134,6 +201,7 @@ impl Transactions {
         self.with(id, producer, |it| {
             it.open()?;
             it.partitions.extend(places);
+            it.put(&self.keep, id);
             Ok(())
         })
     }
@@ -142,11 +210,13 @@ impl Transactions {
     /// in Kafka a producer is told to try again while its last one is ending.
     pub fn check_added(&self, id: Option<&str>, producer: Producer, place: usize) -> Result<(), ErrorCode> {
         let id = id.ok_or(ErrorCode::TransactionalIdAuthorizationFailed)?;
-        self.with(id, producer, |it| match it.state {
-            State::Open if it.partitions.contains(&place) => Ok(()),
+        let ticket = self.with(id, producer, |it| match it.state {
+            State::Open if it.partitions.contains(&place) => Ok(it.ticket),
             State::Ending { .. } => Err(ErrorCode::NotEnoughReplicas),
             State::Open | State::Empty | State::Ended { .. } => Err(ErrorCode::InvalidTxnState),
-        })
+        })?;
+        // Else nobody would end it here where the process ends now.
+        self.keep.settle_to(ticket).map_err(|_| ErrorCode::KafkaStorageError)
     }
 
     /// Keeps a group's offsets until the transaction ends.
@@ -160,6 +230,7 @@ impl Transactions {
                     }
                     it.offsets.push(new);
                 }
+                it.put(&self.keep, id);
                 Ok(())
             }
             State::Ending { .. } => Err(ErrorCode::ConcurrentTransactions),
@@ -173,13 +244,9 @@ impl Transactions {
     }
 }
 
-fn fresh(hub: &Hub) -> i64 {
-    i64::try_from(hub.next_producer.fetch_add(1, SeqCst)).unwrap_or(i64::MAX)
-}
-
 /// What InitProducerId answers. A transaction that is open is aborted first, and whoever began it is fenced.
 pub fn init(hub: &Hub, passes: &mut Passes, id: Option<&str>, timeout_ms: i32, own: Option<Producer>) -> Result<Producer, ErrorCode> {
-    let Some(id) = id else { return Ok((fresh(hub), 0)) };
+    let Some(id) = id else { return Ok((hub.keep.fresh_id(), 0)) };
     if id.is_empty() || id.len() > LONGEST_ID {
         return Err(ErrorCode::InvalidRequest);
     }
@@ -203,16 +270,15 @@ enum Begun {
 }
 
 fn begin(hub: &Hub, id: &str, timeout: Duration, own: Option<Producer>) -> Result<Begun, ErrorCode> {
-    let transactions = &hub.transactions;
+    let (transactions, keep) = (&hub.transactions, &hub.keep);
     let mut all = lock(&transactions.all);
     let count = all.len();
     let Some(found) = all.get_mut(id) else {
         if count >= transactions.most {
             return Err(ErrorCode::InvalidRequest);
         }
-        let (state, since) = (State::Empty, Instant::now());
-        let (partitions, offsets) = (BTreeSet::new(), Vec::new());
-        let new = Transaction { producer_id: fresh(hub), epoch: 0, timeout, state, since, partitions, offsets };
+        let mut new = Transaction::new(keep.fresh_id(), timeout);
+        new.put(keep, id);
         let producer = (new.producer_id, new.epoch);
         all.insert(id.to_string(), new);
         return Ok(Begun::Ready(producer));
@@ -222,28 +288,29 @@ fn begin(hub: &Hub, id: &str, timeout: Duration, own: Option<Producer>) -> Resul
     }
     match found.state {
         State::Ending { busy: true, .. } => return Err(ErrorCode::ConcurrentTransactions),
-        State::Ending { commits, busy: false } => return Ok(Begun::Aborts(found.ending(commits))),
-        State::Open => return Ok(Begun::Aborts(found.fenced())),
+        State::Ending { commits, busy: false } => return Ok(Begun::Aborts(found.ending(keep, id, commits))),
+        State::Open => return Ok(Begun::Aborts(found.fenced(keep, id))),
         State::Empty | State::Ended { .. } => {}
     }
     if found.epoch >= LAST_EPOCH {
-        (found.producer_id, found.epoch) = (fresh(hub), 0);
+        (found.producer_id, found.epoch) = (keep.fresh_id(), 0);
     } else {
         found.epoch += 1;
     }
     (found.state, found.timeout) = (State::Empty, timeout);
+    found.put(keep, id);
     Ok(Begun::Ready((found.producer_id, found.epoch)))
 }
 
 /// What EndTxn answers. The same end again is no fault.
 pub fn end(hub: &Hub, passes: &mut Passes, id: &str, producer: Producer, commits: bool) -> Result<(), ErrorCode> {
     let ending = hub.transactions.with(id, producer, |it| match it.state {
-        State::Open => Ok(Some(it.ending(commits))),
+        State::Open => Ok(Some(it.ending(&hub.keep, id, commits))),
         State::Ending { commits: before, busy } if before == commits => {
             if busy {
                 Err(ErrorCode::ConcurrentTransactions)
             } else {
-                Ok(Some(it.ending(commits)))
+                Ok(Some(it.ending(&hub.keep, id, commits)))
             }
         }
         State::Ended { commits: before } if before == commits => Ok(None),
@@ -255,9 +322,11 @@ pub fn end(hub: &Hub, passes: &mut Passes, id: &str, producer: Producer, commits
     }
 }
 
-/// Hands the markers of all partitions in, and then lets the group's offsets count.
+/// Hands the markers of all partitions in, and then lets the group's offsets count. That it is to end is on the disk before the first of them,
+/// so that all get the same one, also where the process ends between.
 fn complete(hub: &Hub, passes: &mut Passes, id: &str, ending: &Ending, until: Instant) -> Result<(), ErrorCode> {
-    let marked = ending.partitions.iter().try_for_each(|place| mark(hub, passes, *place, ending, until));
+    let settled = hub.keep.settle_to(ending.ticket);
+    let marked = settled.and_then(|()| ending.partitions.iter().try_for_each(|place| mark(hub, passes, *place, ending, until)));
     let mut all = lock(&hub.transactions.all);
     let Some(found) = all.get_mut(id) else { return marked };
     let commits = ending.commits;
@@ -268,8 +337,9 @@ fn complete(hub: &Hub, passes: &mut Passes, id: &str, ending: &Ending, until: In
     found.state = State::Ended { commits };
     found.partitions.clear();
     let offsets = std::mem::take(&mut found.offsets);
-    if commits {
-        hub.groups.put(offsets);
+    let change = hub.keep.is_kept().then(|| hub.keep.transaction(id, &found.kept()));
+    if commits || change.is_some() {
+        found.ticket = hub.groups.put(if commits { offsets } else { Vec::new() }, change);
     }
     marked
 }
@@ -318,8 +388,8 @@ pub fn expire(hub: &Hub, passes: &mut Passes) {
     let mut late = Vec::new();
     for (id, it) in lock(&hub.transactions.all).iter_mut() {
         match it.state {
-            State::Open if it.since.elapsed() > it.timeout => late.push((id.clone(), it.fenced())),
-            State::Ending { commits, busy: false } => late.push((id.clone(), it.ending(commits))),
+            State::Open if it.since.elapsed() > it.timeout => late.push((id.clone(), it.fenced(&hub.keep, id))),
+            State::Ending { commits, busy: false } => late.push((id.clone(), it.ending(&hub.keep, id, commits))),
             _ => {}
         }
     }

@@ -1,6 +1,8 @@
 //! What all threads of a broker share.
 
 use crate::coordinator::Transactions;
+use crate::data::Opened;
+use crate::keep::Keep;
 use crate::lock;
 use crate::members::Groups;
 use crate::news::News;
@@ -61,8 +63,8 @@ pub struct Hub {
     pub groups: Groups,
     /// What the links are.
     pub links: Mutex<Lines>,
-    /// The producer id that is given out next.
-    pub next_producer: AtomicU64,
+    /// Keeps what the coordinators tell.
+    pub keep: Arc<Keep>,
     /// For how many milliseconds each answer is held back.
     pub rtt: AtomicU64,
     /// How many requests came, and how many connections were closed by the broker.
@@ -89,18 +91,20 @@ pub struct Counts {
 
 impl Hub {
     /// A hub of these partitions, at these ports; all nodes are up.
-    pub fn new(options: Options, partitions: Vec<Partition>, news: Arc<News>, ports: &[u16]) -> Hub {
+    pub fn new(options: Options, opened: Opened, news: Arc<News>, ports: &[u16]) -> Hub {
+        let Opened { partitions, keep, left } = opened;
+        let keep = Arc::new(keep);
         let gate = |port: &u16| Gate { port: *port, up: AtomicBool::new(true), ..Gate::default() };
         Hub {
-            transactions: Transactions::new(options.most_transactional_ids),
-            groups: Groups::new(options.most_groups, options.most_members),
+            transactions: Transactions::new(options.most_transactional_ids).kept(&keep, &left),
+            groups: Groups::new(options.most_groups, options.most_members).kept(&keep, &left),
             gates: ports.iter().map(gate).collect(),
             options,
             partitions,
             news,
             end: News::default(),
             links: Mutex::default(),
-            next_producer: AtomicU64::new(1_000),
+            keep,
             rtt: AtomicU64::new(0),
             counts: Counts::default(),
             failures: Mutex::default(),

@@ -16,6 +16,8 @@
 //! # Ok(()) }
 //! ```
 //!
+//! With [`Options::data`] what clients are told outlives the process, in a folder.
+//!
 //! What a partition does with batches is proved of the library; the sockets, the coordinators of groups and transactions and all
 //! else here is tested. The broker keeps no copy of a log, and judges no batch.
 
@@ -28,9 +30,12 @@ mod cluster;
 mod codes;
 mod connection;
 mod coordinator;
+mod data;
 mod fetch;
 mod groups;
 mod hub;
+mod keep;
+mod kept;
 mod members;
 mod metadata;
 mod news;
@@ -43,6 +48,7 @@ mod requests;
 mod transactions;
 
 pub use broker::{Broker, Fault};
+pub use data::DataFault;
 pub use options::{BadOption, MOST_NODES, MOST_PARTITIONS, Options, TopicOption, USAGE};
 pub use requests::{ADVERTISED, Advertised};
 

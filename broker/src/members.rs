@@ -1,11 +1,13 @@
-//! Consumer groups of the classic protocol, and their offsets, in memory.
+//! Consumer groups of the classic protocol, and their offsets. Members are in memory alone.
 
 use crate::coordinator::PendingOffset;
+use crate::keep::Keep;
+use crate::kept::{Change, KeptGroup, Left};
 use crate::lock;
 use kwire::ErrorCode;
 use std::collections::{BTreeMap, HashMap};
 use std::sync::atomic::{AtomicU64, Ordering::SeqCst};
-use std::sync::{Condvar, Mutex, MutexGuard, PoisonError};
+use std::sync::{Arc, Condvar, Mutex, MutexGuard, PoisonError};
 use std::time::{Duration, Instant};
 
 /// For so long a group's first member waits for others (`group.initial.rebalance.delay.ms`).
@@ -271,6 +273,11 @@ impl Group {
         }
     }
 
+    /// What of it outlives the process, beside its offsets.
+    fn kept(&self) -> KeptGroup {
+        KeptGroup { generation: self.generation, kind: self.kind.clone() }
+    }
+
     fn joined(&self, member: &str) -> Joined {
         let peer = |(name, it): (&String, &Member)| Peer {
             member: name.clone(),
@@ -341,6 +348,7 @@ pub struct Groups {
     all: Mutex<HashMap<String, Group>>,
     changed: Condvar,
     next: AtomicU64,
+    keep: Arc<Keep>,
 }
 
 type All<'a> = MutexGuard<'a, HashMap<String, Group>>;
@@ -348,7 +356,18 @@ type All<'a> = MutexGuard<'a, HashMap<String, Group>>;
 impl Groups {
     /// At most so many groups, with at most so many members each.
     pub fn new(most: usize, most_members: usize) -> Groups {
-        Groups { most, most_members, all: Mutex::default(), changed: Condvar::new(), next: AtomicU64::new(1) }
+        let (all, changed, next, keep) = (Mutex::default(), Condvar::new(), AtomicU64::new(1), Arc::default());
+        Groups { most, most_members, all, changed, next, keep }
+    }
+
+    /// With those that were left, and what keeps them. Their members have to join anew, by ids that no process before this one has given.
+    pub fn kept(self, keep: &Arc<Keep>, left: &Left) -> Groups {
+        let group = |it: &KeptGroup| Group { generation: it.generation, kind: it.kind.clone(), ..Group::default() };
+        let mut all: HashMap<String, Group> = left.groups.iter().map(|(name, it)| (name.clone(), group(it))).collect();
+        for it in &left.offsets {
+            all.entry(it.group.clone()).or_default().offsets.insert(it.place, it.offset.clone());
+        }
+        Groups { all: Mutex::new(all), next: AtomicU64::new((left.life << 32) + 1), keep: keep.clone(), ..self }
     }
 
     fn wait<'a>(&self, all: All<'a>) -> All<'a> {
@@ -380,6 +399,7 @@ impl Groups {
         loop {
             let Some(group) = all.get_mut(name) else { return Some(Err(ErrorCode::UnknownMemberId)) };
             if group.settle() {
+                self.keep.put_group(name, Some(&group.kept()));
                 self.changed.notify_all();
             }
             let has_begun = group.generation != before;
@@ -493,6 +513,7 @@ impl Groups {
         group.members.remove(&member).ok_or(ErrorCode::UnknownMemberId)?;
         group.rebalance();
         group.settle();
+        self.keep.put_group(name, Some(&group.kept()));
         self.changed.notify_all();
         Ok(())
     }
@@ -516,19 +537,24 @@ impl Groups {
     /// Keeps offsets.
     pub fn commit(&self, name: &str, offsets: Vec<(usize, CommittedOffset)>) -> Result<(), ErrorCode> {
         let mut all = lock(&self.all);
-        self.entry(&mut all, name)?.offsets.extend(offsets);
+        let group = self.entry(&mut all, name)?;
+        self.keep.put(offsets.iter().filter_map(|(place, it)| self.keep.offset(name, *place, it)).collect());
+        group.offsets.extend(offsets);
         Ok(())
     }
 
-    /// Keeps offsets that came with a transaction which has committed.
-    pub fn put(&self, offsets: Vec<PendingOffset>) {
+    /// Keeps offsets that came with a transaction which has committed, and what is kept of that, together: the ticket of all.
+    pub fn put(&self, offsets: Vec<PendingOffset>, change: Option<Change>) -> u64 {
         let mut all = lock(&self.all);
+        let mut changes: Vec<Change> = change.into_iter().collect();
         for it in offsets {
             // The group was there when the offsets came; a group that has gone since has no room to claim.
             if let Ok(group) = self.entry(&mut all, &it.group) {
+                changes.extend(self.keep.offset(&it.group, it.place, &it.offset));
                 group.offsets.insert(it.place, it.offset);
             }
         }
+        self.keep.put(changes)
     }
 
     /// What the group has committed, by partition.
@@ -568,15 +594,23 @@ impl Groups {
     /// Takes out members that weren't heard of for too long, and groups that hold nothing.
     pub fn expire(&self) {
         let mut all = lock(&self.all);
-        for group in all.values_mut() {
+        for (name, group) in all.iter_mut() {
             let before = group.members.len();
             group.members.retain(|_, it| it.waiting > 0 && group.state == State::Joining || it.seen.elapsed() < it.session);
             if group.members.len() < before {
                 group.rebalance();
             }
-            group.settle();
+            if group.settle() {
+                self.keep.put_group(name, Some(&group.kept()));
+            }
         }
-        all.retain(|_, it| it.state != State::Empty || !it.offsets.is_empty() || !it.members.is_empty());
+        all.retain(|name, it| {
+            let stays = it.state != State::Empty || !it.offsets.is_empty() || !it.members.is_empty();
+            if !stays {
+                self.keep.put_group(name, None);
+            }
+            stays
+        });
         self.changed.notify_all();
     }
 }

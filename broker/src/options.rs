@@ -2,6 +2,7 @@
 
 use std::fmt;
 use std::net::{IpAddr, Ipv4Addr};
+use std::path::PathBuf;
 use std::time::Duration;
 
 /// The most partitions of all topics together.
@@ -36,6 +37,8 @@ pub struct Options {
     pub admin: Option<u16>,
     /// The topics; at most 64 partitions in all.
     pub topics: Vec<TopicOption>,
+    /// The folder in which all that clients are told outlives the process; none for memory alone.
+    pub data: Option<PathBuf>,
     /// How many nodes have to be in sync for a Produce of acks all (`min.insync.replicas`).
     pub min_insync: u8,
     /// A follower that hasn't caught up for so long leaves the in-sync replicas (`replica.lag.time.max.ms`).
@@ -67,6 +70,7 @@ impl Default for Options {
             port: 0,
             admin: None,
             topics: vec![TopicOption { name: "events".to_string(), partitions: 1 }],
+            data: None,
             min_insync: 1,
             lag: Duration::from_secs(1),
             turn: None,
@@ -91,6 +95,8 @@ kpart-broker [OPTION VALUE]..
   --port BASE                  node i listens at BASE + i; 0: each at a free port (19092)
   --admin PORT                 takes the admin's lines at 127.0.0.1:PORT; 0: at a free port (nowhere)
   --topic NAME[:PARTITIONS]    a topic; several times for several, at most 64 partitions in all (events:1)
+  --data FOLDER                keeps logs, transactions, offsets and producer ids in that folder, which is made where it isn't there
+                               (in memory: all is gone with the process)
   --min-insync N               how many nodes have to be in sync for acks=all (1)
   --lag MS                     a follower that hasn't caught up for so long leaves the in-sync replicas (1000)
   --turn MICROSECONDS          how often a node has its turn where nobody waits (2000, more for many partitions)
@@ -144,6 +150,7 @@ impl Options {
             "--advertise" => self.advertise = Some(value.to_string()),
             "--port" => self.port = number(name, value)?,
             "--admin" => self.admin = Some(number(name, value)?),
+            "--data" => self.data = Some(PathBuf::from(value)),
             "--min-insync" => self.min_insync = number(name, value)?,
             "--lag" => self.lag = Duration::from_millis(number(name, value)?),
             "--turn" => self.turn = Some(Duration::from_micros(number(name, value)?)),
@@ -231,7 +238,8 @@ mod tests {
         assert_eq!(options.topics[0], TopicOption { name: "payments".to_string(), partitions: 3 });
         assert_eq!((options.topics[1].partitions, options.port, options.nodes, options.admin), (1, 7000, 5, Some(0)));
         assert_eq!(options.lag, Duration::from_millis(250));
-        assert_eq!(of("")?.topics[0].name, "events");
+        assert_eq!((&of("")?.topics[0].name[..], of("")?.data), ("events", None));
+        assert_eq!(of("--data kept/here")?.data, Some(PathBuf::from("kept/here")));
         Ok(())
     }
 

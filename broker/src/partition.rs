@@ -12,6 +12,8 @@ use std::time::{Duration, Instant};
 
 /// Kafka's own `message.max.bytes`.
 const MAX_BATCH: u32 = 1_048_588;
+/// The limits of each partition's log.
+pub const LIMITS: Limits = Limits { segment_bytes: 1 << 30, index_interval: 4_096, max_batch: MAX_BATCH };
 /// Stands for no node.
 const NOBODY: u8 = u8::MAX;
 /// After so long without an acknowledgement the followers are asked again, and then after twice as long each time.
@@ -89,9 +91,13 @@ fn hook(news: Arc<News>) -> impl Fn(Event) + Send + Sync + 'static {
 }
 
 impl Partition {
-    /// Opens it, with nobody leading.
+    /// Opens it in memory, with nobody leading.
     pub fn open(topic: &str, index: i32, options: &Options, news: &Arc<News>) -> Result<Partition, Error> {
-        let cluster = Cluster::open(options.nodes, Limits { max_batch: MAX_BATCH, ..Limits::default() })?;
+        Partition::over(Cluster::open(options.nodes, LIMITS)?, topic, index, options, news)
+    }
+
+    /// Of this cluster.
+    pub fn over(cluster: Cluster, topic: &str, index: i32, options: &Options, news: &Arc<News>) -> Result<Partition, Error> {
         let workers = Workers::start_with(&cluster, options.turn_time(), hook(news.clone()))?;
         let caught_up = vec![Instant::now(); usize::from(options.nodes)];
         let control = Control { pass: cluster.pass()?, leader: None, end: 0, caught_up };

@@ -103,6 +103,8 @@ pub struct Reply<'a> {
     version: i16,
     correlation_id: i32,
     not_before: Instant,
+    /// Whether it tells what the coordinators know, which has to be kept first.
+    is_kept: bool,
     hub: &'a Hub,
     buffer: &'a mut Vec<u8>,
 }
@@ -118,13 +120,20 @@ impl<'a> Reply<'a> {
         buffer: &'a mut Vec<u8>,
     ) -> Reply<'a> {
         let rtt = Duration::from_millis(hub.rtt.load(SeqCst));
-        Reply { stream, version, correlation_id, not_before: came + rtt, hub, buffer }
+        Reply { stream, version, correlation_id, not_before: came + rtt, is_kept: false, hub, buffer }
     }
 
     /// The same at another version.
     #[must_use]
     pub fn at_version(mut self, version: i16) -> Reply<'a> {
         self.version = version;
+        self
+    }
+
+    /// The same, of what the coordinators know: it is sent once that is on the disk, where there is a folder.
+    #[must_use]
+    pub fn kept(mut self) -> Reply<'a> {
+        self.is_kept = true;
         self
     }
 
@@ -144,6 +153,9 @@ impl<'a> Reply<'a> {
 
     /// Sends the answer. Hold no lock meanwhile.
     pub fn send<'m, M: Response<'m>>(self, message: &M) -> Result<(), Close> {
+        if self.is_kept && self.hub.keep.settle().is_err() {
+            return Err(Close::Quiet); // the controller says why
+        }
         let frame = response_frame(message, self.version, self.correlation_id, std::mem::take(self.buffer))?;
         self.wait()?;
         let mut output = Bounded { stream: self.stream, until: Instant::now() + self.hub.options.slow };

@@ -65,9 +65,9 @@ pub fn answer(call: &mut Call<'_>, key: i16, body: &[u8], reply: Reply<'_>) -> R
     };
     let mut reader = Reader::new(body);
     macro_rules! by {
-        ($handler:expr) => {{
+        ($handler:expr $(, $kept:ident)?) => {{
             let request = Message::decode(&mut reader, version)?;
-            $handler(call, &request, reply)
+            $handler(call, &request, reply$(.$kept())?)
         }};
     }
     match found {
@@ -79,19 +79,19 @@ pub fn answer(call: &mut Call<'_>, key: i16, body: &[u8], reply: Reply<'_>) -> R
         api::CREATE_TOPICS => by!(metadata::create_topics),
         api::DESCRIBE_CLUSTER => by!(metadata::describe_cluster),
         api::FIND_COORDINATOR => by!(metadata::find_coordinator),
-        api::INIT_PRODUCER_ID => by!(transactions::init_producer_id),
-        api::ADD_PARTITIONS_TO_TXN => by!(transactions::add_partitions_to_txn),
-        api::ADD_OFFSETS_TO_TXN => by!(transactions::add_offsets_to_txn),
-        api::END_TXN => by!(transactions::end_txn),
-        api::TXN_OFFSET_COMMIT => by!(transactions::txn_offset_commit),
-        api::JOIN_GROUP => by!(groups::join_group),
-        api::SYNC_GROUP => by!(groups::sync_group),
-        api::HEARTBEAT => by!(groups::heartbeat),
-        api::LEAVE_GROUP => by!(groups::leave_group),
-        api::OFFSET_COMMIT => by!(groups::offset_commit),
-        api::OFFSET_FETCH => by!(groups::offset_fetch),
-        api::DESCRIBE_GROUPS => by!(groups::describe_groups),
-        api::LIST_GROUPS => by!(groups::list_groups),
+        api::INIT_PRODUCER_ID => by!(transactions::init_producer_id, kept),
+        api::ADD_PARTITIONS_TO_TXN => by!(transactions::add_partitions_to_txn, kept),
+        api::ADD_OFFSETS_TO_TXN => by!(transactions::add_offsets_to_txn, kept),
+        api::END_TXN => by!(transactions::end_txn, kept),
+        api::TXN_OFFSET_COMMIT => by!(transactions::txn_offset_commit, kept),
+        api::JOIN_GROUP => by!(groups::join_group, kept),
+        api::SYNC_GROUP => by!(groups::sync_group, kept),
+        api::HEARTBEAT => by!(groups::heartbeat, kept),
+        api::LEAVE_GROUP => by!(groups::leave_group, kept),
+        api::OFFSET_COMMIT => by!(groups::offset_commit, kept),
+        api::OFFSET_FETCH => by!(groups::offset_fetch, kept),
+        api::DESCRIBE_GROUPS => by!(groups::describe_groups, kept),
+        api::LIST_GROUPS => by!(groups::list_groups, kept),
         other => Err(WireError::UnknownApi { key: other.key }.into()),
     }
 }

@@ -2,6 +2,9 @@
 
 #![allow(dead_code)] // each test program takes a part of it
 
+pub mod coordinators;
+pub mod program;
+
 use kpart_broker::{Broker, Options, TopicOption};
 use kwire::batch::{BatchHead, Batches};
 use kwire::fetch::{FetchPartition, FetchRequest, FetchResponse, FetchTopic};

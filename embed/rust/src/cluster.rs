@@ -4,7 +4,7 @@ use crate::error::Error;
 use crate::ffi::{Limits, RawCluster, RawMessage, RawNode, RawPass, RestartOut, RoleOut};
 use crate::message::Message;
 use crate::node::Node;
-use crate::store::{Keeper, RecordKeeper};
+use crate::store::{Keeper, RecordKeeper, StoreFault};
 use crate::values::{Ack, Leadership, NodeState, Receipt, Role};
 use std::mem::replace;
 use std::ops::{Deref, DerefMut};
@@ -104,6 +104,8 @@ pub(crate) struct Past {
     pub records: u64,
     // What the last one made of it, in this life.
     pub role: Option<Role>,
+    // Why its files couldn't be written, in this life.
+    pub fault: Option<StoreFault>,
 }
 
 // What keeps a cluster in a store's folder.
@@ -172,9 +174,12 @@ impl Held<'_> {
         let Kept { raw, past, keeper: Some(keeper), .. } = &mut *self.kept else { return Ok(()) };
         let state = NodeState::from(raw.show()?);
         let done = part(keeper, raw, &state);
-        if matches!(done, Err(Error::Store(_))) && raw.stop().is_ok() {
-            past.role = None;
-            self.bell.ring();
+        if let Err(Error::Store(fault)) = done {
+            past.fault = Some(fault);
+            if raw.stop().is_ok() {
+                past.role = None;
+                self.bell.ring();
+            }
         }
         done
     }
@@ -227,7 +232,7 @@ impl Held<'_> {
     pub(crate) fn restart(&mut self) -> Result<RestartOut, Error> {
         self.keeps(Keeper::before_start)?;
         let restarted = self.kept.raw.restart()?;
-        (self.kept.past.life, self.kept.past.role) = (restarted.life, None);
+        self.kept.past = Past { life: restarted.life, role: None, fault: None, ..self.kept.past };
         self.kept.mark = restarted.watermark;
         self.bell.ring();
         self.keeps(Keeper::after_change)?;

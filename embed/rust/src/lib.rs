@@ -15,6 +15,7 @@
 //! | to answer a Kafka consumer's fetch, of one moment | [`Node::fetch`] |
 //! | to know what a node is, and where it stands | [`Node::show`], [`Node::end_for`], [`Node::offset_for_time`] |
 //! | logs that outlive the process | [`Store::open`]; with files of your own [`Left`], [`Cluster::open_again`] |
+//! | what a host keeps beside its logs to outlive the process | [`Journal`] |
 //! | to keep a node's log as files | [`Node::segments`]; to know what of a file is whole [`BatchesIn::of`] |
 //! | to wait until something is committed, without a loop | [`Cluster::wait_acked`], [`Cluster::wait_mark`] |
 //! | followers to replicate | [`Workers`], or [`Node::ask`] and [`Node::step`] by hand |
@@ -113,7 +114,7 @@ pub use node::Node;
 pub use record::{Header, Record, ShownRecords};
 pub use records::{CommittedRecord, Records};
 pub use segments::{Segment, Segments};
-pub use store::{Store, StoreError, StoreFault, StoreFile, TornTail};
+pub use store::{Journal, Store, StoreError, StoreFault, StoreFile, TornTail};
 pub use teller::Event;
 pub use values::{
     Ack, BatchHead, Change, EpochEnd, Kept, Known, Leadership, Marker, NodeState, OpenTransaction, ProducerState, Promise, Receipt,

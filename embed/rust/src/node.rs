@@ -9,6 +9,7 @@ use crate::ffi::{MarkerIn, ReceiptOut};
 use crate::message::Message;
 use crate::records::Records;
 use crate::segments::Segments;
+use crate::store::StoreFault;
 use crate::values::{
     Ack, Change, EpochEnd, Known, Marker, NodeState, OpenTransaction, ProducerState, Receipt, Restarted, Role, Status, TimeOffset,
 };
@@ -64,6 +65,11 @@ impl<'a> Node<'a> {
     /// Stops the node, which keeps its log and its checkpoint. O(1).
     pub fn stop(&mut self) -> Result<(), Error> {
         self.raw.stop()
+    }
+
+    /// Why its files couldn't be written, by which a store has stopped it; none once it was started again. O(1).
+    pub fn fault(&self) -> Option<StoreFault> {
+        self.raw.past().fault
     }
 
     /// Starts a node that is down: F28 where it is up. Its high watermark is the checkpoint; it leads and follows nobody until it

@@ -4,6 +4,10 @@
 mod crashes;
 mod disk;
 mod fault;
+mod frames;
+mod journal;
+#[cfg(test)]
+mod journaling;
 mod keeper;
 mod log_files;
 #[cfg(test)]
@@ -18,8 +22,11 @@ mod tearing;
 mod text;
 #[cfg(test)]
 mod watch;
+#[cfg(test)]
+mod wreck;
 
 pub use fault::{StoreError, StoreFault, StoreFile};
+pub use journal::Journal;
 pub(crate) use keeper::Keeper;
 pub use read_back::TornTail;
 pub(crate) use record_keeper::RecordKeeper;

@@ -510,11 +510,13 @@ fn a_cut_that_fails_is_ended() -> Result<(), Wrong> {
         watch.refuse(0..0);
         fails = matches!(stepped, Err(Error::Store(_)));
         assert_eq!(cluster.node(0)?.show()?.status == Status::Down, fails, "operation {fault}");
+        assert_eq!(cluster.node(0)?.fault().map(Error::Store), stepped.err(), "operation {fault}");
         let mut image = Wreck::default();
         watch.acts().iter().for_each(|(name, act)| image.hears(*name, act));
         check(&image.all_of(), 2, 3, false, &mut Chance::new(1));
         if fails {
             cluster.node(0)?.restart()?;
+            assert_eq!(cluster.node(0)?.fault(), None);
             cluster.node(0)?.adopt()?;
         }
         replicate(&cluster, 1, 0)?;

@@ -26,6 +26,8 @@ pub enum StoreFile {
         /// The offset of the segment's first record.
         base: u64,
     },
+    /// `journal`: what a host keeps beside its logs.
+    Journal,
 }
 
 impl StoreFile {
@@ -48,6 +50,7 @@ impl fmt::Display for StoreFile {
             StoreFile::State(node) => write!(out, "node-{node}/state"),
             StoreFile::Mark(node) => write!(out, "node-{node}/mark"),
             StoreFile::Segment { node, base } => write!(out, "node-{node}/{base:020}.log"),
+            StoreFile::Journal => out.write_str("journal"),
         }
     }
 }
