@@ -6,9 +6,11 @@ import signal
 import socket
 import subprocess
 import sys
+import tempfile
 import time
 
 PROGRAM = os.environ.get("KPART_BROKER", "kpart-broker")
+RECORD = os.environ.get("KPART_RECORD")  # a folder: each broker's records have one of their own in it
 LONG = 30  # seconds that anything may take
 
 # What a test wants of librdkafka: quick second tries, and no lines about each of them.
@@ -26,7 +28,8 @@ class Host:
 
     def __init__(self, *words, nodes=3, topic="payments"):
         self.topic, self.nodes = topic, nodes
-        self.process = subprocess.Popen([PROGRAM, "--nodes", str(nodes), "--port", "0", "--admin", "0", "--topic", topic, *words],
+        record = ["--record", tempfile.mkdtemp(dir=RECORD)] if RECORD else []
+        self.process = subprocess.Popen([PROGRAM, "--nodes", str(nodes), "--port", "0", "--admin", "0", "--topic", topic, *words, *record],
                                         stdin=subprocess.DEVNULL, stdout=subprocess.PIPE, text=True, preexec_fn=end_with_parent)
         atexit.register(self.end)
         said = self.process.stdout.readline().split()
@@ -56,6 +59,9 @@ class Host:
                     if line.startswith(f"partition {self.topic.split(':')[0]} {partition} "))
 
     def end(self):
+        if RECORD and self.process.poll() is None:
+            self.ask("quit", may_fail=True)  # its records are whole then
+            self.process.wait(LONG)
         self.process.kill()
         self.process.wait()
 

@@ -5,7 +5,7 @@
 use crate::cluster::{self, Undone};
 use crate::hub::Hub;
 use crate::partition::led_epoch;
-use crate::{lock, requests};
+use crate::{lock, recording, requests};
 use kpart::Link;
 use std::fmt::Write as _;
 use std::io::{self, BufRead, BufReader, Read, Write};
@@ -17,7 +17,7 @@ use std::time::Duration;
 
 /// What the lines are.
 pub const HELP: &str = "stop N | restart N | elect N [TOPIC PARTITION] | cut A B | delay A B MS | lossy A B ONE_IN | doubling A B ONE_IN \
-| heal | hold N | release N | fail COUNT CODE API | rtt MS | show | quit";
+| heal | hold N | release N | fail COUNT CODE API | rtt MS | show | recorded | quit";
 
 /// The longest line.
 const LONGEST: u64 = 1_024;
@@ -119,6 +119,7 @@ fn run(hub: &Arc<Hub>, line: &str) -> Result<String, String> {
         }
         ["rtt", ms] => hub.set_rtt(Duration::from_millis(number(ms)?)),
         ["show"] => return Ok(show(hub)),
+        ["recorded"] => return recording::flush(hub),
         ["quit"] => hub.close(),
         _ => return Err(HELP.to_string()),
     }

@@ -7,10 +7,11 @@ use crate::hub::Hub;
 use crate::news::News;
 use crate::options::{BadOption, Options};
 use crate::reply::Passes;
-use crate::{admin, coordinator, requests};
-use kpart::Link;
+use crate::{admin, coordinator, recording, requests};
+use kpart::{Link, RecorderFault};
 use std::fmt;
 use std::net::TcpListener;
+use std::path::PathBuf;
 use std::sync::Arc;
 use std::thread::{Builder, JoinHandle};
 use std::time::{Duration, Instant};
@@ -31,6 +32,8 @@ pub enum Fault {
     Data(DataFault),
     /// The system refuses a socket or a thread.
     System(std::io::Error),
+    /// What happens isn't recorded, or isn't any more.
+    Record(RecorderFault),
     /// There is no such node, partition, link or request.
     NoSuch,
 }
@@ -42,6 +45,7 @@ impl fmt::Display for Fault {
             Fault::Library(it) => it.fmt(out),
             Fault::Data(it) => it.fmt(out),
             Fault::System(it) => it.fmt(out),
+            Fault::Record(it) => it.fmt(out),
             Fault::NoSuch => out.write_str("there is no such node, partition, link or request"),
         }
     }
@@ -102,6 +106,7 @@ impl Broker {
         let options = options.checked()?;
         let listeners = bind_all(&options)?;
         let ports = listeners.iter().map(|it| it.local_addr().map(|it| it.port())).collect::<Result<Vec<u16>, _>>()?;
+        options.record.as_deref().map_or(Ok(()), recording::make_folder)?;
         let news = Arc::new(News::default());
         let opened = data::open(&options, &news)?;
         let hub = Arc::new(Hub::new(options, opened, news, &ports));
@@ -263,6 +268,15 @@ impl Broker {
         admin::show(&self.hub)
     }
 
+    /// Waits until all that has happened is in the records ([`Options::record`]): the script of each partition.
+    ///
+    /// # Errors
+    /// [`Fault::Record`] where something isn't recorded: why.
+    pub fn recorded(&self) -> Result<Vec<PathBuf>, Fault> {
+        let scripts = self.hub.partitions.iter().filter_map(|it| it.script.as_ref());
+        scripts.map(|it| it.flush().map(|_| it.path.clone()).map_err(Fault::Record)).collect()
+    }
+
     /// What an admin's line is answered.
     #[must_use]
     pub fn line(&self, line: &str) -> String {
@@ -299,6 +313,7 @@ impl Drop for Broker {
         if self.hub.options.data.is_some() {
             self.let_go();
         }
+        recording::stop(&self.hub);
     }
 }
 

@@ -1,5 +1,6 @@
 //! A folder in which partitions, transactions, groups' offsets and producer ids outlive the process.
 
+use crate::broker::Fault;
 use crate::cluster;
 use crate::hub::Hub;
 use crate::keep::Keep;
@@ -89,12 +90,12 @@ pub struct Opened {
 }
 
 /// Opens all partitions, in the folder of the options or in memory.
-pub fn open(options: &Options, news: &Arc<News>) -> Result<Opened, DataFault> {
+pub fn open(options: &Options, news: &Arc<News>) -> Result<Opened, Fault> {
     let index = |number: u32| i32::try_from(number).unwrap_or(i32::MAX);
     let names: Vec<Name> =
         options.topics.iter().flat_map(|topic| (0..topic.partitions).map(move |it| (topic.name.clone(), index(it)))).collect();
     match &options.data {
-        Some(folder) => Folder::open(folder, names, options, news)?.opened(),
+        Some(folder) => Ok(Folder::open(folder, names, options, news)?.opened()?),
         None => {
             let partitions = names.iter().map(|(topic, index)| Partition::open(topic, *index, options, news));
             Ok(Opened { partitions: partitions.collect::<Result<_, _>>()?, ..Opened::default() })

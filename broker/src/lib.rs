@@ -43,6 +43,7 @@ mod offsets;
 mod options;
 mod partition;
 mod produce;
+mod recording;
 mod reply;
 mod requests;
 mod transactions;

@@ -45,6 +45,9 @@ pub struct Options {
     pub lag: Duration,
     /// How often a node has its turn where nobody waits; none for 2 ms, and more where there are more than 4 partitions.
     pub turn: Option<Duration>,
+    /// The folder of the records: for each partition a script of its calls, `TOPIC-N.script`, and what they were answered. It is made, or is
+    /// there and empty; none for no records.
+    pub record: Option<PathBuf>,
     /// The most connections at a time; one more is closed at once.
     pub most_connections: usize,
     /// The most bytes of a request; reading one takes up to 64 times as many.
@@ -74,6 +77,7 @@ impl Default for Options {
             min_insync: 1,
             lag: Duration::from_secs(1),
             turn: None,
+            record: None,
             most_connections: 256,
             most_frame: 4 << 20,
             most_groups: 1_000,
@@ -100,6 +104,8 @@ kpart-broker [OPTION VALUE]..
   --min-insync N               how many nodes have to be in sync for acks=all (1)
   --lag MS                     a follower that hasn't caught up for so long leaves the in-sync replicas (1000)
   --turn MICROSECONDS          how often a node has its turn where nobody waits (2000, more for many partitions)
+  --record FOLDER              writes each partition's calls as a script, FOLDER/NAME-N.script, which 'kpart run' plays again, and
+                               its answers as FOLDER/NAME-N.script.answers; FOLDER is made, or is there and empty (nowhere)
   --most-connections N         (256)
   --most-frame BYTES           the most bytes of a request (4194304)
   --most-groups N              (1000)
@@ -154,6 +160,7 @@ impl Options {
             "--min-insync" => self.min_insync = number(name, value)?,
             "--lag" => self.lag = Duration::from_millis(number(name, value)?),
             "--turn" => self.turn = Some(Duration::from_micros(number(name, value)?)),
+            "--record" => self.record = Some(PathBuf::from(value)),
             "--most-connections" => self.most_connections = number(name, value)?,
             "--most-frame" => self.most_frame = number(name, value)?,
             "--most-groups" => self.most_groups = number(name, value)?,
@@ -186,6 +193,9 @@ impl Options {
             if !is_topic_name(&topic.name) || self.topics[..at].iter().any(|it| it.name == topic.name) {
                 return Err(BadOption(format!("--topic: '{}' is no name, or is there twice", topic.name)));
             }
+        }
+        if self.data.is_some() && self.record.is_some() {
+            return fault("--record begins with empty logs, so it doesn't go with --data");
         }
         if !(1..=self.nodes).contains(&self.min_insync) {
             return fault("--min-insync is 1 to the count of nodes");
@@ -234,12 +244,13 @@ mod tests {
 
     #[test]
     fn words_are_taken() -> Result<(), BadOption> {
-        let options = of("--topic payments:3 --topic audit --port 7000 --nodes 5 --admin 0 --lag 250")?;
+        let options = of("--topic payments:3 --topic audit --port 7000 --nodes 5 --admin 0 --lag 250 --record a/b")?;
         assert_eq!(options.topics[0], TopicOption { name: "payments".to_string(), partitions: 3 });
         assert_eq!((options.topics[1].partitions, options.port, options.nodes, options.admin), (1, 7000, 5, Some(0)));
-        assert_eq!(options.lag, Duration::from_millis(250));
+        assert_eq!((options.lag, options.record), (Duration::from_millis(250), Some(PathBuf::from("a/b"))));
         assert_eq!((&of("")?.topics[0].name[..], of("")?.data), ("events", None));
         assert_eq!(of("--data kept/here")?.data, Some(PathBuf::from("kept/here")));
+        assert!(of("--data kept --record a").is_err());
         Ok(())
     }
 

@@ -1,9 +1,11 @@
 //! A partition: a cluster of the library, and the workers that carry its messages.
 
+use crate::broker::Fault;
 use crate::codes::code;
 use crate::lock;
 use crate::news::News;
 use crate::options::Options;
+use crate::recording::{self, Script};
 use kpart::{Ack, Change, Cluster, Error, Event, Leadership, Limits, NodeState, Pass, Receipt, Refusal, Role, Status, Workers};
 use kwire::ErrorCode;
 use std::sync::atomic::{AtomicU8, Ordering::SeqCst};
@@ -33,6 +35,8 @@ pub struct Partition {
     /// Who carries their messages.
     pub workers: Workers,
     control: Mutex<Control>,
+    /// Of what its nodes are asked, where that is recorded. It ends behind the workers.
+    pub script: Option<Script>,
 }
 
 /// What the controller keeps of a partition from one look to the next.
@@ -92,8 +96,11 @@ fn hook(news: Arc<News>) -> impl Fn(Event) + Send + Sync + 'static {
 
 impl Partition {
     /// Opens it in memory, with nobody leading.
-    pub fn open(topic: &str, index: i32, options: &Options, news: &Arc<News>) -> Result<Partition, Error> {
-        Partition::over(Cluster::open(options.nodes, LIMITS)?, topic, index, options, news)
+    pub fn open(topic: &str, index: i32, options: &Options, news: &Arc<News>) -> Result<Partition, Fault> {
+        let (cluster, script) = recording::open(topic, index, options)?;
+        let mut opened = Partition::over(cluster, topic, index, options, news)?;
+        opened.script = script;
+        Ok(opened)
     }
 
     /// Of this cluster.
@@ -101,7 +108,7 @@ impl Partition {
         let workers = Workers::start_with(&cluster, options.turn_time(), hook(news.clone()))?;
         let caught_up = vec![Instant::now(); usize::from(options.nodes)];
         let control = Control { pass: cluster.pass()?, leader: None, end: 0, caught_up };
-        Ok(Partition { topic: topic.to_string(), index, cluster, workers, control: Mutex::new(control) })
+        Ok(Partition { topic: topic.to_string(), index, cluster, workers, control: Mutex::new(control), script: None })
     }
 
     /// What the controller keeps. Hold no node meanwhile.

@@ -4,6 +4,7 @@ use crate::error::Error;
 use crate::ffi::{Limits, RawCluster, RawMessage, RawNode, RawPass, RestartOut, RoleOut};
 use crate::message::Message;
 use crate::node::Node;
+use crate::recorder::journal::{Call, Journal, Told};
 use crate::store::{Keeper, RecordKeeper, StoreFault};
 use crate::values::{Ack, Leadership, NodeState, Receipt, Role};
 use std::mem::replace;
@@ -289,6 +290,8 @@ struct Shared {
     // Of a cluster in a store.
     record: Option<Arc<RecordKeeper>>,
     recalls: bool,
+    // Of a cluster that is recorded.
+    journal: Option<Arc<Journal>>,
 }
 
 /// One to seven nodes that replicate one log, and the controller's record of who leads. A clone is the same cluster; its memory is
@@ -327,15 +330,24 @@ impl Cluster {
         Cluster::of(RawCluster::open(nodes, &limits)?, nodes, None)
     }
 
+    // The same, and each call is noted.
+    pub(crate) fn open_noted(nodes: u8, limits: Limits, journal: Arc<Journal>) -> Result<Cluster, Error> {
+        Cluster::made(RawCluster::open(nodes, &limits)?, nodes, None, Some(journal))
+    }
+
     // The board's nodes, of which none is open yet.
-    pub(crate) fn of(mut board: RawCluster, nodes: u8, keeping: Option<Keeping>) -> Result<Cluster, Error> {
+    pub(crate) fn of(board: RawCluster, nodes: u8, keeping: Option<Keeping>) -> Result<Cluster, Error> {
+        Cluster::made(board, nodes, keeping, None)
+    }
+
+    fn made(mut board: RawCluster, nodes: u8, keeping: Option<Keeping>, journal: Option<Arc<Journal>>) -> Result<Cluster, Error> {
         let (keepers, record, recalls) = match keeping {
             Some(it) => (it.keepers, Some(it.record), it.recalls),
             None => (Vec::new(), None, false),
         };
         let mut keepers = keepers.into_iter();
         let opened: Result<Vec<Room>, Error> = (0..nodes).map(|_| Room::new(board.node()?, keepers.next())).collect();
-        let shared = Shared { number: board.cluster(), nodes: opened?, board: Mutex::new(board), record, recalls };
+        let shared = Shared { number: board.cluster(), nodes: opened?, board: Mutex::new(board), record, recalls, journal };
         Ok(Cluster { shared: Arc::new(shared) })
     }
 
@@ -350,14 +362,14 @@ impl Cluster {
         if self.shared.recalls {
             raw.recall()?;
         }
-        Ok(Pass { raw, record: self.shared.record.clone() })
+        Ok(Pass { raw, record: self.shared.record.clone(), journal: self.shared.journal.clone() })
     }
 
     /// Waits for a node's lock, and takes it. Let go of it before you ask for another node's, as two threads that hold one node
     /// each could wait for one another. [`Error::OutOfRange`] where there is no such node.
     pub fn node(&self, number: u8) -> Result<Node<'_>, Error> {
         let room = self.room(number)?;
-        Ok(Node::new(number, Held { kept: lock(&room.kept), bell: &room.bell }))
+        Ok(Node::new(number, Held { kept: lock(&room.kept), bell: &room.bell }, self.shared.journal.as_deref()))
     }
 
     /// Waits until a node's high watermark lies above an offset, for so long at most, and says where it is then: at once where it
@@ -454,17 +466,25 @@ pub struct Pass {
     pub(crate) raw: RawPass,
     // Of a cluster in a store.
     record: Option<Arc<RecordKeeper>>,
+    // Of one that is recorded.
+    journal: Option<Arc<Journal>>,
 }
 
 impl Pass {
     /// Elects a node, which has to be in sync (F21), by one exchange at the controller's record; F22 where another change came
     /// between. Nodes learn it by [`Node::adopt`]. F24 where epochs are used up. O(1), takes no lock, and waits for nobody; but of a cluster
-    /// in a store elections and decisions come one by one, each once its record is on the disk, so F22 doesn't come.
+    /// in a store elections and decisions come one by one, each once its record is on the disk, so F22 doesn't come; nor does it of a recorded
+    /// one, where they take a lock.
     pub fn elect(&mut self, node: u8) -> Result<Leadership, Error> {
-        match &self.record {
+        let open = self.journal.as_ref().map(|it| it.open());
+        let elected = match &self.record {
             Some(record) => record.elect(&mut self.raw, node),
             None => self.raw.elect(node).map(Leadership::from),
+        };
+        if let Some(open) = open {
+            open.enter(Call::Elect(node), elected.map(Told::from));
         }
+        elected
     }
 
     /// The controller's record as it is now. O(1), and no lock.
@@ -503,11 +523,15 @@ impl Pass {
     }
 
     /// What the controller decides on a proposal ([`Node::alter`]): hand it to the node that it goes to. F24 where versions are used
-    /// up; F29 where the message is no proposal. The message is spent in any case. O(1), and no lock but in a store, as [`Pass::elect`].
+    /// up; F29 where the message is no proposal. The message is spent in any case. O(1), and no lock but as [`Pass::elect`].
     pub fn decide(&mut self, proposal: Message) -> Result<Message, Error> {
-        match &self.record {
-            Some(record) => record.decide(&mut self.raw, proposal),
-            None => Message::new(self.raw.decide(proposal.raw)?),
+        match (&self.record, &self.journal) {
+            (Some(record), _) => record.decide(&mut self.raw, proposal),
+            (None, Some(journal)) => journal.enter_decided(proposal, |it| {
+                let decision = Message::new(self.raw.decide(it.raw)?)?;
+                Ok((decision, self.raw.leadership()?.into()))
+            }),
+            (None, None) => Message::new(self.raw.decide(proposal.raw)?),
         }
     }
 

@@ -22,6 +22,7 @@
 //! | to have them do so at once, in this thread | [`Workers::replicate`] |
 //! | to hear what becomes of the nodes | [`Workers::start_with`] |
 //! | to test a service where messages are lost or late | [`Workers::link`] |
+//! | a run as a script, that `kpart run` plays again | [`Recorder::open`] |
 //! | Kafka's error code for a refusal | [`Refusal::kafka_code`] |
 //! | a slow node out of the in-sync set | [`Workers::propose`], or [`Node::alter`] and [`Pass::decide`] |
 //!
@@ -93,6 +94,7 @@ mod links;
 mod message;
 mod node;
 mod record;
+mod recorder;
 mod records;
 mod segments;
 mod store;
@@ -112,6 +114,7 @@ pub use links::{Link, Place};
 pub use message::{Addressee, Message, Said};
 pub use node::Node;
 pub use record::{Header, Record, ShownRecords};
+pub use recorder::{Recorded, Recorder, RecorderFault};
 pub use records::{CommittedRecord, Records};
 pub use segments::{Segment, Segments};
 pub use store::{Journal, Store, StoreError, StoreFault, StoreFile, TornTail};

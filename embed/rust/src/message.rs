@@ -3,6 +3,7 @@
 use crate::cluster::Pass;
 use crate::error::{Error, Refusal};
 use crate::ffi::{RawMessage, SaidOut};
+use crate::recorder::noting::Post;
 use crate::values::{EpochEnd, Leadership};
 
 /// Whom a message goes to, or comes from.
@@ -78,12 +79,14 @@ fn place_of(number: u8) -> Addressee {
 pub struct Message {
     pub(crate) raw: RawMessage,
     to: Addressee,
+    // Of a cluster that is recorded.
+    pub(crate) post: Option<Post>,
 }
 
 impl Message {
     pub(crate) fn new(mut raw: RawMessage) -> Result<Message, Error> {
         let to = place_of(raw.addressee()?);
-        Ok(Message { raw, to })
+        Ok(Message { raw, to, post: None })
     }
 
     /// Whom it goes to.
@@ -140,7 +143,8 @@ impl Message {
     /// # Ok(()) }
     /// ```
     pub fn repeat(&mut self, pass: &mut Pass) -> Result<Message, Error> {
-        Message::new(self.raw.repeat(&mut pass.raw)?)
+        let post = self.post;
+        Ok(Message { post, ..Message::new(self.raw.repeat(&mut pass.raw)?)? })
     }
 
     /// What a record becomes by a decision on the proposal that this is ([`Node::alter`](crate::Node::alter)), so that a host can keep it

@@ -2,7 +2,8 @@
 
 use kpart::{
     AbortedTransaction, Ack, Addressee, Batch, BatchHead, Change, Cluster, CommittedRecord, EpochEnd, Error, Fetched, Isolation,
-    Leadership, Limits, Marker, Message, NodeState, OpenTransaction, Pass, ProducerState, Refusal, Role, Said, Segment, Status, TimeOffset,
+    Leadership, Limits, Marker, Message, NodeState, OpenTransaction, Pass, ProducerState, Recorder, RecorderFault, Refusal, Role, Said,
+    Segment, Status, TimeOffset,
 };
 
 const ONE_RECORD: &[u8] = include_bytes!("one_record.batch");
@@ -529,5 +530,28 @@ fn messages_say_what_they_are() -> Done {
     let request = cluster.node(1)?.ask()?;
     let mut answer = cluster.node(0)?.step(request)?.expect("a leader answers");
     assert_eq!(answer.said()?, Said::Batches { count: 1, watermark: 0 });
+    Ok(())
+}
+
+// Here no other test has a recorder.
+#[test]
+fn a_batch_from_before_the_recorder_ends_the_record() -> Done {
+    let mut early = Batch::new(ONE_RECORD)?;
+    let script = std::env::temp_dir().join(format!("kpart-early-{}.script", std::process::id()));
+    let (cluster, recorder) = Recorder::open(&script, 1, Limits::default()).expect("a script");
+    let mut pass = cluster.pass()?;
+    pass.elect(0)?;
+    cluster.node(0)?.adopt()?;
+    let mut late = Batch::new(ONE_RECORD)?;
+    cluster.node(0)?.produce_batch(&mut pass, &mut late)?;
+    assert_eq!(recorder.flush().expect("it goes on").events, 3);
+    cluster.node(0)?.produce_batch(&mut pass, &mut early)?;
+    let ended = recorder.stop();
+    drop(recorder);
+    let text = std::fs::read_to_string(&script).expect("it is there");
+    [Recorder::answers_of(&script), script].iter().for_each(|it| std::fs::remove_file(it).expect("it was there"));
+    let why = "a batch came that was made before there was a recorder".to_string();
+    assert!(text.ends_with(&format!("# the record ends: {why}\n")), "{text}");
+    assert_eq!(ended, Err(RecorderFault::NoLine(why)));
     Ok(())
 }
