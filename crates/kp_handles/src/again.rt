@@ -19,7 +19,7 @@ use crate::clusters::of_seats;
 use crate::handle::{Handle, Unnamed, put, take};
 use crate::left::{KeptIn, LeftNodes};
 use crate::misuse::Misuse;
-use crate::object::{Kind, Object, filled, room};
+use crate::object::{Kind, Object, boxed, filled, room};
 use crate::outs::LeadershipOut;
 use kp_board::{BoardName, OpenedAgain};
 use kp_control::{decided, elected};
@@ -88,15 +88,15 @@ pub fn keep<B: BoardName + Unnamed>(
     answer
 }
 
-// The nodes, if the object is such a place; else the object again.
-fn left_of<B: BoardName>(object: Object<B>) -> Result<LeftNodes, Object<B>>
-    ensures found { IfOk result (λ nodes. object ≡ left nodes) }
-    ensures other { IfErr result (λ back. back ≡ object) }
-    ensures no_left { OnErr result ((x : LeftView) → object ≡ left x → ⊥) }
+// The nodes that the object holds, if it is such a place; none are left in it then.
+fn left_in<B: BoardName>(alloc: Global, object: &mut Object<B>) -> Option<LeftNodes>
+    ensures found { IfSome result (λ nodes. object.old ≡ left nodes) }
+    ensures same { result ≡ None → object.new ≡ object.old }
+    ensures no_left { result ≡ None → (x : LeftView) → object.old ≡ left x → ⊥ }
 {
-    match object.into_kind() {
-        Kind::Left(nodes) => Ok(nodes),
-        kind => Err(Object { kind }),
+    match &mut object.kind {
+        Kind::Left(nodes) => Some(nodes.take(alloc)),
+        _ => None,
     }
 }
 
@@ -114,11 +114,9 @@ pub fn take_left<B: BoardName + Unnamed>(
     let Some(mut place) = take::<B>(alloc, handle) else {
         return Err(Misuse::Closed);
     };
-    let came = Box::replace(&mut place, Object { kind: Kind::Empty });
-    match left_of(came) {
-        Ok(nodes) => Ok(nodes),
-        Err(object) => {
-            Box::replace(&mut place, object);
+    match left_in(alloc, &mut place) {
+        Some(nodes) => Ok(nodes),
+        None => {
             put(handle, place);
             Err(Misuse::OtherKind)
         }
@@ -136,11 +134,8 @@ fn seated<B: BoardName>(
     ensures made { IfOk result (λ b. b.value ≡ cluster (length nodes.nodes) (left_seats opened.opening 0 nodes.nodes) 0) }
     ensures only { IfErr result (λ refusal. refusal ≡ Memory) }
 {
-    let Some(made) = room::<B>(alloc) else {
-        return Err(Refusal::Memory);
-    };
     match seat_again::<B>(alloc, opened, nodes.into_nodes()) {
-        Ok(seats) => Ok(filled(made, of_seats(seats))),
+        Ok(seats) => boxed(alloc, of_seats(seats)).ok_or(Refusal::Memory),
         Err(refusal) => Err(refusal),
     }
 }

@@ -17,6 +17,7 @@ use kp_replica::KeptNode;
 use kp_types::{Epoch, Limits, NodeId, Refusal};
 use std::alloc::Global;
 use std::marker::{Brand, Model};
+use std::mem::replace;
 
 /// What is kept of a node beside its log.
 #[repr(C)]
@@ -126,6 +127,14 @@ impl LeftNodes {
         let node = self.next_node(alloc, bytes, kept)?;
         self.nodes.push_reserved(node);
         Ok(())
+    }
+
+    /// These, of which it holds none then. O(1).
+    pub(crate) fn take(&mut self, alloc: Global) -> LeftNodes
+        ensures { result ≡ self.old }
+    {
+        let limits = self.limits;
+        replace(self, LeftNodes::new(alloc, &limits))
     }
 
     /// The nodes.

@@ -110,3 +110,10 @@ pub(crate) fn room<B: BoardName>(alloc: Global) -> Option<Box<Object<B>>>
         Err(_) => None,
     }
 }
+
+/// An object in room of its own; none where memory is refused, and the object is gone then.
+pub(crate) fn boxed<B: BoardName>(alloc: Global, object: Object<B>) -> Option<Box<Object<B>>>
+    ensures { IfSome result (λ b. b.value ≡ object) }
+{
+    Box::new(alloc, object).ok()
+}

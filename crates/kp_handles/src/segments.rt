@@ -9,7 +9,7 @@ use crate::calling::{Called, GivenByNode, put_made};
 use crate::handle::{Handle, Unnamed, is_open, put, take};
 use crate::holding::copy_front;
 use crate::misuse::Misuse;
-use crate::object::{Kind, Object, filled, room};
+use crate::object::{Kind, Object, boxed};
 use kp_batch::{Batch, share_all};
 use kp_board::BoardName;
 use kp_log::PartitionLog;
@@ -88,14 +88,14 @@ fn given<B: BoardName>(alloc: Global, share: &SegmentShare, to: &mut [u8]) -> Ca
     if to.len() < text.as_bytes().len() {
         return Err(Misuse::BadLength);
     }
-    let Some(made) = room::<B>(alloc) else {
-        return Err(Misuse::NoRoom);
-    };
     match share_all(alloc, &share.batches) {
         Ok(batches) => {
-            copy_front(text.as_bytes(), to)?;
             let kind = Kind::Batches(batches);
-            Ok(Ok(filled(made, Object { kind })))
+            let Some(made) = boxed(alloc, Object { kind }) else {
+                return Err(Misuse::NoRoom);
+            };
+            copy_front(text.as_bytes(), to)?;
+            Ok(Ok(made))
         }
         Err(refusal) => Ok(Err(refusal)),
     }
