@@ -178,23 +178,23 @@ pub fn next_elected(known: &LeadershipOut, node: NodeId) -> Called<LeaderAndIsr>
 
 // The record that stands once it is decided on the proposal.
 #[tactic(auto, using(crate::proofs::Elected::decides_next, crate::proofs::Elected::decides_none))]
-fn next_by(record: &LeaderAndIsr, proposal: &Proposal) -> Result<LeaderAndIsr, Refusal>
-    ensures { DecidesNext (record_of record.now) (proposal_of proposal.now) result }
+fn next_by(from: &LeaderAndIsr, proposal: &Proposal) -> Result<LeaderAndIsr, Refusal>
+    ensures { DecidesNext (record_of from.now) (proposal_of proposal.now) result }
 {
-    match decided(record, proposal) {
+    match decided(from, proposal) {
         Ok(made) => Ok(made.decided),
         Err(refusal) => Err(refusal),
     }
 }
 
 // What the record becomes by a decision on the proposal that the object is.
-fn decided_by<B: BoardName>(object: &Object<B>, record: &LeaderAndIsr) -> Called<LeaderAndIsr>
-    ensures next { IfOk result (λ answer. (p : SaidProposal) × IsProposal (Some object.now) p × DecidesNext (record_of record.now) (proposal_of p) answer) }
+fn decided_by<B: BoardName>(object: &Object<B>, from: &LeaderAndIsr) -> Called<LeaderAndIsr>
+    ensures next { IfOk result (λ answer. (p : SaidProposal) × IsProposal (Some object.now) p × DecidesNext (record_of from.now) (proposal_of p) answer) }
     ensures only { IfErr result (λ why. (why ≡ OtherKind) × ((p : SaidProposal) → IsProposal (Some object.now) p → ⊥)) }
 {
     match &object.kind {
         Kind::Message(message) => match &message.body {
-            MessageBody::Proposal(proposal) => Ok(next_by(record, proposal)),
+            MessageBody::Proposal(proposal) => Ok(next_by(from, proposal)),
             _ => Err(Misuse::OtherKind),
         },
         _ => Err(Misuse::OtherKind),

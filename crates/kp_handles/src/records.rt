@@ -116,17 +116,17 @@ fn aborted_of<B: BoardName>(object: &Object<B>) -> &[AbortedTransaction]
 // The record at the place, as it is told.
 fn told(
     batch: &Batch,
-    record: &Record<'_>,
+    found: &Record<'_>,
     at: RecordAt,
     next: RecordAt,
     aborted: &[AbortedTransaction],
 ) -> RecordOut
-    ensures { result ≡ record_out aborted.now at batch.now (lent record.now) next }
+    ensures { result ≡ record_out aborted.now at batch.now (lent found.now) next }
 {
     RecordOut {
         next,
         offset: batch.base_offset().saturating_add(u64::from(at.number)),
-        timestamp: record.timestamp,
+        timestamp: found.timestamp,
         producer_id: batch.producer_id().unwrap_or(u64::MAX),
         producer_epoch: batch.producer_epoch().unwrap_or(u16::MAX),
         shown: is_clear(batch, aborted),
@@ -183,14 +183,14 @@ fn header_part<'a>(headers: Headers<'a>, part: usize) -> Option<Option<&'a [u8]>
 }
 
 // The record's part of this number: its key, its value, and then those of its headers.
-fn part_of<'a>(record: &Record<'a>, part: usize) -> Option<Option<&'a [u8]>>
-    ensures { MatchOption result (slice_get (parts_of (lent record.now)) part ≡ None)
-        (λ found. slice_get (parts_of (lent record.now)) part ≡ Some (option_map (λ v. v.now) found)) }
+fn part_of<'a>(whole: &Record<'a>, part: usize) -> Option<Option<&'a [u8]>>
+    ensures { MatchOption result (slice_get (parts_of (lent whole.now)) part ≡ None)
+        (λ found. slice_get (parts_of (lent whole.now)) part ≡ Some (option_map (λ v. v.now) found)) }
 {
     match part {
-        0 => Some(record.key),
-        1 => Some(record.value),
-        _ => header_part(record.headers, part - 2),
+        0 => Some(whole.key),
+        1 => Some(whole.value),
+        _ => header_part(whole.headers, part - 2),
     }
 }
 
