@@ -30,6 +30,12 @@ class Fault(Exception):
         return f"kpart: {self.refusal}\nkpart: {folder}/{self.place}: {self.why}\n"
 
 
+def place_of(name):
+    """How a fault names the file of this name."""
+    found = re.fullmatch(r"(node-\d)/(\d{20})\.log", name)
+    return f"{found[1]}, the segment at offset {int(found[2])}" if found else name
+
+
 class State(NamedTuple):
     checkpoint: int
     life: int

@@ -11,7 +11,7 @@ may come (docs/FORMATS.md, 'The program'; docs/RULES.md, what stands after F32 a
 import errno
 import re
 
-from . import kept_files, left_folders, scripts
+from . import kept_files, left_folders, left_reader, scripts
 from .chances import lines
 from .compare import TOP
 from .decoder import inspect
@@ -217,9 +217,14 @@ class GoneOn(Run):
             left_folders.pause(self.world)
             self.kept = self.kept_by(world)
 
+    def places(self):
+        """What may fail, as a complaint names it: the folder, and each file in it."""
+        names = (at.removeprefix(f"{self.LEFT}/") for at in self.files if at.startswith(f"{self.LEFT}/"))
+        return [self.LEFT, *(f"{self.LEFT}/{left_reader.place_of(it)}" for it in names)]
+
     def is_refused_at_start(self, got, error):
-        """Whether the folder that is read failed, of which memory may be wanted before it has a reason."""
-        said = (complaint(error, self.LEFT), *[MEMORY] * (error == errno.ENOMEM))
+        """Whether the folder that is read failed, or a file in it; of memory that is wanted there no place is told."""
+        said = (*(complaint(error, it) for it in self.places()), *[MEMORY] * (error == errno.ENOMEM))
         return (got.out, got.status) == ("", 1) and got.err in said and dict(got.left) == self.taken
 
     def without_memory(self, got):

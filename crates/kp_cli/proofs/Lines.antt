@@ -9,9 +9,9 @@ use Rattle.kp_types.specs.declared.refusal.Refusal.{Refusal}
 use Rattle.kp_types.specs.declared.refusal.Refusal.TheVariants as refusals
 use Rattle.kp_folder.specs.Bad.{refusal_of as refusal_of_folder}
 use Rattle.kp_folder.specs.declared.fault.FolderFault.{FolderFault}
-use Rattle.kp_folder.specs.declared.fault.FolderFault.TheVariants.{Stopped}
+use Rattle.kp_folder.specs.declared.fault.FolderFault.TheVariants.{NoMemory}
 use Rattle.kp_cli.specs.Faults.{refusal_of}
-use Rattle.kp_cli.specs.Left.{fault_place, folder_complaint}
+use Rattle.kp_cli.specs.Left.{fault_place, fault_told, folder_complaint}
 use Rattle.kp_cli.specs.Program.{Explains, words_complaint, words_status}
 use Rattle.kp_cli.specs.Told.{Prints, complaint, reason_of, reason, shown, status_of_refusal}
 use Rattle.kp_cli.specs.declared.fault.Fault.{Fault}
@@ -101,13 +101,9 @@ by_pieces P a b c d e f g h i j a2 b2 c2 d2 e2 f2 g2 h2 i2 j2 is-a is-b is-c is-
 
 -- ---- a folder's fault
 
--- another stop than a device's
-pub other_stop : (from : List ℕ) (why : Fault) (refusal : Refusal) → (refusal ≡ refusals.Device → ⊥) → folder_complaint from why (Stopped refusal) ≡ complaint refusal
-other_stop from why refusals.Device other = absurd (other refl)
-other_stop from why _ other = append-nil _
-
 -- a fault that lies in a file
-pub other_fault : (from : List ℕ) (why : Fault) (fault : FolderFault) → ((refusal : Refusal) → fault ≡ Stopped refusal → ⊥)
-    → folder_complaint from why fault ≡ complaint (refusal_of_folder fault) ++ (codes "kpart: " ++ (shown from ++ fault_place fault))
-other_fault from why (Stopped refusal) other = absurd (other refusal refl)
+pub other_fault : (from : List ℕ) (why : Fault) (fault : FolderFault) → (fault ≡ NoMemory → ⊥)
+    → folder_complaint from why fault
+    ≡ complaint (refusal_of_folder fault) ++ (codes "kpart: " ++ (shown from ++ fault_place fault (codes ": " ++ (fault_told why fault ++ codes "\n"))))
+other_fault from why NoMemory other = absurd (other refl)
 other_fault from why _ other = refl

@@ -10,7 +10,8 @@ use Rattle.kp_types.specs.Folders.{Entry, Puts}
 use Rattle.kp_folder.specs.Bad.{refusal_of}
 use Rattle.kp_folder.specs.Files.{Files}
 use Rattle.kp_folder.specs.declared.fault.FolderFault.{FolderFault}
-use Rattle.kp_folder.specs.declared.fault.FolderFault.TheVariants.{BadBatch, BadFile, BadNode, Stopped}
+use Rattle.kp_folder.specs.declared.fault.FolderFault.TheVariants.{BadBatch, BadFile, BadNode, NoMemory, Unread}
+use Rattle.kp_folder.specs.declared.fault.KeptFile.{KeptFile}
 use Rattle.kp_folder.specs.declared.fault.KeptFile.TheVariants.{Record, Segment, State}
 use Rattle.kp_script.specs.Ended.{RunEnd, WritesTo}
 use Rattle.kp_script.specs.Kept.{KeepsStage, KeepsStageFront}
@@ -19,7 +20,8 @@ use Rattle.kp_script.specs.Transcript.{Writes, WritesFirst, WritesFront}
 use Rattle.kp_script.specs.declared.left.CutRun.{CutRun}
 use Rattle.kp_script.specs.declared.left.CutRun.TheVariants.{Folder, Run}
 use Rattle.kp_cli.specs.Perform.{CountsOneOfThree, Shelf, Streams, status_of}
-use Rattle.kp_cli.specs.Told.{complaint, file_complaint, reason, reason_of, shown, status_of_refusal}
+use Rattle.kp_cli.specs.Faults.{fault_text}
+use Rattle.kp_cli.specs.Told.{complaint, file_complaint, reason_of, shown, status_of_refusal}
 use Rattle.kp_cli.specs.declared.fault.Fault.{Fault}
 
 -- what is known of a folder that is read: which answers entering the one at a path may give, which files it has, and why the last of its
@@ -31,28 +33,33 @@ pub record Room (L : Type 0) : Type 1 where
 
 -- ---- what is told of a folder's fault
 
--- that no such file is there, or not as a run leaves it
-abbrev pub none_such : List ℕ
-none_such = codes ": it isn't there, or isn't what a run leaves\n"
+-- Behind the folder's path: where the file lies; and the rest.
+abbrev pub file_place : KeptFile → (rest : List ℕ) → List ℕ
+file_place Record rest = codes "/record" ++ rest
+file_place (State node) rest = codes "/node-" ++ (decimal node ++ (codes "/state" ++ rest))
+file_place (Segment node from) rest = codes "/node-" ++ (decimal node ++ (codes ", the segment at offset " ++ (decimal from ++ rest)))
 
--- where the segment of a node lies that begins at this offset
-abbrev pub segment_place : (node from : ℕ) → List ℕ → List ℕ
-segment_place node from rest = codes "/node-" ++ (decimal node ++ (codes ", the segment at offset " ++ (decimal from ++ rest)))
+-- Behind the folder's path: where the fault lies; and the rest.
+abbrev pub fault_place : FolderFault → (rest : List ℕ) → List ℕ
+fault_place (Unread file) rest = file_place file rest
+fault_place NoMemory rest = rest
+fault_place (BadFile file) rest = file_place file rest
+fault_place (BadBatch node from place refusal) rest = file_place (Segment node from) (codes ", byte " ++ (decimal place ++ rest))
+fault_place (BadNode node refusal) rest = codes "/node-" ++ (decimal node ++ rest)
 
--- Behind the folder's path: where the fault lies, and what it is.
-abbrev pub fault_place : FolderFault → List ℕ
-fault_place (Stopped refusal) = []
-fault_place (BadFile Record) = codes "/record" ++ none_such
-fault_place (BadFile (State node)) = codes "/node-" ++ (decimal node ++ (codes "/state" ++ none_such))
-fault_place (BadFile (Segment node from)) = segment_place node from none_such
-fault_place (BadBatch node from place refusal) = segment_place node from (codes ", byte " ++ (decimal place ++ codes ": no batch begins there\n"))
-fault_place (BadNode node refusal) = codes "/node-" ++ (decimal node ++ codes ": its log and its state are of no node\n")
+-- what it is
+abbrev pub fault_told : (why : Fault) → FolderFault → List ℕ
+fault_told why (Unread file) = fault_text why
+fault_told why NoMemory = []
+fault_told why (BadFile file) = codes "it isn't there, or isn't what a run leaves"
+fault_told why (BadBatch node from place refusal) = codes "no batch begins there"
+fault_told why (BadNode node refusal) = codes "its log and its state are of no node"
 
--- The second line: where in the folder at this path the fault lies; or why the folder can't be read; none where memory was refused.
+-- The second line: where in the folder at this path the fault lies, and what it is, of a file that can't be read why; none where memory was
+-- refused.
 abbrev pub folder_line : (from : List ℕ) → Fault → FolderFault → List ℕ
-folder_line from why (Stopped refusals.Device) = reason from why
-folder_line from why (Stopped _) = []
-folder_line from why fault = codes "kpart: " ++ (shown from ++ fault_place fault)
+folder_line from why NoMemory = []
+folder_line from why fault = codes "kpart: " ++ (shown from ++ fault_place fault (codes ": " ++ (fault_told why fault ++ codes "\n")))
 
 -- both lines
 abbrev pub folder_complaint : (from : List ℕ) → Fault → FolderFault → List ℕ

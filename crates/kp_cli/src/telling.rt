@@ -1,13 +1,13 @@
 //! What is said on standard error.
 
-ghost use Rattle.std.specs.Prelude.{◌≡◌, ◌+◌, ◌<◌, ◌≤◌, ◌^◌, ◌++◌, length, IfOk, OnOk, OnErr, codes};
+ghost use Rattle.std.specs.Prelude.{◌≡◌, ◌+◌, ◌<◌, ◌≤◌, ◌^◌, ◌++◌, ℕ, List, length, IfOk, OnOk, OnErr, codes};
 ghost use Rattle.arrayvec.specs.ArrayVec.{array_vec_len};
 ghost use Rattle.kp_types.specs.Devices.{IsBegun, IsOut, Tells, faults_of};
 ghost use Rattle.kp_types.specs.Texts.{place_of, place_text};
 ghost use Rattle.kp_cli.specs.Program.{words_complaint, words_status};
 ghost use Rattle.kp_cli.specs.Told.{complaint, file_complaint, hex_digit, is_plain, lone_reason, reason, reason_of, shown, shown_byte, shown_bytes, tame_byte, tamed};
 ghost use Rattle.kp_cli.specs.Told.{status_of_refusal};
-ghost use Rattle.kp_cli.specs.Left.{fault_place, folder_complaint};
+ghost use Rattle.kp_cli.specs.Left.{fault_place, fault_told, file_place, folder_complaint};
 ghost use Rattle.kp_folder.specs.Bad.{refusal_of as refusal_of_folder};
 
 use crate::devices::Explained;
@@ -212,13 +212,12 @@ pub(crate) fn refuse_path<E: Write>(err: &mut Counted<E>, path: &str, fault: Fau
     1
 }
 
-/// Where in a folder a fault lies, and what it is, in pieces: three words, each with a number behind it or nothing, and the rest.
+/// Where in a folder a fault lies, in pieces: three words, each with a number behind it or nothing.
 #[derive(Clone, Copy)]
 struct Lies<'b> {
     node: (&'static str, &'b str),
     segment: (&'static str, &'b str),
     byte: (&'static str, &'b str),
-    what: &'static str,
 }
 
 /// Memory for the digits of its numbers.
@@ -229,63 +228,80 @@ struct Digits {
     byte: Buffer,
 }
 
-/// Where a fault lies that no run leaves.
-fn lies_at<'b>(fault: FolderFault, digits: &'b mut Digits) -> Lies<'b>
-    ensures { result.node.0.now ++ (result.node.1.now ++ (result.segment.0.now ++ (result.segment.1.now
-        ++ (result.byte.0.now ++ (result.byte.1.now ++ result.what.now))))) ≡ fault_place fault }
+/// Where a file of a folder lies.
+fn file_at<'b>(file: KeptFile, digits: &'b mut Digits) -> Lies<'b>
+    ensures { (rest : List ℕ) → result.node.0.now ++ (result.node.1.now ++ (result.segment.0.now ++ (result.segment.1.now
+        ++ (result.byte.0.now ++ (result.byte.1.now ++ rest))))) ≡ file_place file rest }
 {
-    let none_such = ": it isn't there, or isn't what a run leaves\n";
-    match fault {
-        FolderFault::Stopped(_) => Lies {
-            node: ("", ""),
-            segment: ("", ""),
-            byte: ("", ""),
-            what: "",
-        },
-        FolderFault::BadFile(KeptFile::Record) => Lies {
+    match file {
+        KeptFile::Record => Lies {
             node: ("/record", ""),
             segment: ("", ""),
             byte: ("", ""),
-            what: none_such,
         },
-        FolderFault::BadFile(KeptFile::State(number)) => Lies {
+        KeptFile::State(number) => Lies {
             node: ("/node-", digits.node.format(number)),
             segment: ("/state", ""),
             byte: ("", ""),
-            what: none_such,
         },
-        FolderFault::BadFile(KeptFile::Segment(number, from)) => Lies {
+        KeptFile::Segment(number, from) => Lies {
             node: ("/node-", digits.node.format(number)),
             segment: (", the segment at offset ", digits.offset.format(from)),
             byte: ("", ""),
-            what: none_such,
         },
+    }
+}
+
+/// Where a fault of a folder lies.
+fn lies_at<'b>(fault: FolderFault, digits: &'b mut Digits) -> Lies<'b>
+    ensures { (rest : List ℕ) → result.node.0.now ++ (result.node.1.now ++ (result.segment.0.now ++ (result.segment.1.now
+        ++ (result.byte.0.now ++ (result.byte.1.now ++ rest))))) ≡ fault_place fault rest }
+{
+    match fault {
+        FolderFault::NoMemory => Lies {
+            node: ("", ""),
+            segment: ("", ""),
+            byte: ("", ""),
+        },
+        FolderFault::Unread(file) | FolderFault::BadFile(file) => file_at(file, digits),
         FolderFault::BadBatch(number, from, place, _) => Lies {
             node: ("/node-", digits.node.format(number)),
             segment: (", the segment at offset ", digits.offset.format(from)),
             byte: (", byte ", digits.byte.format(place)),
-            what: ": no batch begins there\n",
         },
         FolderFault::BadNode(number, _) => Lies {
             node: ("/node-", digits.node.format(number)),
             segment: ("", ""),
             byte: ("", ""),
-            what: ": its log and its state are of no node\n",
         },
     }
 }
 
-/// Says what was refused, and on a second line where in the folder at this path the fault lies, by one write.
+/// What a fault of a folder is; of a file that can't be read this reason.
+fn told_of(why: Fault, fault: FolderFault) -> &'static str
+    ensures { result.now ≡ fault_told why fault }
+{
+    match fault {
+        FolderFault::Unread(_) => why.text(),
+        FolderFault::NoMemory => "",
+        FolderFault::BadFile(_) => "it isn't there, or isn't what a run leaves",
+        FolderFault::BadBatch(_, _, _, _) => "no batch begins there",
+        FolderFault::BadNode(_, _) => "its log and its state are of no node",
+    }
+}
+
+/// Says what was refused, and on a second line where in the folder at this path the fault lies, and what it is, by one write.
 fn complain_within<E: Write>(
     err: &mut Counted<E>,
     path: &str,
+    why: Fault,
     fault: FolderFault,
 ) -> Result<(), Refusal>
     requires { faults_of err.old + 1 < 2 ^ 64 }
-    ensures ok { OnOk result (IsOut E.contents err.old err.new
-        (complaint (refusal_of_folder fault) ++ (codes "kpart: " ++ (shown path.now ++ fault_place fault)))) }
-    ensures err { OnErr result (IsBegun E.contents err.old err.new
-        (complaint (refusal_of_folder fault) ++ (codes "kpart: " ++ (shown path.now ++ fault_place fault)))) }
+    ensures ok { OnOk result (IsOut E.contents err.old err.new (complaint (refusal_of_folder fault) ++ (codes "kpart: "
+        ++ (shown path.now ++ fault_place fault (codes ": " ++ (fault_told why fault ++ codes "\n")))))) }
+    ensures err { OnErr result (IsBegun E.contents err.old err.new (complaint (refusal_of_folder fault) ++ (codes "kpart: "
+        ++ (shown path.now ++ fault_place fault (codes ": " ++ (fault_told why fault ++ codes "\n")))))) }
 {
     let mut buffer = Buffer::new();
     let mut digits = Digits {
@@ -310,12 +326,14 @@ fn complain_within<E: Write>(
         lies.segment.1.as_bytes(),
         lies.byte.0.as_bytes(),
         lies.byte.1.as_bytes(),
-        lies.what.as_bytes(),
+        ": ".as_bytes(),
+        told_of(why, fault).as_bytes(),
+        "\n".as_bytes(),
     ])
 }
 
-/// Says on standard error why what a folder has isn't gone on with, and on a second line where in it the fault lies, or, where the folder
-/// can't be read, why; `why` is the reason of the last call of it that failed. Answers the exit status.
+/// Says on standard error why what a folder has isn't gone on with, and on a second line where in it the fault lies, and what it is;
+/// `why` is the reason of the last call of the folder that failed. Answers the exit status.
 pub(crate) fn refuse_folder<E: Write>(
     err: &mut Counted<E>,
     path: &str,
@@ -327,13 +345,9 @@ pub(crate) fn refuse_folder<E: Write>(
     ensures status { result ≡ status_of_refusal (refusal_of_folder fault) }
 {
     match fault {
-        FolderFault::Stopped(Refusal::Device) => {
-            let _ = complain_at(err, Refusal::Device, path, why);
-            1
-        }
-        FolderFault::Stopped(refusal) => refuse(err, refusal),
+        FolderFault::NoMemory => refuse(err, Refusal::Memory),
         _ => {
-            let _ = complain_within(err, path, fault);
+            let _ = complain_within(err, path, why, fault);
             status_of(fault.refusal())
         }
     }

@@ -59,7 +59,8 @@ one_node_more files limits count nodes new m x some has low is new_is =
     length_push [] y = refl
     length_push (z ∷ zs) y = ap suc (length_push zs y) ∙ omega arith
 
-length_again : (limits : Limits) (k : ℕ) (xs : List LeftNode) → length (nodes_again limits k xs) ≡ length xs
+-- nodes that begin again are as many as they were
+pub length_again : (limits : Limits) (k : ℕ) (xs : List LeftNode) → length (nodes_again limits k xs) ≡ length xs
 length_again limits k [] = refl
 length_again limits k (x ∷ xs) = ap suc (length_again limits (k + 1) xs)
 

@@ -1,8 +1,7 @@
 -- What of a folder is at fault, so that no run has left it (own rule).
 use Rattle.std.specs.Prelude.{◌≡◌, ◌≢◌, ◌⊎◌, ℕ, ◌+◌, ◌<◌, ◌≤◌, ◌^◌, List, [], length, map, Option, Some, None}
-use Rattle.kp_types.specs.Devices.{IsDeviceFault}
 use Rattle.kp_types.specs.declared.refusal.Refusal.{Refusal}
-use Rattle.kp_types.specs.declared.refusal.Refusal.TheVariants.{BadFolder, RecordFull}
+use Rattle.kp_types.specs.declared.refusal.Refusal.TheVariants.{BadFolder, Device, Memory, RecordFull}
 use Rattle.kp_batch.specs.Batch.{Written}
 use Rattle.kp_model.specs.Epochs.{epoch_cache}
 use Rattle.kp_model.specs.Left.{LeftNode}
@@ -14,19 +13,21 @@ use Rattle.kp_texts.specs.Texts.{StateText}
 use Rattle.kp_folder.specs.Files.{Files, segment_path}
 use Rattle.kp_folder.specs.Left.{AreSegments, HasBatches, HasRecord, HasState, HaveNodes, IsSegment, end_behind, starts_of}
 use Rattle.kp_folder.specs.declared.fault.FolderFault.{FolderFault}
-use Rattle.kp_folder.specs.declared.fault.FolderFault.TheVariants.{Stopped, BadFile, BadBatch, BadNode}
+use Rattle.kp_folder.specs.declared.fault.FolderFault.TheVariants.{Unread, NoMemory, BadFile, BadBatch, BadNode}
 use Rattle.kp_folder.specs.declared.fault.KeptFile.TheVariants.{Record, State, Segment}
 
 -- the refusal that a fault is
 abbrev pub refusal_of : FolderFault → Refusal
-refusal_of (Stopped refusal) = refusal
+refusal_of (Unread file) = Device
+refusal_of NoMemory = Memory
 refusal_of (BadFile file) = BadFolder
 refusal_of (BadBatch node from place refusal) = refusal
 refusal_of (BadNode node refusal) = refusal
 
 -- it couldn't be read: F32, F33
 abbrev pub IsStop : FolderFault → Type 0
-IsStop (Stopped refusal) = IsDeviceFault refusal
+IsStop (Unread file) = Unit {0}
+IsStop NoMemory = Unit {0}
 IsStop _ = ⊥
 
 -- no record of so many nodes is said

@@ -19,8 +19,10 @@ pub enum KeptFile {
 /// Why a folder isn't read: what no run has left, or that it can't be read.
 #[derive(Clone, Copy)]
 pub enum FolderFault {
-    /// F32 where a file can't be read, F33 where memory was refused.
-    Stopped(Refusal),
+    /// F32: the file can't be read.
+    Unread(KeptFile),
+    /// F33.
+    NoMemory,
     /// F35: the file isn't there, or doesn't say what such a file says, or doesn't go with the others.
     BadFile(KeptFile),
     /// The batch of a node's segment, of which this is the first offset, that begins at this byte is none (F1 to F10).
@@ -36,10 +38,10 @@ impl FolderFault {
         ensures { result ≡ refusal_of self.now }
     {
         match self {
+            FolderFault::Unread(_) => Refusal::Device,
+            FolderFault::NoMemory => Refusal::Memory,
             FolderFault::BadFile(_) => Refusal::BadFolder,
-            FolderFault::Stopped(refusal)
-            | FolderFault::BadBatch(_, _, _, refusal)
-            | FolderFault::BadNode(_, refusal) => *refusal,
+            FolderFault::BadBatch(_, _, _, refusal) | FolderFault::BadNode(_, refusal) => *refusal,
         }
     }
 }

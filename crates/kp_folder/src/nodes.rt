@@ -90,7 +90,7 @@ fn node_of(
                 Err(FolderFault::BadFile(KeptFile::State(node)))
             }
         }
-        Err(Refusal::Memory) => Err(FolderFault::Stopped(Refusal::Memory)),
+        Err(Refusal::Memory) => Err(FolderFault::NoMemory),
         Err(refusal) => Err(FolderFault::BadNode(node, refusal)),
     }
 }
@@ -136,7 +136,7 @@ fn read_nodes<F: ReadFolder>(
     for node in 0..count {
         let kept = read_node(alloc, folder, limits, node)?;
         let Ok(()) = nodes.push(kept) else {
-            return Err(FolderFault::Stopped(Refusal::Memory));
+            return Err(FolderFault::NoMemory);
         };
     }
     Ok(nodes)

@@ -6,7 +6,7 @@ ghost use Rattle.kp_folder.specs.Bad.{IsStop, NoRecord};
 ghost use Rattle.kp_folder.specs.Left.{HasRecord};
 
 use crate::fault::{FolderFault, KeptFile};
-use crate::root::ReadFolder;
+use crate::root::{ReadFolder, read_file};
 use kp_model::LeaderAndIsr;
 use kp_texts::record_of;
 use kp_types::NodeId;
@@ -26,10 +26,10 @@ pub(crate) fn read_record<F: ReadFolder>(
 {
     kp_texts::texts_say_one_value();
     let bad = FolderFault::BadFile(KeptFile::Record);
-    let bytes = match folder.file(alloc, "record") {
+    let bytes = match read_file(alloc, folder, KeptFile::Record, "record") {
         Ok(Some(bytes)) => bytes,
         Ok(None) => return Err(bad),
-        Err(refusal) => return Err(FolderFault::Stopped(refusal)),
+        Err(fault) => return Err(fault),
     };
     let Some(kept) = record_of(&bytes) else {
         return Err(bad);

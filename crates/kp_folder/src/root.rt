@@ -1,5 +1,10 @@
 //! A folder that is read.
 
+ghost use Rattle.std.specs.Prelude.{◌≡◌, IfErr, IfOk};
+ghost use Rattle.kp_folder.specs.Bad.{IsStop};
+ghost use Rattle.kp_folder.specs.Files.{IsFile};
+
+use crate::fault::{FolderFault, KeptFile};
 use kp_types::Refusal;
 use std::alloc::Global;
 
@@ -17,4 +22,22 @@ pub trait ReadFolder {
         ensures found { IfOk result (IsFile (files self.old) name.now) }
         ensures same { files self.new ≡ files self.old }
         ensures only { IfErr result IsDeviceFault };
+}
+
+// The bytes of this file, which has this name.
+pub(crate) fn read_file<F: ReadFolder>(
+    alloc: Global,
+    folder: &mut F,
+    file: KeptFile,
+    name: &str,
+) -> Result<Option<Vec<u8>>, FolderFault>
+    ensures found { IfOk result (IsFile (F.files folder.old) name.now) }
+    ensures fault { IfErr result IsStop }
+    ensures same { F.files folder.new ≡ F.files folder.old }
+{
+    match folder.file(alloc, name) {
+        Ok(bytes) => Ok(bytes),
+        Err(Refusal::Memory) => Err(FolderFault::NoMemory),
+        Err(_) => Err(FolderFault::Unread(file)),
+    }
 }

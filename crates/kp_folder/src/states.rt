@@ -1,7 +1,6 @@
 //! The reader of a node's state.
 
 ghost use Rattle.std.specs.Prelude.{◌≡◌, ◌⊎◌, Some, IfErr, IfOk, IfSome, string_bytes};
-ghost use Rattle.kp_types.specs.Devices.{IsDeviceFault};
 ghost use Rattle.kp_types.specs.declared.refusal.Refusal.TheVariants.{Memory};
 ghost use Rattle.kp_texts.specs.Seen.{seen_state};
 ghost use Rattle.kp_folder.specs.Bad.{IsStop, NoState};
@@ -9,7 +8,7 @@ ghost use Rattle.kp_folder.specs.Files.{IsFile, state_name};
 ghost use Rattle.kp_folder.specs.Left.{HasState};
 
 use crate::fault::{FolderFault, KeptFile};
-use crate::root::ReadFolder;
+use crate::root::{ReadFolder, read_file};
 use kp_texts::{StateText, state_of};
 use kp_types::{NodeId, Refusal};
 use std::alloc::Global;
@@ -28,13 +27,15 @@ fn state_file<F: ReadFolder>(
     alloc: Global,
     folder: &mut F,
     node: NodeId,
-) -> Result<Option<Vec<u8>>, Refusal>
+) -> Result<Option<Vec<u8>>, FolderFault>
     ensures found { IfOk result (IsFile (F.files folder.old) (state_name node)) }
+    ensures fault { IfErr result IsStop }
     ensures same { F.files folder.new ≡ F.files folder.old }
-    ensures only { IfErr result IsDeviceFault }
 {
-    let name = name_of_state(alloc, node)?;
-    folder.file(alloc, &name)
+    let Ok(name) = name_of_state(alloc, node) else {
+        return Err(FolderFault::NoMemory);
+    };
+    read_file(alloc, folder, KeptFile::State(node), &name)
 }
 
 /// What is kept of a node beside its log.
@@ -50,14 +51,12 @@ pub(crate) fn read_state<F: ReadFolder>(
     ensures same { F.files folder.new ≡ F.files folder.old }
 {
     let bad = FolderFault::BadFile(KeptFile::State(node));
-    let bytes = match state_file(alloc, folder, node) {
-        Ok(Some(bytes)) => bytes,
-        Ok(None) => return Err(bad),
-        Err(refusal) => return Err(FolderFault::Stopped(refusal)),
+    let Some(bytes) = state_file(alloc, folder, node)? else {
+        return Err(bad);
     };
     match state_of(alloc, &bytes) {
         Ok(Some(state)) => Ok(state),
         Ok(None) => Err(bad),
-        Err(_) => Err(FolderFault::Stopped(Refusal::Memory)),
+        Err(_) => Err(FolderFault::NoMemory),
     }
 }

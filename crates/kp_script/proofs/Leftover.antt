@@ -9,6 +9,7 @@ use Rattle.kp_types.specs.declared.refusal.Refusal.{Refusal}
 use Rattle.kp_model.specs.Event.{Event}
 use Rattle.kp_model.specs.World.{LeaderAndIsr}
 use Rattle.kp_model.specs.Left.{LeftBehind, LeftNode, again, left_node, nothing_left}
+use Rattle.kp_folder.proofs.NodeRows.{length_again}
 use Rattle.kp_folder.specs.Files.{Files}
 use Rattle.kp_folder.specs.Left.{HasLeft, HasRecord, HaveLives, nodes_again}
 use Rattle.kp_folder.specs.declared.fault.FolderFault.{FolderFault}
@@ -84,10 +85,6 @@ again_at limits from (x ∷ xs) (suc k) m h =
     let same : from + 1 + k ≡ from + suc k = omega arith in
     again_at limits (from + 1) xs k m (omega (arith, h)) ∙ (λ i. record { number = same i; limits = limits; state = again (slice_index_or xs k nothing_left) })
 
-many_again : (limits : Limits) (from : ℕ) (xs : List LeftNode) → length (nodes_again limits from xs) ≡ length xs
-many_again limits from [] = refl
-many_again limits from (x ∷ xs) = ap suc (many_again limits (from + 1) xs)
-
 -- the world of the nodes that were read begins with what was left
 pub begins_again : (limits : Limits) (x : LeftBehind) (sent : ℕ) (nodes : List NumberedNode) (w : Stage) → nodes ≡ nodes_again limits 0 x.nodes
     → w ≡ record { controller = x.controller; nodes = nodes; first = sent; letters = [] } → BeginsAgain limits x sent w
@@ -95,7 +92,7 @@ begins_again limits x sent nodes w are is =
     let same : w.nodes ≡ nodes_again limits 0 x.nodes = ap (λ (s : Stage). s.nodes) is ∙ are in
     record {
       controller_is = ap (λ (s : Stage). s.controller) is;
-      count = ap length same ∙ many_again limits 0 x.nodes;
+      count = ap length same ∙ length_again limits 0 x.nodes;
       nodes = λ k m inside.
           let number : 0 + k ≡ k = omega arith in
           ap (λ (ns : List NumberedNode). slice_index_or ns k m) same ∙ again_at limits 0 x.nodes k m inside ∙ (λ i. record { number = number i; limits = limits; state = again (left_node x k) });
@@ -148,7 +145,7 @@ world_begun (Some files) limits header messages first controller nodes w of said
       left = x;
       has = subst (λ (m : ℕ × Option ℕ). HasLeft files m.0 x m.1) (λ i. ((of i).max_batch, said i)) read.1;
       lives = read.2;
-      count = sym (many_again limits 0 x.nodes) ∙ sym (ap length read.4) ∙ many;
+      count = sym (length_again limits 0 x.nodes) ∙ sym (ap length read.4) ∙ many;
       begins = subst (λ (l : Limits). BeginsAgain l x first w) of (begins_again limits x first nodes w read.4 whole);
     }
 
@@ -158,7 +155,7 @@ pub no_number : (known : Option Files) (limits : Limits) (count : ℕ) (messages
 no_number None limits count messages controller nodes fault is said many read = tt
 no_number (Some files) limits count messages controller nodes fault is said many read =
     let x : LeftBehind = read.0 in
-    let long : length x.nodes ≡ count = sym (many_again limits 0 x.nodes) ∙ sym (ap length read.4) ∙ many in
+    let long : length x.nodes ≡ count = sym (length_again limits 0 x.nodes) ∙ sym (ap length read.4) ∙ many in
     (is, (x.controller, subst (λ (m : ℕ × Option ℕ). HasRecord files m.0 x.controller m.1) (λ i. (long i, said i)) read.1.record_is))
 
 pub of_the_script : (known : Option Files) (input : Option (List ℕ)) (line : ℕ) → IfSome input (λ bytes. IsFaultAt bytes line) → IsLineFault known input line

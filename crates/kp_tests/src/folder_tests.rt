@@ -7,7 +7,7 @@ use std::alloc::{AllocError, Global};
 
 type File = (&'static str, &'static [u8]);
 
-// Files in memory.
+// Files in memory. One without bytes can't be read.
 #[derive(Drop)]
 struct Files {
     all: &'static [File],
@@ -17,6 +17,9 @@ impl ReadFolder for Files {
     fn file(&mut self, alloc: Global, name: &str) -> Result<Option<Vec<u8>>, Refusal> {
         for (own, bytes) in self.all {
             if *own == name {
+                if bytes.is_empty() {
+                    return Err(Refusal::Device);
+                }
                 return Ok(Some(Vec::from_slice(alloc, bytes)?));
             }
         }
@@ -111,6 +114,14 @@ static FOLDERS: [&[File]; 8] = [
         ("node-0/00000000000000000000.log", FIRST),
         ("node-0/00000000000000000001.log", SECOND),
     ],
+    &[("record", b""), ("node-0/state", STATE)],
+    &[("record", RECORD), ("node-0/state", b"")],
+    &[
+        ("record", RECORD),
+        ("node-0/state", STATE),
+        ("node-0/00000000000000000000.log", FIRST),
+        ("node-0/00000000000000000001.log", b""),
+    ],
 ];
 
 fn push_file(text: &mut String, file: KeptFile) -> Result<(), AllocError> {
@@ -124,8 +135,8 @@ fn push_file(text: &mut String, file: KeptFile) -> Result<(), AllocError> {
 fn push_fault(text: &mut String, fault: FolderFault) -> Result<(), AllocError> {
     write!(text, "{}", fault.refusal())?;
     match fault {
-        FolderFault::Stopped(_) => text.push('\n'),
-        FolderFault::BadFile(file) => push_file(text, file),
+        FolderFault::NoMemory => text.push('\n'),
+        FolderFault::Unread(file) | FolderFault::BadFile(file) => push_file(text, file),
         FolderFault::BadBatch(node, from, place, _) => {
             writeln!(text, " at {place} of segment {from} of {node}")
         }
@@ -162,6 +173,7 @@ fn a_folder_is_read(rt: HostRuntime) {
         &rt,
         all_read(rt.alloc()),
         "version 3, life 7 end 2 mark 1, sent 4\nF35 BadFolder record\nF35 BadFolder state of 0\nF35 BadFolder segment 1 of 0\n\
-         F4 BadCrc at 0 of segment 1 of 0\nF35 BadFolder state of 0\nF35 BadFolder segment 1 of 0\nF24 RecordFull of 0\n",
+         F4 BadCrc at 0 of segment 1 of 0\nF35 BadFolder state of 0\nF35 BadFolder segment 1 of 0\nF24 RecordFull of 0\n\
+         F32 Device record\nF32 Device state of 0\nF32 Device segment 1 of 0\n",
     );
 }
