@@ -1,6 +1,6 @@
 //! JoinGroup, SyncGroup, Heartbeat, LeaveGroup, OffsetCommit, OffsetFetch, DescribeGroups, ListGroups.
 
-use crate::members::{CommittedOffset, Described, Join, Joined, LONGEST_METADATA, Peer, Who};
+use crate::members::{CommittedOffset, Described, Join, LONGEST_METADATA, Peer, Who};
 use crate::reply::{Call, Close, Reply};
 use kwire::ErrorCode;
 use kwire::groups::describe_groups::{DescribeGroupsRequest, DescribeGroupsResponse, DescribedGroup, DescribedMember};
@@ -17,13 +17,24 @@ use kwire::offsets::offset_fetch::{
 };
 use std::collections::BTreeMap;
 
+/// From this version on a member joins by an id that it was given (KIP-394).
+const BY_ID: i16 = 4;
+
 /// Waits for the group's next generation.
 pub fn join_group(call: &mut Call<'_>, request: &JoinGroupRequest<'_>, reply: Reply<'_>) -> Result<(), Close> {
+    let version = call.version;
+    let mut given = None;
     let joined = match call.check_coordinator() {
-        Ok(()) => join(call, request).ok_or(Close::Quiet)?.map_err(i16::from),
+        Ok(()) if version >= BY_ID && request.member_id.is_empty() && request.group_instance_id.is_none() => {
+            let id = call.hub.groups.give_id(&joining(call, request));
+            Err(id.map_or_else(i16::from, |id| {
+                given = Some(id);
+                ErrorCode::MemberIdRequired.into()
+            }))
+        }
+        Ok(()) => call.hub.groups.join(joining(call, request), || call.is_off()).ok_or(Close::Quiet)?.map_err(i16::from),
         Err(code) => Err(code),
     };
-    let version = call.version;
     match &joined {
         Ok(joined) => reply.send(&JoinGroupResponse {
             generation_id: joined.generation,
@@ -37,7 +48,7 @@ pub fn join_group(call: &mut Call<'_>, request: &JoinGroupRequest<'_>, reply: Re
         Err(code) => reply.send(&JoinGroupResponse {
             error_code: *code,
             protocol_name: if version >= 7 { None } else { Some("") },
-            member_id: request.member_id,
+            member_id: given.as_deref().unwrap_or(request.member_id),
             ..JoinGroupResponse::default()
         }),
     }
@@ -47,8 +58,8 @@ fn peer(it: &Peer) -> JoinedMember<'_> {
     JoinedMember { member_id: &it.member, group_instance_id: it.instance.as_deref(), metadata: &it.metadata }
 }
 
-fn join(call: &Call<'_>, request: &JoinGroupRequest<'_>) -> Option<Result<Joined, ErrorCode>> {
-    let join = Join {
+fn joining<'a>(call: &'a Call<'_>, request: &'a JoinGroupRequest<'a>) -> Join<'a> {
+    Join {
         group: request.group_id,
         who: Who { member: request.member_id, instance: request.group_instance_id },
         client: (call.client, call.peer),
@@ -56,8 +67,7 @@ fn join(call: &Call<'_>, request: &JoinGroupRequest<'_>) -> Option<Result<Joined
         session: request.session_timeout_ms,
         rebalance: if call.version >= 1 { request.rebalance_timeout_ms } else { request.session_timeout_ms },
         protocols: request.protocols.iter().map(|it| (it.name.to_string(), it.metadata.to_vec())).collect(),
-    };
-    call.hub.groups.join(join, || call.is_off())
+    }
 }
 
 /// Waits for the assignment, which the leader hands in.

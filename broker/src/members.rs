@@ -96,6 +96,8 @@ struct Group {
     state: State,
     generation: i32,
     members: BTreeMap<String, Member>,
+    /// Ids that were given, and whose members have to join by them until then (KIP-394).
+    given: BTreeMap<String, Instant>,
     leader: String,
     protocol: String,
     kind: String,
@@ -385,6 +387,27 @@ impl Groups {
         all.get_mut(name).ok_or(ErrorCode::InvalidGroupId)
     }
 
+    /// The id by which a member has to join that has none: so one whose answer is lost comes back as the same one, and nobody waits for another one.
+    pub fn give_id(&self, join: &Join<'_>) -> Result<String, ErrorCode> {
+        check_join(join)?;
+        let mut all = lock(&self.all);
+        let group = self.entry(&mut all, join.group)?;
+        if !group.goes_with(join, "") {
+            return Err(ErrorCode::InconsistentGroupProtocol);
+        }
+        if group.members.len() + group.given.len() >= self.most_members {
+            return Err(ErrorCode::GroupMaxSizeReached);
+        }
+        let id = self.fresh(&Member::of(join).client);
+        group.given.insert(id.clone(), Instant::now() + millis(join.session));
+        Ok(id)
+    }
+
+    /// A member's id, which no other one has.
+    fn fresh(&self, name: &str) -> String {
+        format!("{name}-{}", self.next.fetch_add(1, SeqCst))
+    }
+
     /// Joins the next generation, and waits for it. `None` where the node goes down meanwhile.
     pub fn join(&self, join: Join<'_>, is_off: impl Fn() -> bool) -> Option<Result<Joined, ErrorCode>> {
         let mut all = lock(&self.all);
@@ -410,7 +433,13 @@ impl Groups {
             if has_begun || is_off() {
                 own.waiting = own.waiting.saturating_sub(1);
                 own.seen = Instant::now();
-                return has_begun.then(|| Ok(group.joined(&member)));
+                if has_begun {
+                    return Some(Ok(group.joined(&member)));
+                }
+                if join.who.member.is_empty() && instance.is_none() {
+                    group.members.remove(&member); // nobody was told its id, so it never comes back
+                }
+                return None;
             }
             all = self.wait(all);
         }
@@ -422,7 +451,8 @@ impl Groups {
         let Who { member, instance } = join.who;
         // A static member that has lost its id has that of whoever has its name.
         let place = if member.is_empty() { instance.and_then(|it| group.holder(it)).cloned() } else { Some(member.to_string()) };
-        if !member.is_empty() {
+        let is_given = group.given.contains_key(member);
+        if !member.is_empty() && !is_given {
             group.check_member(join.who)?;
         }
         if !group.goes_with(join, place.as_deref().unwrap_or_default()) {
@@ -436,8 +466,8 @@ impl Groups {
         }
         group.kind = join.kind.to_string();
         let mut new = Member::of(join);
-        let fresh = || format!("{}-{}", instance.unwrap_or(&new.client), self.next.fetch_add(1, SeqCst));
-        let member = if member.is_empty() { fresh() } else { member.to_string() };
+        group.given.remove(member);
+        let member = if member.is_empty() { self.fresh(instance.unwrap_or(&new.client)) } else { member.to_string() };
         if let Some(old) = place.filter(|it| *it != member) {
             return Ok(group.replace(&old, member, new));
         }
@@ -595,7 +625,8 @@ impl Groups {
     pub fn expire(&self) {
         let mut all = lock(&self.all);
         for (name, group) in all.iter_mut() {
-            let before = group.members.len();
+            let (before, now) = (group.members.len(), Instant::now());
+            group.given.retain(|_, until| *until > now);
             group.members.retain(|_, it| it.waiting > 0 && group.state == State::Joining || it.seen.elapsed() < it.session);
             if group.members.len() < before {
                 group.rebalance();
@@ -605,7 +636,7 @@ impl Groups {
             }
         }
         all.retain(|name, it| {
-            let stays = it.state != State::Empty || !it.offsets.is_empty() || !it.members.is_empty();
+            let stays = it.state != State::Empty || !it.offsets.is_empty() || !it.members.is_empty() || !it.given.is_empty();
             if !stays {
                 self.keep.put_group(name, None);
             }

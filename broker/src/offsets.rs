@@ -4,7 +4,7 @@ use crate::codes::code;
 use crate::fetch::isolation;
 use crate::partition::check_epoch;
 use crate::reply::{Call, Close, Reply};
-use kpart::{Isolation, Node, Pass, TimeOffset};
+use kpart::{Isolation, Node, NodeState, Pass, Role, Status, TimeOffset};
 use kwire::ErrorCode;
 use kwire::offsets::list_offsets::{
     EARLIEST, LATEST, ListOffsetsPartition, ListOffsetsRequest, ListOffsetsResponse, ListedPartition, ListedTopic, MAX_TIMESTAMP,
@@ -14,6 +14,8 @@ use kwire::offsets::list_offsets::{
 const END_OF_TIMES: u64 = 1 << 62;
 /// From this version on a client may ask for the record of the greatest timestamp (KIP-734).
 const KNOWS_GREATEST: i16 = 7;
+/// From this version on a client knows that a new leader doesn't know its high watermark yet (KIP-207).
+const KNOWS_UNKNOWN: i16 = 5;
 use kwire::offsets::offset_for_leader_epoch::{
     EpochEnd, EpochEndTopic, EpochPartition, OffsetForLeaderEpochRequest, OffsetForLeaderEpochResponse,
 };
@@ -51,16 +53,29 @@ fn listed(call: &mut Call<'_>, topic: &str, asked: &ListOffsetsPartition, isolat
     let state = node.show().map_err(code)?;
     let epoch = check_epoch(&state, asked.current_leader_epoch)?;
     let of = |offset| ListedPartition { offset, leader_epoch: epoch_number(epoch), ..ListedPartition::default() };
-    match asked.timestamp {
-        LATEST if isolation == Isolation::ReadCommitted => Ok(of(signed(state.stable))),
-        LATEST => Ok(of(signed(state.watermark))),
-        EARLIEST => Ok(ListedPartition { offset: 0, ..ListedPartition::default() }),
-        MAX_TIMESTAMP if call.version >= KNOWS_GREATEST => Ok(at_time(of_greatest_time(&mut node, pass, isolation).map_err(code)?)),
+    let is_greatest = asked.timestamp == MAX_TIMESTAMP && call.version >= KNOWS_GREATEST;
+    let found = match asked.timestamp {
+        EARLIEST => return Ok(ListedPartition { offset: 0, ..ListedPartition::default() }),
+        LATEST => None,
+        _ if is_greatest => of_greatest_time(&mut node, pass, isolation).map_err(code)?,
         time => {
             let time = u64::try_from(time).map_err(|_| ErrorCode::UnsupportedVersion)?;
-            Ok(at_time(node.offset_for_time(pass, time, isolation).map_err(code)?))
+            node.offset_for_time(pass, time, isolation).map_err(code)?
         }
+    };
+    if lags(&state) && (found.is_none() || is_greatest) {
+        return Err(if call.version >= KNOWS_UNKNOWN { ErrorCode::OffsetNotAvailable } else { ErrorCode::LeaderNotAvailable });
     }
+    Ok(match asked.timestamp {
+        LATEST if isolation == Isolation::ReadCommitted => of(signed(state.stable)),
+        LATEST => of(signed(state.watermark)),
+        _ => at_time(found),
+    })
+}
+
+/// Whether the leader doesn't know yet all to be committed that was so when it began: an end that was told before may be above its own (KIP-207).
+fn lags(state: &NodeState) -> bool {
+    matches!(state.status, Status::Plays(Role::Leads { start, .. }) if state.watermark < start)
 }
 
 fn at_time(found: Option<TimeOffset>) -> ListedPartition {

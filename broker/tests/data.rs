@@ -275,6 +275,9 @@ fn join(client: &mut Client, member: &str) -> Fallible<(i16, i32, String)> {
     };
     let answer = client.ask(&request, 9)?;
     let it = JoinGroupResponse::decode(&mut Reader::new(&answer), 9)?;
+    if it.error_code == i16::from(ErrorCode::MemberIdRequired) {
+        return join(client, it.member_id);
+    }
     Ok((it.error_code, it.generation_id, it.member_id.to_string()))
 }
 

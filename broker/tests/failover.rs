@@ -3,8 +3,9 @@
 mod common;
 
 use common::{Ask, Client, Fallible, LONG, NOBODY, Outcome, TOPIC, Writes, batch, broker, produce_request, produced, until};
-use kpart_broker::Broker;
+use kpart_broker::{Broker, Options};
 use kwire::ErrorCode;
+use kwire::offsets::list_offsets::{EARLIEST, LATEST, MAX_TIMESTAMP};
 use std::sync::atomic::{AtomicBool, Ordering::SeqCst};
 use std::time::{Duration, Instant};
 
@@ -176,6 +177,38 @@ fn a_leader_that_is_cut_off() -> Outcome {
     until("it is committed", || client.list(0, -1, 0).is_ok_and(|it| it.1 == 1))?;
     assert_eq!(client.read_to(0, 1, 0)?, [(0, "kept".to_string())]);
     until("the old leader has cut its log", || broker.show().matches("end 1 watermark 1").count() == 3)?;
+    Ok(())
+}
+
+/// An end that was told doesn't go back: a new leader that doesn't know yet what is committed says so (KIP-207).
+#[test]
+fn an_end_does_not_go_back() -> Outcome {
+    let broker = Broker::start(Options { lag: LONG, ..Options::default() })?;
+    let mut client = Client::of_leader(&broker, 0)?;
+    assert_eq!(client.produce(0, &batch(&["a"], NOBODY, 1_000), -1)?, (0, 0));
+    assert_eq!(client.list(0, LATEST, 0)?.1, 1);
+    // Node 1 has the next batch, and node 2 hasn't: nobody commits it.
+    broker.cut(0, 2)?;
+    assert_eq!(client.produce(0, &batch(&["b"], NOBODY, 2_000), 1)?, (0, 1));
+    until("node 1 has it", || broker.show().contains("  node 1 leads - end 2 "))?;
+    broker.cut(1, 2)?;
+    broker.elect(1)?;
+    let mut client = Client::of_node(&broker, 1)?;
+    until("it leads", || client.list(0, EARLIEST, 0).is_ok_and(|it| it.0 == 0))?;
+    for isolation in [0, 1] {
+        for (version, time, code) in [
+            (6, LATEST, ErrorCode::OffsetNotAvailable),
+            (4, LATEST, ErrorCode::LeaderNotAvailable),
+            (6, 1_500, ErrorCode::OffsetNotAvailable),
+            (7, MAX_TIMESTAMP, ErrorCode::OffsetNotAvailable),
+        ] {
+            assert_eq!(client.list_at(version, 0, time, isolation)?.0, i16::from(code), "version {version}, time {time}");
+        }
+        assert_eq!(client.list(0, 500, isolation)?.1, 0, "what is known to be committed is found");
+    }
+    broker.heal();
+    until("it knows", || client.list(0, LATEST, 0).is_ok_and(|it| (it.0, it.1) == (0, 2)))?;
+    assert_eq!((client.list(0, 1_500, 0)?.1, client.list_at(7, 0, MAX_TIMESTAMP, 0)?.1), (1, 1));
     Ok(())
 }
 

@@ -14,6 +14,7 @@ use kwire::groups::sync_group::{MemberAssignment, SyncGroupRequest, SyncGroupRes
 use kwire::offsets::offset_commit::{CommitPartition, CommitTopic, OffsetCommitRequest, OffsetCommitResponse};
 use kwire::offsets::offset_fetch::{OffsetFetchRequest, OffsetFetchResponse, OffsetsTopic};
 use kwire::{ErrorCode, Message, Reader};
+use std::time::{Duration, Instant};
 
 #[derive(Debug)]
 struct Joined {
@@ -24,19 +25,22 @@ struct Joined {
     members: Vec<String>,
 }
 
-fn join(client: &mut Client, group: &str, member: &str) -> Fallible<Joined> {
-    let protocols = vec![JoinProtocol { name: "range", metadata: b"events" }];
-    let request = JoinGroupRequest {
+fn joining<'a>(group: &'a str, member: &'a str) -> JoinGroupRequest<'a> {
+    JoinGroupRequest {
         group_id: group,
         session_timeout_ms: 10_000,
         rebalance_timeout_ms: 10_000,
         member_id: member,
         protocol_type: "consumer",
-        protocols,
+        protocols: vec![JoinProtocol { name: "range", metadata: b"events" }],
         ..JoinGroupRequest::default()
-    };
-    let answer = client.ask(&request, 9)?;
-    let it = JoinGroupResponse::decode(&mut Reader::new(&answer), 9)?;
+    }
+}
+
+/// One answer, which may give an id by which to join.
+fn join_once(client: &mut Client, group: &str, member: &str, version: i16) -> Fallible<Joined> {
+    let answer = client.ask(&joining(group, member), version)?;
+    let it = JoinGroupResponse::decode(&mut Reader::new(&answer), version)?;
     Ok(Joined {
         code: it.error_code,
         generation: it.generation_id,
@@ -44,6 +48,16 @@ fn join(client: &mut Client, group: &str, member: &str) -> Fallible<Joined> {
         leader: it.leader.to_string(),
         members: it.members.iter().map(|it| it.member_id.to_string()).collect(),
     })
+}
+
+/// Joins, by the id that it is given where it has none.
+fn join(client: &mut Client, group: &str, member: &str) -> Fallible<Joined> {
+    let joined = join_once(client, group, member, 9)?;
+    if joined.code == i16::from(ErrorCode::MemberIdRequired) {
+        assert!(member.is_empty() && !joined.member.is_empty());
+        return join_once(client, group, &joined.member, 9);
+    }
+    Ok(joined)
 }
 
 fn sync(client: &mut Client, joined: &Joined) -> Fallible<Vec<u8>> {
@@ -124,6 +138,43 @@ fn two_members_come_and_go() -> Outcome {
     until("the other one is told", || heartbeat(&mut other, &second).is_ok_and(|it| it == rebalance))?;
     let last = join(&mut other, "g", &second.member)?;
     assert_eq!((last.members.len(), last.generation), (1, second.generation + 1));
+    Ok(())
+}
+
+/// Who loses its connection as it joins leaves nobody behind for whom others would wait: by the id that it was given it comes back as the same
+/// member (KIP-394), and of an older client, which was told none, nothing stays.
+#[test]
+fn a_join_whose_answer_is_lost_holds_nobody_up() -> Outcome {
+    let broker = broker()?;
+    for version in [3, 4, 9] {
+        let (start, group) = (Instant::now(), format!("g{version}"));
+        let mut lost = Client::of_node(&broker, 0)?;
+        let given = if version < 4 { String::new() } else { join_once(&mut lost, &group, "", version)?.member };
+        assert_eq!(given.is_empty(), version < 4);
+        lost.send(&joining(&group, &given), version)?;
+        drop(lost);
+        let joined = join_once(&mut Client::of_node(&broker, 0)?, &group, &given, version)?;
+        assert_eq!((joined.code, &joined.members), (0, &vec![joined.member.clone()]), "version {version}");
+        assert!(given.is_empty() || joined.member == given);
+        assert!(start.elapsed() < Duration::from_secs(5), "version {version}: {:?}", start.elapsed());
+    }
+    Ok(())
+}
+
+/// An id that was given counts as a member, until its time is up; one that wasn't is nobody's.
+#[test]
+fn ids_that_were_given_are_bounded() -> Outcome {
+    let broker = Broker::start(Options { most_members: 1, ..Options::default() })?;
+    let mut client = Client::of_node(&broker, 0)?;
+    let required = i16::from(ErrorCode::MemberIdRequired);
+    let brief = JoinGroupRequest { session_timeout_ms: 50, ..joining("g", "") };
+    let ask = |client: &mut Client| -> Fallible<i16> {
+        let answer = client.ask(&brief, 9)?;
+        Ok(JoinGroupResponse::decode(&mut Reader::new(&answer), 9)?.error_code)
+    };
+    assert_eq!((ask(&mut client)?, ask(&mut client)?), (required, i16::from(ErrorCode::GroupMaxSizeReached)));
+    until("its time is up", || ask(&mut client).is_ok_and(|it| it == required))?;
+    assert_eq!(join_once(&mut client, "g", "test-99", 9)?.code, i16::from(ErrorCode::UnknownMemberId));
     Ok(())
 }
 

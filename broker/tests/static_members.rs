@@ -37,6 +37,9 @@ fn join(client: &mut Client, own: &Own, version: i16, says: &[u8]) -> Fallible<R
     };
     let answer = client.ask(&request, version)?;
     let it = JoinGroupResponse::decode(&mut Reader::new(&answer), version)?;
+    if it.error_code == i16::from(ErrorCode::MemberIdRequired) {
+        return join(client, &Own { id: it.member_id.to_string(), ..own.clone() }, version, says);
+    }
     if it.error_code != 0 {
         return Ok(Err(it.error_code));
     }
