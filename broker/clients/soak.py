@@ -10,6 +10,7 @@ import collections
 import contextlib
 import faulthandler
 import glob
+import json
 import mmap
 import os
 import random
@@ -37,6 +38,7 @@ from lib import check_recorded
 ROUNDS, RECORDED_ROUNDS = 8, 4
 MOST_CALLS = 3_000  # of the system, before the one at which a broker is killed
 MOST_WRONG = 3  # ages; the soak ends then
+AGE, PASSED, FAILED, CRASHED = "age", "passed", "failed", "crashed"
 LONGEST = 600  # seconds of an age; a longer one hangs, and ends all, with where each thread stands
 SHADOW = 3  # rounds, up to which a producer may give up for what was refused in the first of them
 FAST = "/dev/shm"  # a sync costs nothing there
@@ -52,6 +54,8 @@ COUNTS, ACTS = collections.Counter(), collections.Counter()
 def built(room, name):
     """A part of tools/lib that a process loads (LD_PRELOAD); None where there is no C compiler."""
     path = f"{room}/{name}.so"
+    if os.path.exists(path):
+        return path
     words = ["cc", "-O2", "-shared", "-fPIC", "-pthread", "-o", path, f"{TOP}/tools/lib/{name}.c"]
     return path if shutil.which("cc") and not subprocess.run(words, check=False).returncode else None
 
@@ -424,39 +428,57 @@ class Age:
             COUNTS["events played"] += count
 
 
-def run_age(tools, seed, number):
-    """Whether nothing is wrong with it; else it is told, and its folder stays."""
-    age = Age(tools, seed, number)
+# An age has a process of its own, as librdkafka may crash (2.0.2 does at a look at its own threads, about once an hour).
+
+def run_age(room, seed, number):
+    """The exit status: 1 where something is wrong with it, which is told then, and its folder stays."""
+    age = Age(Tools(room), seed, number)
     faulthandler.dump_traceback_later(LONGEST, exit=True)
     try:
         age.run()
     except (Exception, SystemExit) as why:
         for one in age.rounds[-1:]:
             one.host.end()
-        for client in age.clients:
-            client.ends.set()
         print(f"{age}\nWRONG: {type(why).__name__}: {why}\n  tools/soak 1 {seed} {number} draws the same", flush=True)
-        return False
-    finally:
-        faulthandler.cancel_dump_traceback_later()
+        os._exit(1)  # clients may wait for something
     shutil.rmtree(age.folder)
-    return True
+    with open(f"{room}/counts", "w", encoding="ascii") as file:
+        json.dump([COUNTS, ACTS], file)
+    return 0
+
+
+def became_of_age(room, seed, number):
+    """PASSED, FAILED or CRASHED."""
+    words = [sys.executable, os.path.abspath(__file__), AGE, room, str(seed), str(number)]
+    ran = subprocess.run(words, stderr=subprocess.PIPE, text=True, preexec_fn=end_with_parent, check=False)
+    print(ran.stderr, end="", file=sys.stderr, flush=True)
+    if ran.returncode == -signal.SIGSEGV or ran.returncode == ABORTED and "rdkafka" in ran.stderr:
+        for folder in (tempfile.gettempdir(), FAST):
+            for path in glob.glob(f"{folder}/kpart-soak-{seed}-{number}-*"):
+                shutil.rmtree(path)
+        return CRASHED
+    if ran.returncode:
+        return FAILED
+    with open(f"{room}/counts", encoding="ascii") as file:
+        for sums, found in zip((COUNTS, ACTS), json.load(file)):
+            sums.update(found)
+    return PASSED
 
 
 def main(words):
     minutes, seed, first = float(words[0]), *(int(it) for it in (words[1:] + ["1", "0"][len(words) - 1:]))
-    begin, passed, failed = time.time(), 0, 0
+    begin, became, number = time.time(), collections.Counter(), first
     with tempfile.TemporaryDirectory() as room, contextlib.suppress(KeyboardInterrupt):
-        tools, number = Tools(room), first
-        while time.time() - begin < minutes * 60 and failed < MOST_WRONG:
-            is_right = run_age(tools, seed, number)
-            passed, failed, number = passed + is_right, failed + (not is_right), number + 1
-    print(f"seed {seed}, {(time.time() - begin) / 60:.1f} minutes, ages {first} to {number - 1}")
-    for what in (COUNTS, ACTS):
-        print("  " + ", ".join(f"{name} {count:,}" for name, count in what.items()))
-    print(f"{passed} passed, {failed} failed")
-    return 1 if failed else 0
+        while time.time() - begin < minutes * 60 and became[FAILED] < MOST_WRONG:
+            became[became_of_age(room, seed, number)] += 1
+            number += 1
+    print(f"seed {seed}, {(time.time() - begin) / 60:.1f} minutes, ages {first} to {number - 1}; librdkafka has crashed in {became[CRASHED]}")
+    for sums in (COUNTS, ACTS):
+        print("  " + ", ".join(f"{name} {count:,}" for name, count in sums.items()))
+    print(f"{became[PASSED]} passed, {became[FAILED]} failed")
+    return 1 if became[FAILED] or not became[PASSED] else 0
 
 
 if __name__ == "__main__":
-    sys.exit(main(sys.argv[1:]))
+    WORDS = sys.argv[1:]
+    sys.exit(run_age(WORDS[1], int(WORDS[2]), int(WORDS[3])) if WORDS[0] == AGE else main(WORDS))

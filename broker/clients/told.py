@@ -52,10 +52,10 @@ def named(text):
     raise Wrong(f"nobody has sent {text[:80]!r}")
 
 
-def own(records, name):
+def own(rows, name):
     """Of the records those of this name: offsets, numbers and parts."""
     start = f"{name} "
-    return [(offset, *named(text)[1:]) for offset, text in records if text.startswith(start)]
+    return [(offset, *named(text)[1:]) for offset, text in rows if text.startswith(start)]
 
 
 def is_fatal(fault):
@@ -124,8 +124,8 @@ class Producing(Client):
     """A producer with acks=all: records 0, 1, 2. It is idempotent, or isn't; then some may come twice. After so many bursts all is acknowledged, and
     a new one goes on.
 
-    It sends to one partition; without such a one to each by turns, and an idempotent one then takes turns just as a new one goes on. For where a batch
-    is out of order in one partition, librdkafka (2.0.2) raises its epoch at once, and by that sends again what the others may have stored."""
+    It sends to one partition; without such a one to each by turns, but an idempotent one takes turns just as a new one goes on. For where a batch is
+    out of order in one partition, librdkafka (2.0.2) raises its epoch at once, and by that sends again what the others may have stored."""
 
     def __init__(self, *words, partition=None, is_idempotent=True, bursts=10 ** 9):
         super().__init__(*words)
@@ -229,7 +229,8 @@ class Ran(NamedTuple):
         return [number for number, state in self.became.items() if state in states]
 
     def __str__(self):
-        return f"{len(self.numbers(COMMITTED))} committed, {len(self.numbers(ABORTED))} aborted, the last ones {dict(sorted(self.became.items())[-4:])}"
+        last = dict(sorted(self.became.items())[-4:])
+        return f"{len(self.numbers(COMMITTED))} committed, {len(self.numbers(ABORTED))} aborted, the last ones {last}"
 
 
 class Transactional(Client):
@@ -270,13 +271,23 @@ class Transactional(Client):
                 made.produce(self.topic, value=text_of(self.name, number, part).encode(), partition=partition)
         made.flush(LONG)
 
-    def one(self, made, group, number):
+    def hold_own(self, reader, number):
+        """The offset of the transaction that has just committed is there."""
+        try:
+            offset = reader.committed([TopicPartition(self.topic, 0)], 2)[0].offset
+        except KafkaException:
+            return  # nobody says so now
+        if offset != number:
+            raise Wrong(f"offset {number} was committed, and {offset} is there")
+
+    def one(self, made, reader, number):
         """Whether it was ended, and not left open."""
         pauses, end = [self.chance.random() ** 4 * 0.2 for _ in range(2)], self.chance.random()
         self.became[number] = OPEN
         self.produce(made, number)
         time.sleep(pauses[0])
-        sent = self.again(lambda: made.send_offsets_to_transaction([TopicPartition(self.topic, 0, number)], group, LONG))
+        at, group = [TopicPartition(self.topic, 0, number)], reader.consumer_group_metadata()
+        sent = self.again(lambda: made.send_offsets_to_transaction(at, group, LONG))
         time.sleep(pauses[1])
         if end > 0.95:
             self.became[number] = ABORTED
@@ -285,6 +296,7 @@ class Transactional(Client):
             self.became[number] = ASKED
             if self.again(lambda: made.commit_transaction(LONG)):
                 self.became[number] = COMMITTED
+                self.hold_own(reader, number)
                 return True
         self.again(lambda: made.abort_transaction(LONG))
         self.became[number] = ABORTED
@@ -292,11 +304,10 @@ class Transactional(Client):
 
     def work(self):
         made = self.producer()
-        group = Consumer({"bootstrap.servers": self.servers, "group.id": self.name, **QUICK}).consumer_group_metadata()
-        number = 0
+        reader, number = Consumer({"bootstrap.servers": self.servers, "group.id": self.name, **QUICK}), 0
         while not self.ends.is_set():
             try:
-                is_ended = self.one(made, group, number)
+                is_ended = self.one(made, reader, number)
             except KafkaException as fault:
                 if not is_fatal(fault):
                     raise
@@ -433,12 +444,12 @@ class Group(Client):
 
 
 def clients_of(servers, topic, partitions, seed):
-    """Idempotent producers, one of each partition that stays, and fresh ones; one that isn't idempotent; two with transactions; and a group's consumer.
-    They draw by this seed."""
+    """Idempotent producers, one of each partition that stays, and fresh ones; one that isn't idempotent; two with transactions; and a group's
+    consumer. They draw by this seed."""
     def one(kind, name, **words):
         return kind(name, servers, topic, partitions, random.Random(f"{seed} {name}"), **words)
 
-    return [*(one(Producing, f"idempotent-{it}", partition=it) for it in range(partitions)), one(Producing, "fresh", bursts=20),
+    return [*(one(Producing, f"idempotent-{it}", partition=it) for it in range(partitions)), one(Producing, "fresh", bursts=60),
             one(Producing, "plain", is_idempotent=False), one(Transactional, "one"), one(Transactional, "two"), one(Group, "readers")]
 
 
@@ -496,8 +507,8 @@ def check(clients, host):
 def hold_shown(there):
     """What is shown is a part of what is there, without that of transactions; offsets rise, and each record is somebody's."""
     for partition, (everything, shown) in enumerate(zip(there.all, there.shown)):
-        for records in (everything, shown):
-            odd = next((it for it, other in zip(records, records[1:]) if it[0] >= other[0]), None)
+        for rows in (everything, shown):
+            odd = next((it for it, other in zip(rows, rows[1:]) if it[0] >= other[0]), None)
             if odd:
                 raise Wrong(f"partition {partition}: offsets don't rise at {odd[0]}")
         if not set(shown) <= set(everything):

@@ -361,9 +361,10 @@ fn mark(hub: &Hub, passes: &mut Passes, place: usize, ending: &Ending, until: In
     };
     while Instant::now() < until && !hub.is_closing() {
         let count = hub.news.count();
-        let pass = passes.of(hub, place)?;
-        let leader = pass.leadership().map_err(code)?.leader.map(|it| it.0);
+        // Where there is no memory to ask, it is tried again.
+        let leader = passes.of(hub, place).ok().and_then(|it| it.leadership().ok()?.leader).map(|it| it.0);
         if let Some(leader) = leader.filter(|it| hub.is_up(*it)) {
+            let pass = passes.of(hub, place)?;
             let handed = partition.cluster.node(leader).and_then(|mut it| it.mark(pass, &marker));
             match handed {
                 Ok(receipt) => {

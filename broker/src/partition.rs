@@ -121,9 +121,12 @@ impl Partition {
         self.cluster.node(node)?.show()
     }
 
-    /// The leader epoch in which the node leads, as it knows itself.
-    pub fn led(&self, node: u8) -> Option<u32> {
-        self.state(node).ok().as_ref().and_then(led_epoch)
+    /// Whether the node leads that epoch, as far as there is memory to ask it.
+    fn may_lead(&self, node: u8, epoch: u32) -> bool {
+        match self.state(node) {
+            Ok(state) => led_epoch(&state) == Some(epoch),
+            Err(error) => error.is_memory(),
+        }
     }
 
     /// Has the nodes that follow take what the leader has, and it commit that, in this thread. Hold no node meanwhile.
@@ -181,7 +184,9 @@ impl Partition {
             }
             let left = until.saturating_duration_since(Instant::now());
             match self.cluster.wait_acked(pass, node, receipt, nudge.min(left)) {
-                Ok(Ack::NotYet) if epoch.is_some() && self.led(node) == epoch => {}
+                Ok(Ack::NotYet) if epoch.is_some_and(|it| self.may_lead(node, it)) => {}
+                // It has been taken, and may be committed by now.
+                Err(error) if error.is_memory() => std::thread::sleep(nudge.min(left)),
                 // It leads no more, and will soon hear of the next leader what became of the batch. Without this look a producer that
                 // isn't idempotent would hand a committed batch in twice.
                 Ok(Ack::NotYet) => return answered(self.cluster.wait_acked(pass, node, receipt, GRACE.min(left))),
@@ -196,9 +201,11 @@ impl Partition {
     }
 }
 
-/// A batch that is lost, or of which nothing is known, is to be handed in again, at the next leader.
+/// A batch that is lost, or of which nothing is known, is to be handed in again, at the next leader. Where there is no memory to ask, it may be
+/// there: another code would say that it isn't, and librdkafka hands it in anew then, in a later epoch of its own.
 fn answered(told: Result<Ack, Error>) -> Waited {
     match told {
+        Err(error) if error.is_memory() => Waited::Failed(ErrorCode::RequestTimedOut),
         Ok(Ack::Yes) => Waited::Committed,
         Ok(Ack::Lost | Ack::NotYet) => Waited::Failed(ErrorCode::NotLeaderOrFollower),
         Err(Error::Refused(Refusal::Down)) => Waited::Down,

@@ -3,7 +3,7 @@
 use crate::codes::code;
 use crate::connection::Header;
 use crate::hub::Hub;
-use crate::partition::{Partition, Waited};
+use crate::partition::{Partition, Waited, led_epoch};
 use crate::reply::{Close, Passes, Reply};
 use crate::{lock, requests};
 use kpart::{Ack, Batch, Pass, Receipt};
@@ -17,6 +17,9 @@ use std::time::{Duration, Instant};
 
 /// The longest that a producer may have its answer wait.
 const LONGEST: i32 = 600_000;
+
+/// How soon a batch that was taken is asked for again, where there was no memory to do so.
+const RETRY: Duration = Duration::from_millis(1);
 
 /// What a connection's two threads share of its producer.
 pub struct Producer {
@@ -142,8 +145,20 @@ fn append_one(hub: &Hub, producer: &Producer, batch: &mut Option<Batch>, wanted:
     drop(slot);
     hub.counts.batches.fetch_add(1, SeqCst);
     hub.counts.duplicates.fetch_add(receipt.duplicate.into(), SeqCst);
-    let epoch = if receipt.duplicate { partition.led(node) } else { Some(receipt.epoch) };
+    let epoch = match receipt.duplicate {
+        true => led(partition, node)?,
+        false => Some(receipt.epoch),
+    };
     Ok(Taken { place, receipt, epoch, is_committed: false })
+}
+
+/// The leader epoch in which the node leads. Where there is no memory to ask it, nothing is said that isn't so of a batch that is there.
+fn led(partition: &Partition, node: u8) -> Result<Option<u32>, ErrorCode> {
+    match partition.state(node) {
+        Ok(state) => Ok(led_epoch(&state)),
+        Err(error) if error.is_memory() => Err(ErrorCode::RequestTimedOut),
+        Err(_) => Ok(None),
+    }
 }
 
 /// Has the followers take what was appended. Whether all is known by that for which the producer waits.
@@ -254,9 +269,13 @@ fn became(
     if taken.is_committed {
         return Ok(Ok(base));
     }
-    let waited = match taken_over(hub, producer, passes, taken.place) {
-        Ok(pass) => partition.wait_acked(pass, node, (&taken.receipt, taken.epoch), produced.until, is_off),
-        Err(code) => Waited::Failed(code),
+    let waited = loop {
+        match taken_over(hub, producer, passes, taken.place) {
+            Ok(pass) => break partition.wait_acked(pass, node, (&taken.receipt, taken.epoch), produced.until, is_off),
+            Err(_) if is_off() => break Waited::Down,
+            Err(_) if Instant::now() > produced.until => break Waited::Failed(ErrorCode::RequestTimedOut),
+            Err(_) => std::thread::sleep(RETRY), // there was no memory for it
+        }
     };
     match waited {
         Waited::Committed => Ok(Ok(base)),
