@@ -30,13 +30,19 @@ def end_with_parent():
     ctypes.CDLL(None).prctl(1, signal.SIGKILL)
 
 
-def free_ports(count, chance):
+def own_address():
+    """An address of the loopback that no other process has by this rule: its ports stay free for this one, also while no broker has them."""
+    number = os.getpid()
+    return f"127.{64 + (number >> 16)}.{number >> 8 & 255}.{number & 255}"
+
+
+def free_ports(address, count, chance):
     """The first of so many ports that are free, one behind another, and that the system gives to nobody by itself."""
     for base in range(20000 + chance.randrange(10000), 32700, 7):
         with contextlib.ExitStack() as stack:
             try:
                 for number in range(count):
-                    stack.enter_context(socket.create_server(("127.0.0.1", base + number)))
+                    stack.enter_context(socket.create_server((address, base + number)))
                 return base
             except OSError:
                 continue

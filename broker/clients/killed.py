@@ -12,17 +12,18 @@ import tempfile
 import time
 
 import told
-from host import Host, check, free_ports
+from host import Host, check, free_ports, own_address
 from told import COMMITTED
 
 KILLS, SEED = int(sys.argv[1]), int(sys.argv[2]) if len(sys.argv) > 2 else 1
 CHANCE, NODES, PARTITIONS, TOPIC = random.Random(SEED), 3, 2, "payments"
 FOLDER = tempfile.mkdtemp(prefix="kpart-killed-")
-BASE = free_ports(NODES, CHANCE)
+ADDRESS = own_address()
+BASE = free_ports(ADDRESS, NODES, CHANCE)
 
 
 def start():
-    return Host("--data", FOLDER, "--port", str(BASE), nodes=NODES, topic=f"{TOPIC}:{PARTITIONS}")
+    return Host("--data", FOLDER, "--listen", ADDRESS, "--port", str(BASE), nodes=NODES, topic=f"{TOPIC}:{PARTITIONS}")
 
 
 def holds(what, call, *words):

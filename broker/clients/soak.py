@@ -28,7 +28,7 @@ import time
 import acts
 import told
 from acts import NODES, PARTITIONS, TOPIC
-from host import LONG, PROGRAM, Ended, Host, end_with_parent, free_ports, holds_soon
+from host import LONG, PROGRAM, Ended, Host, end_with_parent, free_ports, holds_soon, own_address
 from told import Producing, Transactional, Wrong
 
 TOP = os.path.dirname(os.path.dirname(os.path.dirname(os.path.abspath(__file__))))
@@ -265,13 +265,14 @@ class Age:
         fast = FAST if os.path.isdir(FAST) and self.chance.random() < 0.5 else None
         self.folder = tempfile.mkdtemp(prefix=f"kpart-soak-{seed}-{number}-", dir=fast)
         self.data, self.lag = f"{self.folder}/data", self.chance.choice((200, 500, 1000))
-        self.port = free_ports(NODES, self.chance)
-        servers = ",".join(f"127.0.0.1:{self.port + it}" for it in range(NODES))
+        self.address = own_address()
+        self.port = free_ports(self.address, NODES, self.chance)
+        servers = ",".join(f"{self.address}:{self.port + it}" for it in range(NODES))
         self.clients = told.clients_of(servers, TOPIC, PARTITIONS, f"{seed} {number}")
 
     def words(self):
         where = "--record" if self.is_recorded else "--data"
-        return [where, self.data, "--port", str(self.port), "--lag", str(self.lag)]
+        return [where, self.data, "--listen", self.address, "--port", str(self.port), "--lag", str(self.lag)]
 
     def __str__(self):
         kind = "recorded" if self.is_recorded else "kept"
