@@ -25,11 +25,18 @@ abbrev pub change_cause : Option (List ℕ) → List ℕ → Option Refusal → 
 change_cause None isr tests = tests
 change_cause (Some pending) isr tests = if bytes_eq pending isr then None else Some refusals.ChangePending
 
+-- what stands against the one change, and against the other, where none was asked for: the node to join hasn't caught up, the one to leave can't
+abbrev pub join_tests : (watermark m : ℕ) → Leading → List (Bool × Refusal)
+join_tests watermark m l = (not (is_caught_up watermark l m), refusals.NotCaughtUp) ∷ []
+
+abbrev pub leave_tests : (n m : ℕ) → Leading → List (Bool × Refusal)
+leave_tests n m l = (not (is_member m l.isr) || (m == n), refusals.NotInSync) ∷ []
+
 abbrev pub join_cause : Node → ℕ → Leading → Option Refusal
-join_cause x m l = change_cause l.pending (with_member m l.isr) (first_of ((not (is_caught_up x.watermark l m), refusals.NotCaughtUp) ∷ []))
+join_cause x m l = change_cause l.pending (with_member m l.isr) (first_of (join_tests x.watermark m l))
 
 abbrev pub leave_cause : ℕ → ℕ → Leading → Option Refusal
-leave_cause n m l = change_cause l.pending (without_member m l.isr) (first_of ((not (is_member m l.isr) || (m == n), refusals.NotInSync) ∷ []))
+leave_cause n m l = change_cause l.pending (without_member m l.isr) (first_of (leave_tests n m l))
 
 -- what leader n asks the controller for
 abbrev pub proposal : ℕ → Leading → List ℕ → Proposal

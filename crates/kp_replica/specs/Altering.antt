@@ -1,16 +1,15 @@
 -- What a leader asks for when it asks for a change of the in-sync replicas (own rule; Kafka's AlterPartition).
-use Rattle.std.specs.Prelude.{◌≡◌, ℕ, ◌==◌, ◌||◌, not, List, [], ◌∷◌, Option}
+use Rattle.std.specs.Prelude.{◌≡◌, ℕ, List, Option}
 use Rattle.std.specs.Option.{option_map}
 use Rattle.kp_types.specs.Causes.{first_of}
 use Rattle.kp_types.specs.declared.refusal.Refusal.{Refusal}
-use Rattle.kp_types.specs.declared.refusal.Refusal.TheVariants as refusals
 use Rattle.kp_model.specs.World.{Leading}
 use Rattle.kp_model.specs.Event as model
 use Rattle.kp_model.specs.Event.{Act}
 use Rattle.kp_model.specs.Letter.{Letter, Proposing}
-use Rattle.kp_model.specs.Controller.{is_member, with_member, without_member}
+use Rattle.kp_model.specs.Controller.{with_member, without_member}
 use Rattle.kp_model.specs.Effect.{WhereLeads}
-use Rattle.kp_model.specs.InSync.{change_cause, is_caught_up, known_by, proposal}
+use Rattle.kp_model.specs.InSync.{change_cause, join_tests, leave_tests, known_by, proposal}
 use Rattle.kp_model.specs.Set.{members_of, record_of}
 use Rattle.kp_replica.specs.declared.altering.Known.{Known}
 use Rattle.kp_replica.specs.declared.altering.IsrChange.{IsrChange}
@@ -27,10 +26,10 @@ abbrev pub changed_isr : IsrChange → List ℕ → List ℕ
 changed_isr (Join m) isr = with_member m isr
 changed_isr (Leave m) isr = without_member m isr
 
--- what stands against it where nothing is pending: the node to join hasn't caught up, the one to leave can't
+-- what stands against it where nothing is pending
 abbrev pub first_cause : (n watermark : ℕ) → Leading → IsrChange → Option Refusal
-first_cause n watermark l (Join m) = first_of ((not (is_caught_up watermark l m), refusals.NotCaughtUp) ∷ [])
-first_cause n watermark l (Leave m) = first_of ((not (is_member m l.isr) || (m == n), refusals.NotInSync) ∷ [])
+first_cause n watermark l (Join m) = first_of (join_tests watermark m l)
+first_cause n watermark l (Leave m) = first_of (leave_tests n m l)
 
 -- and where a set may be pending: it is another one
 abbrev pub isr_cause : (n watermark : ℕ) → Leading → IsrChange → Option Refusal

@@ -1,6 +1,6 @@
 -- Each run goes on: whatever comes next has an answer.
 use Rattle.std.proofs.Common.{◌≡◌, ◌≢◌, ℕ, Bool, true, false, cond, List, [], ◌∷◌, ◌++◌, Option, Some, None, refl, sym, ap, ◌∙◌, subst, inl, inr, append_assoc, append-nil, arith}
-use Rattle.std.specs.Prelude.{bytes_eq, length, map, not, slice_get, IsFalse, IsTrue, Ok, Err}
+use Rattle.std.specs.Prelude.{◌&&◌, bytes_eq, length, map, not, slice_get, IsFalse, IsTrue, Ok, Err}
 use Rattle.std.proofs.lemmas.Bool.{false≢true}
 use Rattle.std.specs.List.{AllByRecursion}
 use Rattle.std.specs.Option.{option_map_or}
@@ -23,7 +23,7 @@ use Rattle.kp_model.specs.Adopting.{Adopts, under}
 use Rattle.kp_model.specs.Appending.{Appends, Produces, admission_cause}
 use Rattle.kp_model.specs.Fetching.{ask_cause, ask_reply, asked, cut_cause, is_covered, piece, serve_cause, take_cause}
 use Rattle.kp_model.specs.Raising.{Raises, raised}
-use Rattle.kp_model.specs.InSync.{Learns, Proposes-set, change_cause, join_cause, learn_cause, leave_cause, proposal}
+use Rattle.kp_model.specs.InSync.{Learns, Proposes-set, change_cause, join_cause, join_tests, learn_cause, leave_cause, leave_tests, proposal}
 use Rattle.kp_model.specs.Local.{Local, LocalBy, cause}
 use Rattle.kp_model.specs.Run.{Moment, Run, extend, last}
 use Rattle.kp_model.proofs.Plain.Beginnings.{Begins-nil}
@@ -109,63 +109,61 @@ leads_spared Idle e = cc
 leads_spared (Leads l) e = cc
 leads_spared (Follows f) e = cc
 
-tests_spared : (low high odd : Bool)
-    → first_of ((low, refusals.FencedLeaderEpoch) ∷ (high, refusals.UnknownLeaderEpoch) ∷ (odd, refusals.OffsetOutOfRange) ∷ []) ≢ Some refusals.Memory
-tests_spared true high odd e = cc
-tests_spared false true odd e = cc
-tests_spared false false true e = cc
-tests_spared false false false e = cc
+-- want of memory isn't among tests, if none of them names it
+abbrev names_memory : Refusal → Bool
+names_memory refusals.Memory = true
+names_memory _ = false
+
+abbrev spare : List (Bool × Refusal) → Bool
+spare [] = true
+spare (t ∷ ts) = not (names_memory t.1) && spare ts
+
+tests_spared : (tests : List (Bool × Refusal)) → spare tests ≡ true → first_of tests ≢ Some refusals.Memory
+tests_spared [] spared e = cc
+tests_spared ((t, refusal) ∷ ts) spared e = by t (both (names_memory refusal) (spare ts) spared) (tests_spared ts) e
+  where
+    both : (names others : Bool) → (not names && others) ≡ true → (names ≡ false) × (others ≡ true)
+    both true others h = absurd cc
+    both false others h = (refl, h)
+
+    by : (t : Bool) → (names_memory refusal ≡ false) × (spare ts ≡ true) → (spare ts ≡ true → first_of ts ≢ Some refusals.Memory)
+        → cond t (Some refusal) (first_of ts) ≡ Some refusals.Memory → ⊥
+    by true h others e = let same : refusal ≡ refusals.Memory = cc in false≢true (sym h.0 ∙ ap names_memory same)
+    by false h others e = others h.1 e
 
 serve_spared : (mode : Mode) (log : List Batch) (r : Request) → unless_leads mode (serve_cause log r) ≢ Some refusals.Memory
 serve_spared Down log r e = cc
 serve_spared Idle log r e = cc
-serve_spared (Leads l) log r e = tests_spared _ _ _ e
+serve_spared (Leads l) log r e =
+    tests_spared ((_, refusals.FencedLeaderEpoch) ∷ (_, refusals.UnknownLeaderEpoch) ∷ (_, refusals.OffsetOutOfRange) ∷ []) refl e
 serve_spared (Follows f) log r e = cc
 
-hears_spared : (down moved stale : Bool)
-    → first_of ((down, refusals.Down) ∷ (moved, refusals.StaleRecord) ∷ (stale, refusals.StaleAnswer) ∷ []) ≢ Some refusals.Memory
-hears_spared true moved stale e = cc
-hears_spared false true stale e = cc
-hears_spared false false true e = cc
-hears_spared false false false e = cc
-
--- memory isn't among the tests of a change, nor of a decision
-change_spared : (pending : Option (List ℕ)) (isr : List ℕ) (t : Bool) (r : Refusal) → r ≢ refusals.Memory → change_cause pending isr (first_of ((t, r) ∷ [])) ≢ Some refusals.Memory
-change_spared None isr true r other e = other (let same : r ≡ refusals.Memory = cc in same)
-change_spared None isr false r other e = cc
-change_spared (Some set) isr t r other e = by (bytes_eq set isr) e
+-- nor among those of a change
+change_spared : (pending : Option (List ℕ)) (isr : List ℕ) (tests : List (Bool × Refusal)) → spare tests ≡ true
+    → change_cause pending isr (first_of tests) ≢ Some refusals.Memory
+change_spared None isr tests spared e = tests_spared tests spared e
+change_spared (Some set) isr tests spared e = by (bytes_eq set isr) e
   where
     by : (b : Bool) → cond b None (Some refusals.ChangePending) ≡ Some refusals.Memory → ⊥
     by true e = cc
     by false e = cc
 
-change_apart : refusals.NotCaughtUp ≢ refusals.Memory
-change_apart e = cc
-
-leave_apart : refusals.NotInSync ≢ refusals.Memory
-leave_apart e = cc
-
 join_spared : (x : Node) (m : ℕ) (mode : Mode) → unless_leads mode (join_cause x m) ≢ Some refusals.Memory
 join_spared x m Down e = cc
 join_spared x m Idle e = cc
-join_spared x m (Leads l) e = change_spared l.pending _ _ refusals.NotCaughtUp change_apart e
+join_spared x m (Leads l) e = change_spared l.pending _ (join_tests x.watermark m l) refl e
 join_spared x m (Follows f) e = cc
 
 leave_spared : (n m : ℕ) (mode : Mode) → unless_leads mode (leave_cause n m) ≢ Some refusals.Memory
 leave_spared n m Down e = cc
 leave_spared n m Idle e = cc
-leave_spared n m (Leads l) e = change_spared l.pending _ _ refusals.NotInSync leave_apart e
+leave_spared n m (Leads l) e = change_spared l.pending _ (leave_tests n m l) refl e
 leave_spared n m (Follows f) e = cc
-
-decision_spared : (other old : Bool) → first_of ((other, refusals.StaleRecord) ∷ (old, refusals.StaleAnswer) ∷ []) ≢ Some refusals.Memory
-decision_spared true old e = cc
-decision_spared false true e = cc
-decision_spared false false e = cc
 
 learn_spared : (d : Decision) (mode : Mode) → unless_leads mode (learn_cause d) ≢ Some refusals.Memory
 learn_spared d Down e = cc
 learn_spared d Idle e = cc
-learn_spared d (Leads l) e = decision_spared _ _ e
+learn_spared d (Leads l) e = tests_spared ((_, refusals.StaleRecord) ∷ (_, refusals.StaleAnswer) ∷ []) refl e
 learn_spared d (Follows f) e = cc
 
 misplaced_spared : (down : Bool) → Some (cond down refusals.Down refusals.StaleAnswer) ≢ Some refusals.Memory
@@ -180,7 +178,7 @@ cause_spared c n x (model.Produce (Ok body)) (lawful, base, is) e =
 cause_spared c n x (model.Produce (Err fault)) takes e = takes
 cause_spared c n x (model.Receive (Asks r)) takes e = serve_spared x.mode x.log r e
 cause_spared c n x (model.Receive (Answers a)) takes e =
-    hears_spared _ _ _ (sym (ap (λ (b : Bool). cond b (take_cause x a) (cut_cause c n x a)) takes) ∙ e)
+    tests_spared ((_, refusals.Down) ∷ (_, refusals.StaleRecord) ∷ (_, refusals.StaleAnswer) ∷ []) refl (sym (ap (λ (b : Bool). cond b (take_cause x a) (cut_cause c n x a)) takes) ∙ e)
 cause_spared c n x (model.Receive (Decides d)) takes e = learn_spared d x.mode e
 cause_spared c n x (model.Receive _) takes e = misplaced_spared (is_down x.mode) e
 cause_spared c n x (model.Join member) takes e = join_spared x member x.mode e
