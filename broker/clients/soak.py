@@ -171,13 +171,15 @@ class Round:
             COUNTS["growths refused"] += self.age.tools.memory.refused()
         if status not in statuses:
             raise Wrong(f"the broker has ended by {status}, in place of {statuses}")
-        self.hold_said()
+        self.hold_said(status)
 
-    def hold_said(self):
+    def hold_said(self, status):
+        """A line that isn't whole may be anything: the process was killed meanwhile."""
         may_say = [MAY_SAY] + [MAY_SAY_DYING] * (self.end == "starve") + [MAY_SAY_FULL] * self.is_filled() + [MAY_SAY_STARVED] * self.is_starved()
         with open(self.said, encoding="utf-8", errors="replace") as file:
             for line in file:
-                if not any(re.search(it, line) for it in may_say):
+                is_whole = line.endswith("\n") or status != KILLED
+                if is_whole and not any(re.search(it, line) for it in may_say):
                     raise Wrong(f"the broker says: {line.rstrip()}")
 
     # ---- what befalls it
@@ -369,12 +371,19 @@ class Age:
             raise Wrong(f"the nodes don't agree within {LONG} s:\n{one.host.ask('show')}")
         return [end for end, in looked()]
 
+    def end_client(self, client, one):
+        """Ends it; where it doesn't end, what the broker is at is told."""
+        try:
+            client.end()
+        except Wrong as why:
+            raise Wrong(f"{why}\n{one.host.ask('show')}") from None
+
     def end_clients(self, one):
         """Ends the clients; then all is decided, the consumer has come to the end, and each node has all."""
         self.mend(one)
         *producers, group = self.clients
         for client in producers:
-            client.end()
+            self.end_client(client, one)
         ends = self.agreed_end(one)
         COUNTS["elections"] += sum(epoch + 1 for _, epoch, _ in one.host.states())
         there = self.check(one)
@@ -441,6 +450,7 @@ def run_age(room, seed, number):
         for one in age.rounds[-1:]:
             one.host.end()
         print(f"{age}\nWRONG: {type(why).__name__}: {why}\n  tools/soak 1 {seed} {number} draws the same", flush=True)
+        faulthandler.dump_traceback()  # where clients wait
         os._exit(1)  # clients may wait for something
     shutil.rmtree(age.folder)
     with open(f"{room}/counts", "w", encoding="ascii") as file:

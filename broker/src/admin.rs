@@ -3,9 +3,9 @@
 //! Each line is answered by lines of which the last one is `ok`, or begins with `error`.
 
 use crate::cluster::{self, Undone};
-use crate::hub::Hub;
+use crate::hub::{Hub, Waiting};
 use crate::partition::led_epoch;
-use crate::{lock, recording, requests};
+use crate::{connection, lock, recording, requests};
 use kpart::Link;
 use std::fmt::Write as _;
 use std::io::{self, BufRead, BufReader, Read, Write};
@@ -19,6 +19,10 @@ use std::time::Duration;
 pub const HELP: &str = "stop N | restart N | elect N [TOPIC PARTITION] | cut A B | delay A B MS | lossy A B ONE_IN | doubling A B ONE_IN \
 | heal | hold N | release N | fail COUNT CODE API | rtt MS | show | recorded | quit";
 
+/// A request that waits for so long is shown.
+const LONG: Duration = Duration::from_secs(1);
+/// The line that ends the broker.
+const QUIT: &str = "quit";
 /// The longest line.
 const LONGEST: u64 = 1_024;
 /// The most connections.
@@ -67,6 +71,7 @@ fn serve(hub: &Arc<Hub>, stream: &TcpStream) -> io::Result<()> {
     let mut input = BufReader::new(stream);
     let mut output = stream;
     while let Some(line) = next_line(hub, &mut input)? {
+        let _told = (line.trim() == QUIT).then(|| lock(&hub.telling));
         output.write_all(answer(hub, &line).as_bytes())?;
     }
     Ok(())
@@ -120,10 +125,17 @@ fn run(hub: &Arc<Hub>, line: &str) -> Result<String, String> {
         ["rtt", ms] => hub.set_rtt(Duration::from_millis(number(ms)?)),
         ["show"] => return Ok(show(hub)),
         ["recorded"] => return recording::flush(hub),
-        ["quit"] => hub.close(),
+        [QUIT] => quit(hub),
         _ => return Err(HELP.to_string()),
     }
     Ok(String::new())
+}
+
+/// The broker ends. No client is told anything from then on, and the records have all that one was told before.
+fn quit(hub: &Hub) {
+    hub.close();
+    connection::close_all(hub);
+    recording::stop(hub);
 }
 
 /// The link of a line that has a number: milliseconds, or of how many messages one is lost or doubled.
@@ -186,6 +198,10 @@ pub fn show(hub: &Hub) -> String {
     }
     for (name, _, state, generation, members) in hub.groups.list() {
         let _ = writeln!(out, "group {name} {} generation {generation} members {members}", state.name());
+    }
+    for Waiting { node, api, time } in hub.waiting(LONG) {
+        let name = requests::called(api).unwrap_or("a request");
+        let _ = writeln!(out, "waiting node {node} {name} {} ms", time.as_millis());
     }
     let (ids, open) = hub.transactions.count();
     let _ = writeln!(out, "transactional-ids {ids} open {open}");

@@ -7,7 +7,7 @@ use crate::hub::Hub;
 use crate::news::News;
 use crate::options::{BadOption, Options};
 use crate::reply::Passes;
-use crate::{admin, coordinator, recording, requests};
+use crate::{admin, coordinator, lock, recording, requests};
 use kpart::{Link, RecorderFault};
 use std::fmt;
 use std::net::TcpListener;
@@ -303,16 +303,14 @@ impl Broker {
 impl Drop for Broker {
     fn drop(&mut self) {
         self.hub.close();
-        for node in 0..self.hub.nodes() {
-            connection::close_port(&self.hub, node);
-            self.hub.hang_up(node);
-        }
+        connection::close_all(&self.hub);
         for thread in self.threads.drain(..) {
             let _ended = thread.join();
         }
         if self.hub.options.data.is_some() {
             self.let_go();
         }
+        drop(lock(&self.hub.telling));
         recording::stop(&self.hub);
     }
 }

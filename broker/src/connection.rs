@@ -1,7 +1,7 @@
 //! Sockets: an acceptor for each node; for each connection a thread that reads, appends and answers what is known at once, and one that
 //! waits, and answers all else in order.
 
-use crate::hub::Hub;
+use crate::hub::{Doing, Hub};
 use crate::produce::{self, Produced, Producer};
 use crate::reply::{Call, Close, Passes, Reply};
 use crate::{lock, requests};
@@ -61,6 +61,8 @@ struct Connection {
     has_ended: AtomicBool,
     /// The client has closed it: nobody waits for answers.
     is_gone: AtomicBool,
+    /// What the answering thread is at.
+    doing: Arc<Doing>,
     /// How many requests the answering thread has yet to answer. The reading thread raises it, and writes only where it is 0.
     under_way: AtomicUsize,
 }
@@ -123,6 +125,14 @@ pub fn accept(hub: &Arc<Hub>, node: u8, listener: TcpListener) -> io::Result<()>
     Ok(())
 }
 
+/// Closes all ports and connections of a broker that ends.
+pub fn close_all(hub: &Hub) {
+    for node in 0..hub.nodes() {
+        close_port(hub, node);
+        hub.hang_up(node);
+    }
+}
+
 /// Ends the acceptor of a node that is down, and so closes its port.
 pub fn close_port(hub: &Hub, node: u8) {
     let Some(gate) = hub.gate(node) else { return };
@@ -142,12 +152,13 @@ pub fn close_port(hub: &Hub, node: u8) {
 
 /// Starts a connection's threads, or closes it where that can't be.
 fn serve(hub: &Arc<Hub>, node: u8, stream: TcpStream, peer: SocketAddr) {
-    let number = match hub.enter(node, &stream) {
+    let doing = Arc::new(Doing::default());
+    let number = match hub.enter(node, &stream, &doing) {
         Ok(Some(number)) => number,
         Ok(None) => return hub.log(node, &peer.to_string(), "there are as many connections as there may be"),
         Err(error) => return hub.log(node, &peer.to_string(), &error.to_string()),
     };
-    if let Err(error) = start(hub, node, number, stream, peer) {
+    if let Err(error) = start(hub, node, number, stream, peer, doing) {
         hub.leave(number);
         hub.log(node, &peer.to_string(), &error.to_string());
     } else if !hub.is_up(node) {
@@ -155,13 +166,13 @@ fn serve(hub: &Arc<Hub>, node: u8, stream: TcpStream, peer: SocketAddr) {
     }
 }
 
-fn start(hub: &Arc<Hub>, node: u8, number: u64, stream: TcpStream, peer: SocketAddr) -> io::Result<()> {
+fn start(hub: &Arc<Hub>, node: u8, number: u64, stream: TcpStream, peer: SocketAddr, doing: Arc<Doing>) -> io::Result<()> {
     stream.set_nodelay(true)?;
     stream.set_read_timeout(Some(PATIENCE))?;
     stream.set_write_timeout(Some(PATIENCE))?;
     let (hub, peer) = (hub.clone(), peer.to_string());
     let (has_ended, is_gone, under_way) = (AtomicBool::new(false), AtomicBool::new(false), AtomicUsize::new(0));
-    let connection = Arc::new(Connection { hub, node, number, peer, stream, has_ended, is_gone, under_way });
+    let connection = Arc::new(Connection { hub, node, number, peer, stream, has_ended, is_gone, doing, under_way });
     let producer = Arc::new(Producer::new(&connection.hub));
     let (sender, inbox) = sync_channel(DEEP);
     let (reads, receipts) = (connection.clone(), producer.clone());
@@ -284,11 +295,13 @@ fn answer_all(connection: &Connection, producer: &Producer, inbox: &Receiver<Pen
     for pending in inbox {
         match pending {
             Pending::Produced(produced) => {
+                connection.doing.begin(api::PRODUCE.key);
                 let reply = connection.reply(produced.header, &mut buffer);
                 produce::answer(hub, node, producer, &mut passes, &produced, &|| connection.is_off(), reply)?;
             }
             Pending::Other(request) => {
                 let Header { key, version, .. } = request.header;
+                connection.doing.begin(key);
                 let reply = connection.reply(request.header, &mut buffer);
                 let failing = hub.failure(key);
                 let (client, peer) = (request.client.as_str(), connection.peer.as_str());
@@ -297,6 +310,7 @@ fn answer_all(connection: &Connection, producer: &Producer, inbox: &Receiver<Pen
                 requests::answer(&mut call, key, &request.body, reply)?;
             }
         }
+        connection.doing.end();
         connection.under_way.fetch_sub(1, SeqCst);
         if !hub.is_up(node) {
             return Err(Close::Quiet);

@@ -43,6 +43,33 @@ pub type Lines = [[Link; MOST_NODES as usize]; MOST_NODES as usize];
 struct Open {
     node: u8,
     stream: TcpStream,
+    doing: Arc<Doing>,
+}
+
+/// Which request a connection answers, by its number, and since when.
+#[derive(Default)]
+pub struct Doing(Mutex<Option<(i16, Instant)>>);
+
+impl Doing {
+    /// It begins to.
+    pub fn begin(&self, api: i16) {
+        *lock(&self.0) = Some((api, Instant::now()));
+    }
+
+    /// It is answered.
+    pub fn end(&self) {
+        *lock(&self.0) = None;
+    }
+}
+
+/// A request that isn't answered for some time.
+pub struct Waiting {
+    /// The node.
+    pub node: u8,
+    /// The request's number.
+    pub api: i16,
+    /// For how long.
+    pub time: Duration,
 }
 
 /// What all threads share.
@@ -55,6 +82,8 @@ pub struct Hub {
     pub news: Arc<News>,
     /// Tells that the broker ends, and of nothing else.
     pub end: News,
+    /// Held until a line that ended the broker is answered: a process ends no sooner.
+    pub telling: Mutex<()>,
     /// By node.
     pub gates: Vec<Gate>,
     /// Transactional ids.
@@ -103,6 +132,7 @@ impl Hub {
             partitions,
             news,
             end: News::default(),
+            telling: Mutex::default(),
             links: Mutex::default(),
             keep,
             rtt: AtomicU64::new(0),
@@ -212,14 +242,14 @@ impl Hub {
     // ---- connections
 
     /// Notes a connection, unless there are too many.
-    pub fn enter(&self, node: u8, stream: &TcpStream) -> std::io::Result<Option<u64>> {
+    pub fn enter(&self, node: u8, stream: &TcpStream, doing: &Arc<Doing>) -> std::io::Result<Option<u64>> {
         let stream = stream.try_clone()?;
         let number = self.next_connection.fetch_add(1, SeqCst);
         let mut connections = lock(&self.connections);
         if connections.len() >= self.options.most_connections {
             return Ok(None);
         }
-        connections.insert(number, Open { node, stream });
+        connections.insert(number, Open { node, stream, doing: doing.clone() });
         Ok(Some(number))
     }
 
@@ -231,6 +261,13 @@ impl Hub {
     /// How many connections a node has.
     pub fn connections(&self, node: u8) -> usize {
         lock(&self.connections).values().filter(|it| it.node == node).count()
+    }
+
+    /// The requests that aren't answered for so long.
+    pub fn waiting(&self, least: Duration) -> Vec<Waiting> {
+        let found = lock(&self.connections).values().filter_map(|it| Some((it.node, (*lock(&it.doing.0))?))).collect::<Vec<_>>();
+        let found = found.into_iter().map(|(node, (api, since))| Waiting { node, api, time: since.elapsed() });
+        found.filter(|it| it.time >= least).collect()
     }
 
     /// Ends a node's connections; their threads see it.

@@ -8,6 +8,7 @@ use kpart::{Cluster, Limits, Recorded, Recorder, RecorderFault};
 use std::fmt::Write as _;
 use std::io::Write as _;
 use std::path::{Path, PathBuf};
+use std::sync::atomic::{AtomicBool, Ordering::SeqCst};
 
 /// Of a script, and so of what is recorded.
 const MAX_RECORDED: u32 = 1_048_576;
@@ -18,6 +19,7 @@ pub struct Script {
     /// Where it stands.
     pub path: PathBuf,
     recorder: Recorder,
+    is_over: AtomicBool,
 }
 
 /// Where a partition's script stands in the folder.
@@ -44,7 +46,7 @@ pub fn open(topic: &str, index: i32, options: &Options) -> Result<(Cluster, Opti
     let path = script_of(folder, topic, index);
     let limits = Limits { max_batch: MAX_RECORDED, ..LIMITS };
     let (cluster, recorder) = Recorder::open(&path, options.nodes, limits).map_err(Fault::Record)?;
-    Ok((cluster, Some(Script { path, recorder })))
+    Ok((cluster, Some(Script { path, recorder, is_over: AtomicBool::new(false) })))
 }
 
 impl Script {
@@ -69,9 +71,9 @@ pub fn flush(hub: &Hub) -> Result<String, String> {
     Ok(out)
 }
 
-/// Ends the records. What is wrong with one is said on stderr.
+/// Ends the records, once. What is wrong with one is said on stderr.
 pub fn stop(hub: &Hub) {
-    for script in scripts(hub) {
+    for script in scripts(hub).filter(|it| !it.is_over.swap(true, SeqCst)) {
         if let Err(why) = script.recorder.stop() {
             let _said = writeln!(std::io::stderr(), "kpart-broker: {}: {why}", script.path.display());
         }

@@ -56,6 +56,11 @@ pub fn named(name: &str) -> Option<Api> {
     ADVERTISED.iter().map(|it| it.api).find(|it| it.name.eq_ignore_ascii_case(name))
 }
 
+/// What the request of this number is called.
+pub fn called(key: i16) -> Option<&'static str> {
+    ADVERTISED.iter().find(|it| it.api.key == key).map(|it| it.api.name)
+}
+
 /// Answers a request that isn't Produce.
 pub fn answer(call: &mut Call<'_>, key: i16, body: &[u8], reply: Reply<'_>) -> Result<(), Close> {
     let version = call.version;

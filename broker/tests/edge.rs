@@ -267,6 +267,18 @@ fn an_admin_has_lines() -> Outcome {
 }
 
 #[test]
+fn what_waits_is_shown() -> Outcome {
+    let broker = broker()?;
+    let mut client = Client::of_leader(&broker, 0)?;
+    let waits = FetchRequest { max_wait_ms: 1_500, min_bytes: 1, topics: vec![], ..FetchRequest::default() };
+    let number = client.send(&waits, 12)?;
+    assert!(!broker.show().contains("waiting"), "{}", broker.show());
+    until("it is shown", || broker.show().contains("\nwaiting node 0 Fetch "))?;
+    client.answer(&waits, 12, number)?;
+    until("it is answered", || !broker.show().contains("waiting"))
+}
+
+#[test]
 fn answers_fail_as_the_tester_wants() -> Outcome {
     let broker = broker()?;
     let mut client = Client::of_leader(&broker, 0)?;
