@@ -402,6 +402,7 @@ class Age:
             COUNTS["producers given up"] += client.given_up
             if isinstance(client, Producing):
                 COUNTS["records acknowledged"] += len(note.told)
+                COUNTS["epochs raised by librdkafka"] += note.raised
             elif isinstance(client, Transactional):
                 COUNTS["transactions committed"] += len(note.numbers(told.COMMITTED))
                 COUNTS["aborted"] += len(note.numbers(told.ABORTED))

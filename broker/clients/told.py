@@ -6,6 +6,7 @@ padding, of its client's name, so that each byte that is read is known.
 """
 import contextlib
 import functools
+import json
 import random
 import threading
 import time
@@ -17,6 +18,7 @@ from reading import records
 
 SECONDS = 60  # in which a client has ended that is to end
 UNDER_WAY = 200  # records of a producer, at most
+STATISTICS = 50  # milliseconds, after which librdkafka says how often it has raised an epoch
 LONGER = {17: 20_000, 40: 3_000}  # how long paddings are, by the number's rest
 REST = 89
 NONE = -1001  # librdkafka's offset where nothing was committed
@@ -108,10 +110,12 @@ class Client(threading.Thread):
 
 
 class Sent(NamedTuple):
-    """To which partition a producer has sent each record; of which ones it was told, with the offset or None; and of which ones it never will be."""
+    """To which partition a producer has sent each record; of which ones it was told, with the offset or None; of which ones it never will be; and
+    how often it has raised its epoch."""
     placed: list
     told: dict
     lost: dict
+    raised: int
 
     def numbers(self, partition):
         return [number for number, it in enumerate(self.placed) if it == partition]
@@ -125,12 +129,20 @@ class Producing(Client):
     a new one goes on.
 
     It sends to one partition; without such a one to each by turns, but an idempotent one takes turns just as a new one goes on. For where a batch is
-    out of order in one partition, librdkafka (2.0.2) raises its epoch at once, and by that sends again what the others may have stored."""
+    out of order while an earlier one is under way, as at a new leader, librdkafka (2.0.2) raises its epoch, and sends again all of which it wasn't
+    told, also what is stored."""
 
     def __init__(self, *words, partition=None, is_idempotent=True, bursts=10 ** 9):
         super().__init__(*words)
         self.partition, self.is_idempotent, self.bursts, self.lives = partition, is_idempotent, bursts, 0
-        self.placed, self.told, self.lost = [], {}, {}
+        self.placed, self.told, self.lost, self.raised_before, self.epochs = [], {}, {}, 0, 1
+
+    def heard_statistics(self, text):
+        """librdkafka counts how often it was given an id or an epoch."""
+        self.epochs = max(self.epochs, json.loads(text)["eos"]["epoch_cnt"])
+
+    def raised(self):
+        return self.raised_before + self.epochs - 1
 
     def heard(self, number, error, message):
         if error:
@@ -170,7 +182,8 @@ class Producing(Client):
                 made.poll(0.05)
 
     def life(self):
-        made = Producer({"bootstrap.servers": self.servers, "enable.idempotence": self.is_idempotent, "acks": "all", "linger.ms": 1, **QUICK})
+        made = Producer({"bootstrap.servers": self.servers, "enable.idempotence": self.is_idempotent, "acks": "all", "linger.ms": 1,
+                         **({"stats_cb": self.heard_statistics, "statistics.interval.ms": STATISTICS} if self.is_idempotent else {}), **QUICK})
         before = len(self.lost)
         try:
             self.send(made, before)
@@ -183,6 +196,9 @@ class Producing(Client):
             raise Wrong(f"{left} records aren't acknowledged within {LONG} s")
         if len(self.lost) > before:
             self.give_up([*self.lost.items()][before])
+        if self.is_idempotent:
+            made.poll(2 * STATISTICS / 1000)
+        self.raised_before, self.epochs = self.raised(), 1
         self.lives += 1
 
     def work(self):
@@ -191,7 +207,7 @@ class Producing(Client):
 
     def note(self):
         told = dict(self.told)  # first: it has been sent by then
-        return Sent(list(self.placed), told, dict(self.lost))
+        return Sent(list(self.placed), told, dict(self.lost), self.raised())
 
     def hold(self, before, after, there):
         for partition in range(self.partitions):
@@ -205,20 +221,25 @@ class Producing(Client):
             if unsent:
                 raise Wrong(f"{where}: {unsent[:5]} are there, and were never sent to it")
             if self.is_idempotent:
-                self.hold_once(where, numbers, sent, after.lost)
+                self.hold_once(where, numbers, sent, after)
             at = {(number, offset) for offset, number, _ in found}
             moved = [(number, offset) for number, offset in told.items() if offset is not None and (number, offset) not in at]
             if moved:
                 raise Wrong(f"{where}: {moved[0][0]} was told to be at {moved[0][1]}, and is at {[it[0] for it in found if it[1] == moved[0][0]]}")
 
     @staticmethod
-    def hold_once(where, numbers, sent, lost):
-        """Each is there once, and in order; of those of which it never will be told, any."""
-        again = sorted({number for number in numbers if number in lost and numbers.count(number) > 1})
-        known, wanted = [it for it in numbers if it not in lost], [it for it in sent if it not in lost]
-        if known != wanted[:len(known)] or again:
-            odd = next((place for place, (one, other) in enumerate(zip(known, wanted)) if one != other), len(wanted))
-            raise Wrong(f"{where}: not each once and in order: {again or known[max(0, odd - 3):odd + 4]}")
+    def hold_once(where, numbers, sent, after):
+        """Each is there once, and in order; of those of which it never will be told, any. Where it raises its epoch it begins anew once, with
+        what wasn't told."""
+        again = sorted({number for number in numbers if number in after.lost and numbers.count(number) > 1})
+        known, wanted = [it for it in numbers if it not in after.lost], [it for it in sent if it not in after.lost]
+        place_of, next_place, left = {number: place for place, number in enumerate(wanted)}, 0, after.raised
+        for place, number in enumerate(known):
+            is_anew = place_of[number] < next_place
+            left -= is_anew
+            if left < 0 or not is_anew and place_of[number] != next_place or again:
+                raise Wrong(f"{where}: not each once and in order, with {after.raised} raised epochs: {again or known[max(0, place - 3):place + 4]}")
+            next_place = place_of[number] + 1
 
 
 class Ran(NamedTuple):
@@ -500,6 +521,7 @@ def check(clients, host):
     """Reads all, and holds what the clients were told so far to it; they go on meanwhile."""
     before = {it.name: it.note() for it in clients}
     there = look(clients, floors(before.values(), clients[0].partitions), host)
+    time.sleep(2 * STATISTICS / 1000)  # so that raised epochs are known, of which the reader has seen what came of it
     hold(clients, before, {it.name: it.note() for it in clients}, there)
     return there
 
