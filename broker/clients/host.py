@@ -115,6 +115,15 @@ class Host:
                 found[-1][2].append(State(*map(int, state.groups())))
         return found
 
+    def asked(self):
+        """How often each request came, by its name."""
+        words = re.search(r"^asked ?(.*)$", self.ask("show"), re.MULTILINE)[1].split()
+        return dict(zip(words[::2], map(int, words[1::2])))
+
+    def owed(self):
+        """For how many seconds the answer is due that has been so for longest."""
+        return max((int(time) / 1000 for time in re.findall(r"^waiting .* (\d+) ms$", self.ask("show"), re.MULTILINE)), default=0)
+
     def has_ended(self):
         return self.process.poll() is not None
 

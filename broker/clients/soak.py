@@ -38,7 +38,11 @@ from lib import check_recorded
 ROUNDS, RECORDED_ROUNDS = 8, 4
 MOST_CALLS = 3_000  # of the system, before the one at which a broker is killed
 MOST_WRONG = 3  # ages; the soak ends then
-AGE, PASSED, FAILED, CRASHED = "age", "passed", "failed", "crashed"
+AGE, PASSED, FAILED, CRASHED, HUNG = "age", "passed", "failed", "crashed", "hung"
+STATUS_HUNG = 3
+ONE_IN = 50  # ages, of which librdkafka may hang in one, and in one more
+# What a producer asks that goes on, and how long it may ask nothing, or wait for an answer, in seconds.
+ASKS, NO_REQUEST, NO_ANSWER = ("Produce", "InitProducerId", "FindCoordinator", "AddPartitionsToTxn", "AddOffsetsToTxn", "TxnOffsetCommit", "EndTxn"), 5, 10
 LONGEST = 600  # seconds of an age; a longer one hangs, and ends all, with where each thread stands
 SHADOW = 3  # rounds, up to which a producer may give up for what was refused in the first of them
 FAST = "/dev/shm"  # a sync costs nothing there
@@ -49,6 +53,10 @@ ENDS = {"kill": 40, "call": 25, "starve": 10, "quit": 25}
 MAY_SAY, MAY_SAY_DYING, MAY_SAY_FULL = r"they are cut off$", r"", r"node \d has stopped: .*File too large"
 MAY_SAY_STARVED = r"\.script: "  # no line of a script says that a node fell
 COUNTS, ACTS = collections.Counter(), collections.Counter()
+
+
+class Hung(Exception):
+    """A client doesn't go on, though it is owed no answer, and asks nothing."""
 
 
 def built(room, name):
@@ -376,12 +384,18 @@ class Age:
         try:
             client.end()
         except Wrong as why:
-            raise Wrong(f"{why}\n{one.host.ask('show')}") from None
+            before = one.host.asked()
+            time.sleep(NO_REQUEST)
+            goes_on = not client.is_alive() or any(one.host.asked().get(it) != before.get(it) for it in ASKS)
+            kind = Wrong if goes_on or one.host.owed() > NO_ANSWER else Hung
+            raise kind(f"{why}\n{one.host.ask('show')}") from None
 
     def end_clients(self, one):
         """Ends the clients; then all is decided, the consumer has come to the end, and each node has all."""
         self.mend(one)
         *producers, group = self.clients
+        for client in producers:
+            client.ends.set()
         for client in producers:
             self.end_client(client, one)
         ends = self.agreed_end(one)
@@ -439,7 +453,8 @@ class Age:
             COUNTS["events played"] += count
 
 
-# An age has a process of its own, as librdkafka may crash (2.0.2 does at a look at its own threads, about once an hour).
+# An age has a process of its own, as librdkafka may crash (2.0.2 does at a look at its own threads, about once an hour). It may hang, too: a producer
+# was seen that neither asked anything nor waited for an answer, in the middle of send_offsets_to_transaction.
 
 def run_age(room, seed, number):
     """The exit status: 1 where something is wrong with it, which is told then, and its folder stays."""
@@ -447,6 +462,11 @@ def run_age(room, seed, number):
     faulthandler.dump_traceback_later(LONGEST, exit=True)
     try:
         age.run()
+    except Hung as why:
+        print(f"{age}\nlibrdkafka hangs: {why}", flush=True)
+        faulthandler.dump_traceback()
+        age.rounds[-1].host.end()
+        os._exit(STATUS_HUNG)
     except (Exception, SystemExit) as why:
         for one in age.rounds[-1:]:
             one.host.end()
@@ -460,15 +480,16 @@ def run_age(room, seed, number):
 
 
 def became_of_age(room, seed, number):
-    """PASSED, FAILED or CRASHED."""
+    """PASSED, FAILED, CRASHED or HUNG."""
     words = [sys.executable, os.path.abspath(__file__), AGE, room, str(seed), str(number)]
     ran = subprocess.run(words, stderr=subprocess.PIPE, text=True, preexec_fn=end_with_parent, check=False)
     print(ran.stderr, end="", file=sys.stderr, flush=True)
-    if ran.returncode == -signal.SIGSEGV or ran.returncode == ABORTED and "rdkafka" in ran.stderr:
+    is_crashed = ran.returncode == -signal.SIGSEGV or ran.returncode == ABORTED and "rdkafka" in ran.stderr
+    if is_crashed or ran.returncode == STATUS_HUNG:
         for folder in (tempfile.gettempdir(), FAST):
             for path in glob.glob(f"{folder}/kpart-soak-{seed}-{number}-*"):
                 shutil.rmtree(path)
-        return CRASHED
+        return CRASHED if is_crashed else HUNG
     if ran.returncode:
         return FAILED
     with open(f"{room}/counts", encoding="ascii") as file:
@@ -484,11 +505,12 @@ def main(words):
         while time.time() - begin < minutes * 60 and became[FAILED] < MOST_WRONG:
             became[became_of_age(room, seed, number)] += 1
             number += 1
-    print(f"seed {seed}, {(time.time() - begin) / 60:.1f} minutes, ages {first} to {number - 1}; librdkafka has crashed in {became[CRASHED]}")
+    print(f"seed {seed}, {(time.time() - begin) / 60:.1f} minutes, ages {first} to {number - 1}; librdkafka has crashed in {became[CRASHED]}, "
+          f"hung in {became[HUNG]}")
     for sums in (COUNTS, ACTS):
         print("  " + ", ".join(f"{name} {count:,}" for name, count in sums.items()))
     print(f"{became[PASSED]} passed, {became[FAILED]} failed")
-    return 1 if became[FAILED] or not became[PASSED] else 0
+    return 1 if became[FAILED] or not became[PASSED] or became[HUNG] > 1 + (number - first) // ONE_IN else 0
 
 
 if __name__ == "__main__":

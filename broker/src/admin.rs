@@ -207,6 +207,8 @@ pub fn show(hub: &Hub) -> String {
     let _ = writeln!(out, "transactional-ids {ids} open {open}");
     let count = |it: &std::sync::atomic::AtomicU64| it.load(SeqCst);
     let counts = &hub.counts;
+    let asked = requests::ADVERTISED.iter().map(|it| (it.api.name, counts.asked.count(it.api.key))).filter(|(_, count)| *count > 0);
+    let _ = writeln!(out, "asked {}", asked.map(|(name, count)| format!("{name} {count}")).collect::<Vec<_>>().join(" "));
     let (requests, batches) = (count(&counts.requests), count(&counts.batches));
     let (duplicates, closed) = (count(&counts.duplicates), count(&counts.closed));
     let _ = writeln!(out, "requests {requests} batches {batches} duplicates {duplicates} closed {closed}");

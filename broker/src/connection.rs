@@ -3,7 +3,7 @@
 
 use crate::hub::{Doing, Hub};
 use crate::produce::{self, Produced, Producer};
-use crate::reply::{Call, Close, Passes, Reply};
+use crate::reply::{Answered, Call, Close, Passes, Reply};
 use crate::{lock, requests};
 use kwire::frame::{FrameDecoder, LEAST_REQUEST, RequestHeader};
 use kwire::{Reader, api};
@@ -252,6 +252,7 @@ impl Reading<'_> {
         hub.counts.requests.fetch_add(1, SeqCst);
         let mut reader = Reader::new(frame);
         let header = RequestHeader::decode(&mut reader)?;
+        hub.counts.asked.add(header.api_key);
         let client = header.client_id.unwrap_or_default();
         let header = Header { key: header.api_key, version: header.api_version, correlation_id: header.correlation_id, came };
         if header.key == api::PRODUCE.key {
@@ -274,7 +275,9 @@ impl Reading<'_> {
             return self.hand_on(Pending::Produced(Box::new(produced)));
         }
         let reply = connection.reply(produced.header, &mut self.buffer);
-        produce::answer(hub, node, self.producer, &mut Passes::default(), &produced, &|| connection.is_off(), reply)
+        let passes = &mut Passes::default();
+        let Answered { .. } = produce::answer(hub, node, self.producer, passes, &produced, &|| connection.is_off(), reply)?;
+        Ok(())
     }
 
     fn hand_on(&self, pending: Pending) -> Result<(), Close> {
@@ -293,11 +296,11 @@ fn answer_all(connection: &Connection, producer: &Producer, inbox: &Receiver<Pen
     let mut passes = Passes::default();
     let mut buffer = Vec::new();
     for pending in inbox {
-        match pending {
+        let Answered { .. } = match pending {
             Pending::Produced(produced) => {
                 connection.doing.begin(api::PRODUCE.key);
                 let reply = connection.reply(produced.header, &mut buffer);
-                produce::answer(hub, node, producer, &mut passes, &produced, &|| connection.is_off(), reply)?;
+                produce::answer(hub, node, producer, &mut passes, &produced, &|| connection.is_off(), reply)?
             }
             Pending::Other(request) => {
                 let Header { key, version, .. } = request.header;
@@ -307,9 +310,9 @@ fn answer_all(connection: &Connection, producer: &Producer, inbox: &Receiver<Pen
                 let (client, peer) = (request.client.as_str(), connection.peer.as_str());
                 let gone = &connection.is_gone;
                 let mut call = Call { hub, node, client, peer, gone, version, failing, passes: &mut passes };
-                requests::answer(&mut call, key, &request.body, reply)?;
+                requests::answer(&mut call, key, &request.body, reply)?
             }
-        }
+        };
         connection.doing.end();
         connection.under_way.fetch_sub(1, SeqCst);
         if !hub.is_up(node) {

@@ -2,7 +2,7 @@
 
 use crate::codes::code;
 use crate::partition::check_epoch;
-use crate::reply::{Call, Close, Reply};
+use crate::reply::{Answered, Call, Close, Reply};
 use kpart::{Fetched, Isolation};
 use kwire::fetch::{AbortedTransaction, FetchPartition, FetchRequest, FetchResponse, FetchedPartition, FetchedTopic};
 use kwire::{ErrorCode, Records};
@@ -34,7 +34,7 @@ pub fn isolation(level: i8) -> Isolation {
 }
 
 /// Answers once there are as many bytes as the consumer wants, or something is wrong, or it is time.
-pub fn fetch(call: &mut Call<'_>, request: &FetchRequest<'_>, reply: Reply<'_>) -> Result<(), Close> {
+pub fn fetch(call: &mut Call<'_>, request: &FetchRequest<'_>, reply: Reply<'_>) -> Result<Answered, Close> {
     if let Err(error_code) = check(call, request) {
         return reply.send(&FetchResponse { error_code, ..FetchResponse::default() });
     }

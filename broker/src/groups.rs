@@ -1,7 +1,7 @@
 //! JoinGroup, SyncGroup, Heartbeat, LeaveGroup, OffsetCommit, OffsetFetch, DescribeGroups, ListGroups.
 
 use crate::members::{CommittedOffset, Described, Join, LONGEST_METADATA, Peer, Who};
-use crate::reply::{Call, Close, Reply};
+use crate::reply::{Answered, Call, Close, Reply};
 use kwire::ErrorCode;
 use kwire::groups::describe_groups::{DescribeGroupsRequest, DescribeGroupsResponse, DescribedGroup, DescribedMember};
 use kwire::groups::heartbeat::{HeartbeatRequest, HeartbeatResponse};
@@ -21,7 +21,7 @@ use std::collections::BTreeMap;
 const BY_ID: i16 = 4;
 
 /// Waits for the group's next generation.
-pub fn join_group(call: &mut Call<'_>, request: &JoinGroupRequest<'_>, reply: Reply<'_>) -> Result<(), Close> {
+pub fn join_group(call: &mut Call<'_>, request: &JoinGroupRequest<'_>, reply: Reply<'_>) -> Result<Answered, Close> {
     let version = call.version;
     let mut given = None;
     let joined = match call.check_coordinator() {
@@ -71,7 +71,7 @@ fn joining<'a>(call: &'a Call<'_>, request: &'a JoinGroupRequest<'a>) -> Join<'a
 }
 
 /// Waits for the assignment, which the leader hands in.
-pub fn sync_group(call: &mut Call<'_>, request: &SyncGroupRequest<'_>, reply: Reply<'_>) -> Result<(), Close> {
+pub fn sync_group(call: &mut Call<'_>, request: &SyncGroupRequest<'_>, reply: Reply<'_>) -> Result<Answered, Close> {
     let given: Vec<_> = request.assignments.iter().map(|it| (it.member_id.to_string(), it.assignment.to_vec())).collect();
     let hub = call.hub;
     let synced = match call.check_coordinator() {
@@ -98,7 +98,7 @@ fn number(result: Result<(), i16>) -> i16 {
 }
 
 /// A member is alive.
-pub fn heartbeat(call: &mut Call<'_>, request: &HeartbeatRequest<'_>, reply: Reply<'_>) -> Result<(), Close> {
+pub fn heartbeat(call: &mut Call<'_>, request: &HeartbeatRequest<'_>, reply: Reply<'_>) -> Result<Answered, Close> {
     let who = Who { member: request.member_id, instance: request.group_instance_id };
     let heard =
         call.check_coordinator().and_then(|()| call.hub.groups.heartbeat(request.group_id, request.generation_id, who).map_err(i16::from));
@@ -106,7 +106,7 @@ pub fn heartbeat(call: &mut Call<'_>, request: &HeartbeatRequest<'_>, reply: Rep
 }
 
 /// Members leave.
-pub fn leave_group(call: &mut Call<'_>, request: &LeaveGroupRequest<'_>, reply: Reply<'_>) -> Result<(), Close> {
+pub fn leave_group(call: &mut Call<'_>, request: &LeaveGroupRequest<'_>, reply: Reply<'_>) -> Result<Answered, Close> {
     let checked = call.check_coordinator();
     let leave = |who: Who<'_>| number(call.hub.groups.leave(request.group_id, who).map_err(i16::from));
     if let Err(error_code) = checked {
@@ -127,7 +127,7 @@ pub fn leave_group(call: &mut Call<'_>, request: &LeaveGroupRequest<'_>, reply: 
 }
 
 /// Keeps a group's offsets.
-pub fn offset_commit(call: &mut Call<'_>, request: &OffsetCommitRequest<'_>, reply: Reply<'_>) -> Result<(), Close> {
+pub fn offset_commit(call: &mut Call<'_>, request: &OffsetCommitRequest<'_>, reply: Reply<'_>) -> Result<Answered, Close> {
     let who = Who { member: request.member_id, instance: request.group_instance_id };
     let checked = call
         .check_coordinator()
@@ -171,7 +171,7 @@ fn kept(
 type Committed = BTreeMap<usize, CommittedOffset>;
 
 /// What groups have committed.
-pub fn offset_fetch(call: &mut Call<'_>, request: &OffsetFetchRequest<'_>, reply: Reply<'_>) -> Result<(), Close> {
+pub fn offset_fetch(call: &mut Call<'_>, request: &OffsetFetchRequest<'_>, reply: Reply<'_>) -> Result<Answered, Close> {
     let error_code = number(call.check_coordinator());
     let groups = &call.hub.groups;
     if call.version < 8 {
@@ -241,7 +241,7 @@ fn fetched<'a>(
 }
 
 /// Groups with their members.
-pub fn describe_groups(call: &mut Call<'_>, request: &DescribeGroupsRequest<'_>, reply: Reply<'_>) -> Result<(), Close> {
+pub fn describe_groups(call: &mut Call<'_>, request: &DescribeGroupsRequest<'_>, reply: Reply<'_>) -> Result<Answered, Close> {
     let checked = call.check_coordinator();
     let found: Vec<_> = request.groups.iter().map(|it| (*it, call.hub.groups.describe(it))).collect();
     let groups = found.iter().map(|(name, it)| match (checked, it) {
@@ -272,7 +272,7 @@ fn described<'a>(name: &'a str, it: &'a Described) -> DescribedGroup<'a> {
 }
 
 /// All groups.
-pub fn list_groups(call: &mut Call<'_>, request: &ListGroupsRequest<'_>, reply: Reply<'_>) -> Result<(), Close> {
+pub fn list_groups(call: &mut Call<'_>, request: &ListGroupsRequest<'_>, reply: Reply<'_>) -> Result<Answered, Close> {
     let error_code = number(call.check_coordinator());
     let list = if error_code == 0 { call.hub.groups.list() } else { Vec::new() };
     let is_asked = |state: &str| request.states_filter.is_empty() || request.states_filter.contains(&state);

@@ -105,11 +105,41 @@ pub struct Hub {
     closing: AtomicBool,
 }
 
+/// How often each request came, by its number.
+#[derive(Debug)]
+pub struct Asked([AtomicU64; 64]);
+
+impl Default for Asked {
+    fn default() -> Asked {
+        Asked(std::array::from_fn(|_| AtomicU64::new(0)))
+    }
+}
+
+impl Asked {
+    fn of(&self, api: i16) -> Option<&AtomicU64> {
+        self.0.get(usize::try_from(api).ok()?)
+    }
+
+    /// One more; a request that nobody knows isn't counted.
+    pub fn add(&self, api: i16) {
+        if let Some(count) = self.of(api) {
+            count.fetch_add(1, SeqCst);
+        }
+    }
+
+    /// How often it came.
+    pub fn count(&self, api: i16) -> u64 {
+        self.of(api).map_or(0, |it| it.load(SeqCst))
+    }
+}
+
 /// What `show` counts.
 #[derive(Debug, Default)]
 pub struct Counts {
     /// Requests of all kinds.
     pub requests: AtomicU64,
+    /// Requests by their numbers.
+    pub asked: Asked,
     /// Batches that were appended, or were there already.
     pub batches: AtomicU64,
     /// Of these, those that were there already.

@@ -2,7 +2,7 @@
 
 use crate::hub::Hub;
 use crate::partition::Partition;
-use crate::reply::{Call, Close, Reply};
+use crate::reply::{Answered, Call, Close, Reply};
 use crate::requests::ADVERTISED;
 use kwire::groups::find_coordinator::{Coordinator, FindCoordinatorRequest, FindCoordinatorResponse};
 use kwire::metadata::create_topics::{CreateTopicsRequest, CreateTopicsResponse, CreatedTopic, NewTopic};
@@ -20,17 +20,17 @@ fn versions(error_code: i16) -> ApiVersionsResponse {
 }
 
 /// Which requests are answered.
-pub fn api_versions(call: &mut Call<'_>, _: &ApiVersionsRequest<'_>, reply: Reply<'_>) -> Result<(), Close> {
+pub fn api_versions(call: &mut Call<'_>, _: &ApiVersionsRequest<'_>, reply: Reply<'_>) -> Result<Answered, Close> {
     reply.send(&versions(call.failing.unwrap_or_default()))
 }
 
 /// The same to a client that asked at a version that isn't known (KIP-511).
-pub fn bad_api_versions(reply: Reply<'_>) -> Result<(), Close> {
+pub fn bad_api_versions(reply: Reply<'_>) -> Result<Answered, Close> {
     reply.at_version(0).send(&versions(ErrorCode::UnsupportedVersion.into()))
 }
 
 /// Brokers, topics and who leads.
-pub fn metadata(call: &mut Call<'_>, request: &MetadataRequest<'_>, reply: Reply<'_>) -> Result<(), Close> {
+pub fn metadata(call: &mut Call<'_>, request: &MetadataRequest<'_>, reply: Reply<'_>) -> Result<Answered, Close> {
     let hub = call.hub;
     let host = hub.host();
     let brokers = (0..hub.nodes()).map(|node| MetadataBroker { node_id: node.into(), host: &host, port: hub.port(node), rack: None });
@@ -88,7 +88,7 @@ fn described(hub: &Hub, partition: &Partition) -> MetadataPartition {
 }
 
 /// Which node coordinates: one for all groups and transactional ids.
-pub fn find_coordinator(call: &mut Call<'_>, request: &FindCoordinatorRequest<'_>, reply: Reply<'_>) -> Result<(), Close> {
+pub fn find_coordinator(call: &mut Call<'_>, request: &FindCoordinatorRequest<'_>, reply: Reply<'_>) -> Result<Answered, Close> {
     let (hub, host) = (call.hub, call.hub.host());
     let found = match (call.failing, hub.coordinator()) {
         (Some(code), _) => Err(code),
@@ -110,7 +110,7 @@ pub fn find_coordinator(call: &mut Call<'_>, request: &FindCoordinatorRequest<'_
 }
 
 /// Topics are made by the options alone: one that is there is there, and another one is refused.
-pub fn create_topics(call: &mut Call<'_>, request: &CreateTopicsRequest<'_>, reply: Reply<'_>) -> Result<(), Close> {
+pub fn create_topics(call: &mut Call<'_>, request: &CreateTopicsRequest<'_>, reply: Reply<'_>) -> Result<Answered, Close> {
     let topics = request.topics.iter().map(|it| created(call, it)).collect();
     reply.send(&CreateTopicsResponse { throttle_time_ms: 0, topics })
 }
@@ -126,7 +126,7 @@ fn created<'a>(call: &Call<'_>, asked: &NewTopic<'a>) -> CreatedTopic<'a> {
 }
 
 /// The brokers, for an admin's client.
-pub fn describe_cluster(call: &mut Call<'_>, _: &DescribeClusterRequest, reply: Reply<'_>) -> Result<(), Close> {
+pub fn describe_cluster(call: &mut Call<'_>, _: &DescribeClusterRequest, reply: Reply<'_>) -> Result<Answered, Close> {
     let hub = call.hub;
     let host = hub.host();
     let broker = |node: u8| DescribedBroker { broker_id: node.into(), host: &host, port: hub.port(node), rack: None };

@@ -3,7 +3,7 @@
 use crate::codes::code;
 use crate::fetch::isolation;
 use crate::partition::check_epoch;
-use crate::reply::{Call, Close, Reply};
+use crate::reply::{Answered, Call, Close, Reply};
 use kpart::{Isolation, Node, NodeState, Pass, Role, Status, TimeOffset};
 use kwire::ErrorCode;
 use kwire::offsets::list_offsets::{
@@ -29,7 +29,7 @@ fn epoch_number(epoch: u32) -> i32 {
 }
 
 /// Offsets by time, or the log's ends.
-pub fn list_offsets(call: &mut Call<'_>, request: &ListOffsetsRequest<'_>, reply: Reply<'_>) -> Result<(), Close> {
+pub fn list_offsets(call: &mut Call<'_>, request: &ListOffsetsRequest<'_>, reply: Reply<'_>) -> Result<Answered, Close> {
     let isolation = isolation(request.isolation_level);
     let mut topics = Vec::with_capacity(request.topics.len());
     for topic in &request.topics {
@@ -99,7 +99,11 @@ fn of_greatest_time(node: &mut Node<'_>, pass: &mut Pass, isolation: Isolation) 
 }
 
 /// Where an epoch ends in the leader's log.
-pub fn offset_for_leader_epoch(call: &mut Call<'_>, request: &OffsetForLeaderEpochRequest<'_>, reply: Reply<'_>) -> Result<(), Close> {
+pub fn offset_for_leader_epoch(
+    call: &mut Call<'_>,
+    request: &OffsetForLeaderEpochRequest<'_>,
+    reply: Reply<'_>,
+) -> Result<Answered, Close> {
     let mut topics = Vec::with_capacity(request.topics.len());
     for topic in &request.topics {
         let mut partitions = Vec::with_capacity(topic.partitions.len());

@@ -4,7 +4,7 @@ use crate::codes::code;
 use crate::connection::Header;
 use crate::hub::Hub;
 use crate::partition::{Partition, Waited, led_epoch};
-use crate::reply::{Close, Passes, Reply};
+use crate::reply::{Answered, Close, Passes, Reply};
 use crate::{lock, requests};
 use kpart::{Ack, Batch, Pass, Receipt};
 use kwire::batch::{BatchHead, mended};
@@ -218,7 +218,7 @@ pub fn answer(
     produced: &Produced,
     is_off: &dyn Fn() -> bool,
     reply: Reply<'_>,
-) -> Result<(), Close> {
+) -> Result<Answered, Close> {
     let mut responses = Vec::with_capacity(produced.topics.len());
     let mut is_refused = false;
     for (name, parts) in &produced.topics {
@@ -238,7 +238,7 @@ pub fn answer(
     }
     if produced.acks == 0 {
         // Nobody is told otherwise.
-        return if is_refused { Err(Close::because("a batch of acks 0 was refused")) } else { Ok(()) };
+        return if is_refused { Err(Close::because("a batch of acks 0 was refused")) } else { Ok(reply.spared()) };
     }
     hub.wait_released(node, is_off);
     if is_off() {

@@ -97,6 +97,10 @@ impl Call<'_> {
     }
 }
 
+/// That a request has got its answer. Who handles one gives this back, or has the connection closed: so none is forgotten.
+#[must_use]
+pub struct Answered(());
+
 /// Where an answer goes.
 pub struct Reply<'a> {
     stream: &'a TcpStream,
@@ -151,8 +155,13 @@ impl<'a> Reply<'a> {
         }
     }
 
+    /// The client wants no answer.
+    pub fn spared(self) -> Answered {
+        Answered(())
+    }
+
     /// Sends the answer. Hold no lock meanwhile.
-    pub fn send<'m, M: Response<'m>>(self, message: &M) -> Result<(), Close> {
+    pub fn send<'m, M: Response<'m>>(self, message: &M) -> Result<Answered, Close> {
         if self.is_kept && self.hub.keep.settle().is_err() {
             return Err(Close::Quiet); // the controller says why
         }
@@ -162,7 +171,7 @@ impl<'a> Reply<'a> {
         let sent = frame.write_to(&mut output);
         *self.buffer = frame.into_buffer();
         match sent {
-            Ok(()) => Ok(()),
+            Ok(()) => Ok(Answered(())),
             Err(error) if error.kind() == io::ErrorKind::TimedOut => Err(Close::because("it doesn't take its answer")),
             Err(_) => Err(Close::Quiet),
         }

@@ -1,6 +1,6 @@
 //! Which requests are answered, at which versions, and by whom.
 
-use crate::reply::{Call, Close, Reply};
+use crate::reply::{Answered, Call, Close, Reply};
 use crate::{fetch, groups, metadata, offsets, transactions};
 use kwire::{Api, Message, Reader, WireError, api};
 
@@ -62,7 +62,7 @@ pub fn called(key: i16) -> Option<&'static str> {
 }
 
 /// Answers a request that isn't Produce.
-pub fn answer(call: &mut Call<'_>, key: i16, body: &[u8], reply: Reply<'_>) -> Result<(), Close> {
+pub fn answer(call: &mut Call<'_>, key: i16, body: &[u8], reply: Reply<'_>) -> Result<Answered, Close> {
     let version = call.version;
     let found = match check_version(key, version) {
         Err(WireError::BadVersion { .. }) if key == api::API_VERSIONS.key => return metadata::bad_api_versions(reply),

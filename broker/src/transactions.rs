@@ -2,7 +2,7 @@
 
 use crate::coordinator::{self, PendingOffset, Producer};
 use crate::members::{CommittedOffset, LONGEST_METADATA, Who};
-use crate::reply::{Call, Close, Reply};
+use crate::reply::{Answered, Call, Close, Reply};
 use kwire::ErrorCode;
 use kwire::transactions::add_offsets_to_txn::{AddOffsetsToTxnRequest, AddOffsetsToTxnResponse};
 use kwire::transactions::add_partitions_to_txn::{
@@ -19,7 +19,7 @@ fn number(result: Result<(), i16>) -> i16 {
 }
 
 /// A producer's id and epoch. Without a transactional id any node gives them.
-pub fn init_producer_id(call: &mut Call<'_>, request: &InitProducerIdRequest<'_>, reply: Reply<'_>) -> Result<(), Close> {
+pub fn init_producer_id(call: &mut Call<'_>, request: &InitProducerIdRequest<'_>, reply: Reply<'_>) -> Result<Answered, Close> {
     let id = request.transactional_id;
     let checked = if id.is_some() { call.check_coordinator() } else { call.check_failing() };
     let own: Option<Producer> = (request.producer_id >= 0).then_some((request.producer_id, request.producer_epoch));
@@ -31,7 +31,7 @@ pub fn init_producer_id(call: &mut Call<'_>, request: &InitProducerIdRequest<'_>
 }
 
 /// Partitions join a transaction, all or none.
-pub fn add_partitions_to_txn(call: &mut Call<'_>, request: &AddPartitionsToTxnRequest<'_>, reply: Reply<'_>) -> Result<(), Close> {
+pub fn add_partitions_to_txn(call: &mut Call<'_>, request: &AddPartitionsToTxnRequest<'_>, reply: Reply<'_>) -> Result<Answered, Close> {
     let producer = (request.producer_id, request.producer_epoch);
     let added = call.check_coordinator().and_then(|()| {
         let places = places(call, &request.topics)?;
@@ -57,7 +57,7 @@ fn places(call: &Call<'_>, topics: &[JoiningTopic<'_>]) -> Result<Vec<usize>, i1
 }
 
 /// A group's offsets join a transaction.
-pub fn add_offsets_to_txn(call: &mut Call<'_>, request: &AddOffsetsToTxnRequest<'_>, reply: Reply<'_>) -> Result<(), Close> {
+pub fn add_offsets_to_txn(call: &mut Call<'_>, request: &AddOffsetsToTxnRequest<'_>, reply: Reply<'_>) -> Result<Answered, Close> {
     let producer = (request.producer_id, request.producer_epoch);
     let added =
         call.check_coordinator().and_then(|()| call.hub.transactions.add(request.transactional_id, producer, &[]).map_err(i16::from));
@@ -65,7 +65,7 @@ pub fn add_offsets_to_txn(call: &mut Call<'_>, request: &AddOffsetsToTxnRequest<
 }
 
 /// Commits or aborts; answered once all markers are committed.
-pub fn end_txn(call: &mut Call<'_>, request: &EndTxnRequest<'_>, reply: Reply<'_>) -> Result<(), Close> {
+pub fn end_txn(call: &mut Call<'_>, request: &EndTxnRequest<'_>, reply: Reply<'_>) -> Result<Answered, Close> {
     let producer = (request.producer_id, request.producer_epoch);
     let ended = call
         .check_coordinator()
@@ -77,7 +77,7 @@ pub fn end_txn(call: &mut Call<'_>, request: &EndTxnRequest<'_>, reply: Reply<'_
 }
 
 /// Keeps a group's offsets until the transaction commits.
-pub fn txn_offset_commit(call: &mut Call<'_>, request: &TxnOffsetCommitRequest<'_>, reply: Reply<'_>) -> Result<(), Close> {
+pub fn txn_offset_commit(call: &mut Call<'_>, request: &TxnOffsetCommitRequest<'_>, reply: Reply<'_>) -> Result<Answered, Close> {
     let code = number(call.check_coordinator().and_then(|()| keep(call, request).map_err(i16::from)));
     let one = |index: i32| TxnCommittedPartition { partition_index: index, error_code: code };
     let topic = |it: &TxnCommitTopic<'_>| it.partitions.iter().map(|it| one(it.partition_index)).collect();

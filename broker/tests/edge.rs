@@ -275,7 +275,10 @@ fn what_waits_is_shown() -> Outcome {
     assert!(!broker.show().contains("waiting"), "{}", broker.show());
     until("it is shown", || broker.show().contains("\nwaiting node 0 Fetch "))?;
     client.answer(&waits, 12, number)?;
-    until("it is answered", || !broker.show().contains("waiting"))
+    until("it is answered", || !broker.show().contains("waiting"))?;
+    client.list(0, -1, 0)?;
+    assert!(broker.show().contains("\nasked Fetch 1 ListOffsets 1"), "{}", broker.show());
+    Ok(())
 }
 
 #[test]
