@@ -9,6 +9,7 @@ import re
 import struct
 from typing import NamedTuple
 
+from . import scripts
 from .batch import GREATEST_EPOCH, TOP, crc32c
 from .decoder import Reader
 from .encoder import end, varint
@@ -479,11 +480,10 @@ def on_match(n, script, pattern, change):
 
 
 LINE, NUMBER, VERB = rb"(?m)^[^\n]+$", rb"(?m)(?<= )-?[0-9]+(?= |$)", rb"(?m)^[a-z]+"
-NODE = rb"(?m)^(?:elect|adopt|append|raw|mark|ask|raise|join|leave|checkpoint|stop|restart|show|read|committed) [0-9]+"
+NODE = rb"(?m)^(?:%b) [0-9]+" % b"|".join(verb for verb in scripts.EVENTS if verb != b"deliver")
 OTHER_NODE = rb"(?m)^(?:join|leave) [0-9]+ [0-9]+"
 RAW, HEADER, VALUES = rb"(?m)^raw [0-9]+ [0-9a-f]+$", rb"\A[^\n]*\n?", rb"(?m)(?<= [dt] )[^ \n]+$"
-VERBS = [b"elect", b"adopt", b"append", b"raw", b"mark", b"ask", b"deliver", b"raise", b"join", b"leave", b"checkpoint", b"stop",
-         b"restart", b"show", b"read", b"committed", b"nodes", b"Elect", b"shows", b"rea", b"", b"#"]
+VERBS = [*scripts.EVENTS, b"nodes", b"Elect", b"shows", b"rea", b"", b"#"]
 
 
 def low_digits(word):

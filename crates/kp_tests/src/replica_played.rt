@@ -175,7 +175,7 @@ fn push_answer(text: &mut String, node: &Broker, answer: &Answer) -> Result<(), 
         Answer::Watermark(watermark) => write!(text, "mark {watermark}"),
         Answer::Checkpoint(checkpoint) => write!(text, "checkpoint {checkpoint}"),
         Answer::Stopped => text.push_str("stopped"),
-        Answer::Restarted { .. } | Answer::Shown(_) | Answer::Lines(_) => push_node(text, node),
+        _ => push_node(text, node),
     }
 }
 
