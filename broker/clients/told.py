@@ -222,6 +222,7 @@ class Producing(Client):
                 raise Wrong(f"{where}: {unsent[:5]} are there, and were never sent to it")
             if self.is_idempotent:
                 self.hold_once(where, numbers, sent, after)
+                self.hold_untold(where, found, told)
             at = {(number, offset) for offset, number, _ in found}
             moved = [(number, offset) for number, offset in told.items() if offset is not None and (number, offset) not in at]
             if moved:
@@ -240,6 +241,15 @@ class Producing(Client):
             if left < 0 or not is_anew and place_of[number] != next_place or again:
                 raise Wrong(f"{where}: not each once and in order, with {after.raised} raised epochs: {again or known[max(0, place - 3):place + 4]}")
             next_place = place_of[number] + 1
+
+
+    @staticmethod
+    def hold_untold(where, found, told):
+        """What comes again it wasn't told of before: an offset that it was told is that of the last one."""
+        last = {number: offset for offset, number, _ in found}
+        again = [number for number, offset in told.items() if offset is not None and offset < last[number]]
+        if again:
+            raise Wrong(f"{where}: {again[0]} was told to be at {told[again[0]]}, and comes again at {last[again[0]]}")
 
 
 class Ran(NamedTuple):

@@ -24,8 +24,11 @@ def found():
 
 def files(patches):
     """The files that these edit."""
-    lines = [line for path in patches for line in open(path, encoding="utf-8")]
-    return sorted({line.split("\t")[0].split()[1][2:] for line in lines if re.match(r"(?:---|\+\+\+) [ab]/", line)})
+    found_there = set()
+    for path in patches:
+        with open(path, encoding="utf-8") as file:
+            found_there.update(re.findall(r"^(?:---|\+\+\+) [ab]/(\S+)", file.read(), re.MULTILINE))
+    return sorted(found_there)
 
 
 def crate_files(patches):
