@@ -25,7 +25,8 @@ abbrev pub change_cause : Option (List ℕ) → List ℕ → Option Refusal → 
 change_cause None isr tests = tests
 change_cause (Some pending) isr tests = if bytes_eq pending isr then None else Some refusals.ChangePending
 
--- what stands against the one change, and against the other, where none was asked for: the node to join hasn't caught up, the one to leave can't
+-- What stands against a change where none is pending: the node to join hasn't caught up; the node to leave isn't in sync, or is
+-- the leader itself.
 abbrev pub join_tests : (watermark m : ℕ) → Leading → List (Bool × Refusal)
 join_tests watermark m l = (not (is_caught_up watermark l m), refusals.NotCaughtUp) ∷ []
 
